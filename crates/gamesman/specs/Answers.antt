@@ -47,9 +47,9 @@ IsTextFor g (Moves distinct json) position out = IsMovesText g.rules g.shown g.m
 IsTextFor g Why position out = IsWhyText g.rules g.shown g.move_shown position out
 IsTextFor g (Line limit true) position out = IsLineJson g.rules g.shown g.move_shown position limit out
 IsTextFor g (Line limit false) position out = IsLineText g.rules g.shown g.move_shown position limit out
-IsTextFor g (Show explained) position out = IsShowText g.rules g.shown g.move_shown g.drawn g.mover g.naming explained position out
-IsTextFor g (Diagram valued) position out = IsDiagram g.rules g.shown g.move_shown g.drawn g.mover g.style g.title g.board valued position out
-IsTextFor g (Page limit) position out = IsPage g.rules g.shown g.move_shown g.style g.title g.board g.points g.naming position (max limit 1) [] out
+IsTextFor g (Show explained) position out = IsShowText g.rules g.shown g.move_shown g.picture explained position out
+IsTextFor g (Diagram valued) position out = IsDiagram g.rules g.shown g.move_shown g.picture valued position out
+IsTextFor g (Page limit) position out = IsPage g.rules g.shown g.move_shown g.picture position (max limit 1) [] out
 
 -- the text of the position that a question is about: that of the start if none is given
 abbrev pub text_asked : GameSpec → PositionRequest → List ℕ
@@ -91,7 +91,7 @@ IsAnswered g (At tier index kept) input before after result = IsPlaced g.rules g
 IsAnswered g (Search asked kept) input before after result = IsSearched g asked input before after result
 IsAnswered g (Analyse kept) input before after result = IsAnalysedBy g.rules before after result
 IsAnswered g (Check folder) input before after result = IsCheckedBy g.rules before after result
-IsAnswered g (Play asked kept) input before after result = IsPlayed g.rules g.shown g.move_shown g.drawn g.mover asked input before after result
+IsAnswered g (Play asked kept) input before after result = IsPlayed g.rules g.shown g.move_shown g.picture asked input before after result
 IsAnswered g _ input before after result = Unit {0}
 
 -- a request about the game of a name is answered; if no game has the name, that is the fault

@@ -25,7 +25,7 @@ IsEngineFault _ = ⊥
 -- the page of the position with this text, with some engine
 abbrev pub IsPaged : GameSpec → List ℕ → ℕ → List ℕ → Type 0
 IsPaged g position limit out = (digits : List ℕ) × AreDigits digits
-    × IsPage g.rules g.shown g.move_shown g.style g.title g.board g.points g.naming position limit digits out
+    × IsPage g.rules g.shown g.move_shown g.picture position limit digits out
 
 -- the page of the position with this text is written; if no position has the text, that is the fault, and else it is that of the engine or of a question about
 -- the position
@@ -45,7 +45,7 @@ IsEnginePaged g asked = IsEnginePagedAt g (text_paged g asked) (max asked.limit 
 -- ---- all games
 -- the line of a game
 abbrev pub game_line : GameSpec → List ℕ
-game_line g = script_line (game_tree g.rules g.shown g.style g.title g.board g.points g.naming)
+game_line g = script_line (game_tree g.rules g.shown g.picture)
 
 -- the games that the engine solves, those with the most to see first
 abbrev pub line_games : List GameSpec

@@ -20,10 +20,11 @@ use Rattle.gamesman.specs.declared.fault.Fault.TheVariants.{OutOfMemory, OutputF
 use Rattle.gamesman.specs.Games.{GameSpec}
 use Rattle.gamesman.specs.Outputs.{IsOutputFault, IsCutOff}
 use Rattle.gamesman.specs.Told.{IsTold}
+use Rattle.gm_draw.specs.Pictures.{drawn}
 
 -- the row of a found position, below its board
 abbrev pub board_row : GameSpec → Found → List ℕ
-board_row g x = (g.drawn x.position ++ codes "\n") ++ found_row g.shown g.move_shown x
+board_row g x = (drawn g.picture g.shown x.position ++ codes "\n") ++ found_row g.shown g.move_shown x
 
 -- found positions as a text: for each its row, its line of JSON, or its row below its board; or a sheet of all
 abbrev pub IsTextOf : GameSpec → Form → List Found → List ℕ → Type 0
@@ -31,7 +32,7 @@ IsTextOf g Rows xs out = out ≡ flat_map (found_row g.shown g.move_shown) xs
 IsTextOf g Json xs out = out ≡ flat_map (found_line g.shown g.move_shown) xs
 IsTextOf g Boards xs out = out ≡ flat_map (board_row g) xs
 IsTextOf g Sheet xs out = (es : List Entry)
-    × AreEntries g.rules g.shown g.move_shown g.drawn g.mover g.style g.title g.board xs es × (out ≡ sheet_of g.title es)
+    × AreEntries g.rules g.shown g.move_shown g.picture xs es × (out ≡ sheet_of g.picture.title es)
 
 -- the chosen ones of the positions of these tiers that are searched for, as a text
 abbrev pub IsFoundIn : GameSpec → PositionSearch → List ℕ → List ℕ → Type 0

@@ -26,44 +26,22 @@ use Rattle.gm_squares.specs.Chess.{ending, chess_rules, board_text as men_text, 
 use Rattle.gm_squares.specs.FoxHounds.{fox_and_hounds, foxhounds_rules, board_text as chase_text, step_text as chase_move_text}
 use Rattle.gm_tactix.specs.Board.{side_of, tactix_rules}
 use Rattle.gm_tactix.specs.Texts.{position_text as tactix_text, move_text as tactix_move_text}
-use Rattle.gm_draw.specs.Templates.{filled}
-use Rattle.gm_draw.specs.Chessboards.{chess_board, chess_points}
-use Rattle.gm_draw.specs.ChessDrawings.{chess_drawing}
-use Rattle.gm_draw.specs.Rows.{countdown_row, takeaway_row, wheel_row}
-use Rattle.gm_draw.specs.Pictures.{nine_points, dao_board, dodgem_board, tactix_board, ring_board, pong_board, tapatan_board, hare_board}
-use Rattle.gm_draw.specs.Points.{number_points, square_points, ring_points, pong_points, tapatan_points, hare_points, countdown_board, takeaway_board, wheel_board, nine_title}
-use Rattle.gm_draw.specs.Points.{nine_style, tactix_title, chess_title}
-use Rattle.gm_draw.specs.Names.{x_moves, player_moves, hare_mover, countdown_naming, takeaway_naming, wheel_naming, nine_naming, dao_naming, dodgem_naming, tactix_naming}
-use Rattle.gm_draw.specs.Names.{ring_naming, pong_naming, tapatan_naming, hare_naming, chess_mover, chess_naming, chase_mover, chase_naming}
-use Rattle.gm_draw.specs.declared.pictured.Style.{Style}
-use Rattle.gm_draw.specs.declared.pictured.Style.TheVariants.{Row, Discs, Letters, Counters, Stones, Chess, Hounds}
+use Rattle.gm_draw.specs.Pictures.{PictureSpec}
+use Rattle.gm_draw.specs.Games.{chess_picture, countdown_picture, dao_picture, dodgem_picture, foxhounds_picture, hare_picture, mutorere_picture, nine_picture, pong_picture, shisima_picture, tactix_picture, takeaway_picture, tapatan_picture, wheel_picture}
 
 -- a game: its rules, the texts of its positions and of their moves, and how they are drawn
 pub record GameSpec : Type 0 where
   pub rules : Rules
   pub shown : Position → List ℕ
   pub move_shown : Position → ℕ → List ℕ
-  pub drawn : Position → List ℕ
-  pub mover : Position → List ℕ
-  pub naming : List ℕ
-  pub style : Style
-  pub title : List ℕ
-  pub board : List ℕ
-  pub points : List (List ℕ)
+  pub picture : PictureSpec
 
-abbrev pub game_spec : Rules → (Position → List ℕ) → (Position → ℕ → List ℕ) → (Position → List ℕ) → (Position → List ℕ) → List ℕ → Style → List ℕ → List ℕ
-    → List (List ℕ) → GameSpec
-game_spec rules shown move_shown drawn mover naming style title board points = record {
+abbrev pub game_spec : Rules → (Position → List ℕ) → (Position → ℕ → List ℕ) → PictureSpec → GameSpec
+game_spec rules shown move_shown picture = record {
   rules = rules;
   shown = shown;
   move_shown = move_shown;
-  drawn = drawn;
-  mover = mover;
-  naming = naming;
-  style = style;
-  title = title;
-  board = board;
-  points = points;
+  picture = picture;
 }
 
 abbrev pub countdown_spec : GameSpec
@@ -71,13 +49,7 @@ countdown_spec = record {
   rules = countdown 10;
   shown = number_text;
   move_shown = step_text;
-  drawn = λ p. countdown_row p.index;
-  mover = player_moves;
-  naming = countdown_naming;
-  style = Row;
-  title = codes "Countdown";
-  board = countdown_board;
-  points = number_points 11;
+  picture = countdown_picture;
 }
 
 abbrev pub takeaway_spec : GameSpec
@@ -85,13 +57,7 @@ takeaway_spec = record {
   rules = takeaway;
   shown = number_text;
   move_shown = step_text;
-  drawn = λ p. takeaway_row p.index;
-  mover = player_moves;
-  naming = takeaway_naming;
-  style = Row;
-  title = codes "Takeaway";
-  board = takeaway_board;
-  points = number_points 13;
+  picture = takeaway_picture;
 }
 
 abbrev pub wheel_spec : GameSpec
@@ -99,13 +65,7 @@ wheel_spec = record {
   rules = wheel;
   shown = number_text;
   move_shown = target_text;
-  drawn = λ p. wheel_row p.index;
-  mover = player_moves;
-  naming = wheel_naming;
-  style = Row;
-  title = codes "Wheel";
-  board = wheel_board;
-  points = number_points 10;
+  picture = wheel_picture;
 }
 
 -- the game of nine points with this last tier: 9 is Tic-tac-toe, 6 Three Men's Morris, 8 Achi
@@ -114,13 +74,7 @@ nine_spec last = record {
   rules = morris_rules last;
   shown = nine_text;
   move_shown = nine_move_text last;
-  drawn = λ p. filled (nine_points (variant_of last)) (nine_text p);
-  mover = x_moves;
-  naming = nine_naming (variant_of last);
-  style = nine_style (variant_of last);
-  title = nine_title (variant_of last);
-  board = nine_points (variant_of last);
-  points = square_points 3;
+  picture = nine_picture (variant_of last);
 }
 
 abbrev pub mutorere_spec : GameSpec
@@ -128,13 +82,7 @@ mutorere_spec = record {
   rules = mutorere_rules;
   shown = ring_text;
   move_shown = ring_move_text;
-  drawn = λ p. filled ring_board (ring_text p);
-  mover = x_moves;
-  naming = ring_naming;
-  style = Discs;
-  title = codes "Mu Torere";
-  board = ring_board;
-  points = ring_points;
+  picture = mutorere_picture;
 }
 
 abbrev pub dao_spec : GameSpec
@@ -142,13 +90,7 @@ dao_spec = record {
   rules = dao_rules;
   shown = dao_text;
   move_shown = dao_move_text;
-  drawn = λ p. filled dao_board (dao_text p);
-  mover = x_moves;
-  naming = dao_naming;
-  style = Stones;
-  title = codes "Dao";
-  board = dao_board;
-  points = square_points 4;
+  picture = dao_picture;
 }
 
 abbrev pub hare_spec : GameSpec
@@ -156,13 +98,7 @@ hare_spec = record {
   rules = hare_rules;
   shown = hare_text;
   move_shown = hare_move_text;
-  drawn = λ p. filled hare_board (hare_text p);
-  mover = hare_mover;
-  naming = hare_naming;
-  style = Letters;
-  title = codes "Hare and Hounds";
-  board = hare_board;
-  points = hare_points;
+  picture = hare_picture;
 }
 
 abbrev pub pong_spec : GameSpec
@@ -170,13 +106,7 @@ pong_spec = record {
   rules = pong_rules;
   shown = way_text 5 pong;
   move_shown = way_move_text pong;
-  drawn = λ p. filled pong_board (way_text 5 pong p);
-  mover = x_moves;
-  naming = pong_naming;
-  style = Discs;
-  title = codes "Pong Hau K'i";
-  board = pong_board;
-  points = pong_points;
+  picture = pong_picture;
 }
 
 abbrev pub shisima_spec : GameSpec
@@ -184,13 +114,7 @@ shisima_spec = record {
   rules = shisima_rules;
   shown = way_text 9 shisima;
   move_shown = way_move_text shisima;
-  drawn = λ p. filled ring_board (way_text 9 shisima p);
-  mover = x_moves;
-  naming = ring_naming;
-  style = Discs;
-  title = codes "Shisima";
-  board = ring_board;
-  points = ring_points;
+  picture = shisima_picture;
 }
 
 abbrev pub tapatan_spec : GameSpec
@@ -198,13 +122,7 @@ tapatan_spec = record {
   rules = tapatan_rules;
   shown = way_text 9 tapatan;
   move_shown = way_move_text tapatan;
-  drawn = λ p. filled tapatan_board (way_text 9 tapatan p);
-  mover = x_moves;
-  naming = tapatan_naming;
-  style = Discs;
-  title = codes "Tapatan";
-  board = tapatan_board;
-  points = tapatan_points;
+  picture = tapatan_picture;
 }
 
 abbrev pub dodgem_spec : GameSpec
@@ -212,13 +130,7 @@ dodgem_spec = record {
   rules = dodgem_rules;
   shown = dodgem_text;
   move_shown = dodgem_move;
-  drawn = λ p. filled dodgem_board (dodgem_text p);
-  mover = x_moves;
-  naming = dodgem_naming;
-  style = Stones;
-  title = codes "Dodgem";
-  board = dodgem_board;
-  points = square_points 3;
+  picture = dodgem_picture;
 }
 
 -- king and queen, or king and rook, against king
@@ -227,13 +139,7 @@ chess_spec queen = record {
   rules = chess_rules queen;
   shown = text_by (ending queen) (men_text queen);
   move_shown = move_text_by (λ t m. man_move_text queen m);
-  drawn = λ p. chess_drawing (text_by (ending queen) (men_text queen) p);
-  mover = chess_mover;
-  naming = chess_naming queen;
-  style = Chess;
-  title = chess_title queen;
-  board = chess_board;
-  points = chess_points;
+  picture = chess_picture queen;
 }
 
 abbrev pub foxhounds_spec : GameSpec
@@ -241,13 +147,7 @@ foxhounds_spec = record {
   rules = foxhounds_rules;
   shown = text_by fox_and_hounds chase_text;
   move_shown = move_text_by (λ t m. chase_move_text m);
-  drawn = λ p. chess_drawing (text_by fox_and_hounds chase_text p);
-  mover = chase_mover;
-  naming = chase_naming;
-  style = Hounds;
-  title = codes "Fox and Hounds";
-  board = chess_board;
-  points = chess_points;
+  picture = foxhounds_picture;
 }
 
 -- Tac Tix on a square of side n, by the misère rule or the normal one
@@ -256,13 +156,7 @@ tactix_spec n misere = record {
   rules = tactix_rules n misere;
   shown = tactix_text n;
   move_shown = tactix_move_text n;
-  drawn = λ p. filled (tactix_board (side_of n)) (tactix_text n p);
-  mover = player_moves;
-  naming = tactix_naming;
-  style = Counters;
-  title = tactix_title (side_of n) misere;
-  board = tactix_board (side_of n);
-  points = square_points (side_of n);
+  picture = tactix_picture (side_of n) misere;
 }
 
 -- tests whether two texts are the same

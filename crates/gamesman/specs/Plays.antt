@@ -21,6 +21,7 @@ use Rattle.gamesman.specs.declared.fault.Fault.{Fault}
 use Rattle.gamesman.specs.declared.fault.Fault.TheVariants.{NoSuchPosition, InputFailed, OutputFailed, OutputClosed, TooMuchInput}
 use Rattle.gamesman.specs.Outputs.{IsOutputFault}
 use Rattle.gamesman.specs.Refusals.{IsUnbuilt}
+use Rattle.gm_draw.specs.Pictures.{PictureSpec}
 
 -- the fault for an error of a session
 abbrev pub IsSessionFault : SessionError → Fault → Type 0
@@ -52,10 +53,10 @@ abbrev pub opening : Bool → List ℕ → Side → List ℕ
 opening true mover first = sides_text mover first
 opening false mover first = []
 
-module _ (r : Rules) (shown : Position → List ℕ) (move_shown : Position → ℕ → List ℕ) (drawn mover : Position → List ℕ) where
+module _ (r : Rules) (shown : Position → List ℕ) (move_shown : Position → ℕ → List ℕ) (picture : PictureSpec) where
   -- the text that the person sees before a question: the board, if boards are drawn
   abbrev pub seen_by : Bool → Question → Position → List ℕ
-  seen_by true = sight r move_shown drawn
+  seen_by true = sight r shown move_shown picture
   seen_by false = unseen
 
   module _ (asked : PlayRequest) (start : Position) where
@@ -64,7 +65,7 @@ module _ (r : Rules) (shown : Position → List ℕ) (move_shown : Position → 
     pub record IsHeld (input before after : Option (List ℕ)) : Type 0 where
       pub left : Option (List ℕ)
       pub between : Option (List ℕ)
-      pub opened : Appends before between (opening asked.drawn (mover start) asked.first)
+      pub opened : Appends before between (opening asked.drawn (picture.mover start) asked.first)
       pub session : (k : Advice) → IsKnown r start.tier k
           → IsSession r shown move_shown k (seen_by asked.drawn) start asked.first input left between after
       pub won : (n : ℕ) → IsWonIn r start asked.first n → WritesOne EndsWon between after
@@ -75,7 +76,7 @@ module _ (r : Rules) (shown : Position → List ℕ) (move_shown : Position → 
     pub record IsCutShort (error : SessionError) (input before after : Option (List ℕ)) : Type 0 where
       pub left : Option (List ℕ)
       pub between : Option (List ℕ)
-      pub opened : Appends before between (opening asked.drawn (mover start) asked.first)
+      pub opened : Appends before between (opening asked.drawn (picture.mover start) asked.first)
       pub broken : (k : Advice) → IsKnown r start.tier k
           → IsBroken r shown move_shown k (seen_by asked.drawn) start asked.first error input left between after
       pub known : (k : Advice) × IsKnown r start.tier k
@@ -84,7 +85,7 @@ module _ (r : Rules) (shown : Position → List ℕ) (move_shown : Position → 
     abbrev pub IsSitting : Option (List ℕ) → Option (List ℕ) → Option (List ℕ) → Result ℕ Fault → Type 0
     IsSitting input before after (Ok status) = (status ≡ 0) × IsHeld input before after
     IsSitting input before after (Err fault) =
-        (IsOutputFault fault × AppendsPart before after (opening asked.drawn (mover start) asked.first))
+        (IsOutputFault fault × AppendsPart before after (opening asked.drawn (picture.mover start) asked.first))
         ⊎ ((error : SessionError) × IsSessionFault error fault × IsCutShort error input before after)
 
     -- the tables are not built and nothing is written, or else a session is held

@@ -59,7 +59,7 @@ pub fn engine_page<
     options: BuildOptions<'_, E>,
     output: &mut O,
 ) -> Result<u8, Fault>
-    ensures { IsEnginePaged (game_spec G.Game.rules G.shown G.move_shown G.drawn G.mover G.naming G.style G.title G.board G.points)
+    ensures { IsEnginePaged (game_spec G.Game.rules G.shown G.move_shown G.picture)
         asked.entry (O.contents output.old) (O.contents output.new) result }
 {
     let position = position_of::<G>(asked.position)?;
@@ -86,7 +86,7 @@ fn page_with<
 ) -> Result<u8, Fault>
     requires legal { G.Game.rules.is_legal position ≡ true }
     requires limit { 1 ≤ limit }
-    ensures { IsEnginePagedAt (game_spec G.Game.rules G.shown G.move_shown G.drawn G.mover G.naming G.style G.title G.board G.points)
+    ensures { IsEnginePagedAt (game_spec G.Game.rules G.shown G.move_shown G.picture)
         (G.shown position) limit (O.contents output.old) (O.contents output.new) result }
 {
     match engine_in(text) {
@@ -112,7 +112,7 @@ fn build_page<
     requires legal { G.Game.rules.is_legal position ≡ true }
     requires digits { AreDigits digits.now }
     requires limit { 1 ≤ limit }
-    ensures { IsEnginePagedBy (game_spec G.Game.rules G.shown G.move_shown G.drawn G.mover G.naming G.style G.title G.board G.points)
+    ensures { IsEnginePagedBy (game_spec G.Game.rules G.shown G.move_shown G.picture)
         (G.shown position) limit (O.contents output.old) (O.contents output.new) result }
 {
     let built = options.build_from::<G, R>(rt, position.tier)?;
@@ -135,7 +135,7 @@ fn write_page<G: Pictured, O: Write>(
 ) -> Result<u8, Fault>
     requires digits { AreDigits digits.now }
     requires limit { 1 ≤ limit }
-    ensures { IsEnginePagedBy (game_spec G.Game.rules G.shown G.move_shown G.drawn G.mover G.naming G.style G.title G.board G.points)
+    ensures { IsEnginePagedBy (game_spec G.Game.rules G.shown G.move_shown G.picture)
         (G.shown known.now.position) limit (O.contents output.old) (O.contents output.new) result }
 {
     let text = page_text(alloc, known, limit, digits)?;

@@ -43,7 +43,7 @@ pub fn explore<
     options: BuildOptions<'_, E>,
     output: &mut O,
 ) -> Result<u8, Fault>
-    ensures { IsExplored (game_spec G.Game.rules G.shown G.move_shown G.drawn G.mover G.naming G.style G.title G.board G.points)
+    ensures { IsExplored (game_spec G.Game.rules G.shown G.move_shown G.picture)
         asked.entry (O.contents output.old) (O.contents output.new) result }
 {
     let position = position_of::<G>(asked.position)?;
@@ -65,7 +65,7 @@ fn write_answer<G: Pictured, O: Write>(
     output: &mut O,
 ) -> Result<u8, Fault>
     ensures { IsAnsweredBy G.Game.rules G.shown G.move_shown (G.shown known.now.position)
-        (IsTextFor (game_spec G.Game.rules G.shown G.move_shown G.drawn G.mover G.naming G.style G.title G.board G.points) question
+        (IsTextFor (game_spec G.Game.rules G.shown G.move_shown G.picture) question
         (G.shown known.now.position))
         (O.contents output.old) (O.contents output.new) result }
 {
@@ -109,7 +109,7 @@ fn text_for<G: Pictured>(
     known: &Known<'_, G>,
     question: Question,
 ) -> Result<Vec<u8>, AllocError>
-    ensures { IfOk result (λ v. IsTextFor (game_spec G.Game.rules G.shown G.move_shown G.drawn G.mover G.naming G.style G.title G.board G.points)
+    ensures { IfOk result (λ v. IsTextFor (game_spec G.Game.rules G.shown G.move_shown G.picture)
         question (G.shown known.now.position) v.items) }
 {
     match question {

@@ -18,6 +18,7 @@ use crate::run::DONE;
 use crate::search::reached_from_start;
 use gm_build::build::Built;
 use gm_command::requests::{Form, PositionSearch};
+use gm_draw::drawn::draw;
 use gm_draw::pictured::Pictured;
 use gm_find::choice::find_some;
 use gm_find::found::{Found, find};
@@ -41,7 +42,7 @@ pub fn write_found<G: Pictured, O: Write>(
 ) -> Result<u8, Fault>
     requires order { IsOrderFrom G.Game.rules (first_of G.Game.rules asked.tier) built.now.order }
     requires held { HoldsExactly built.now.tables built.now.order }
-    ensures { AreFoundBy (game_spec G.Game.rules G.shown G.move_shown G.drawn G.mover G.naming G.style G.title G.board G.points)
+    ensures { AreFoundBy (game_spec G.Game.rules G.shown G.move_shown G.picture)
         asked (IsUnsearched G.Game.rules asked.tier) (O.contents output.old) (O.contents output.new) result }
 {
     let reached = reached_from_start(alloc, asked.reached)?;
@@ -61,7 +62,7 @@ fn write_among<G: Pictured, O: Write>(
     requires order { IsOrderFrom G.Game.rules (first_of G.Game.rules asked.tier) built.now.order }
     requires held { HoldsExactly built.now.tables built.now.order }
     requires reached { is_some reached ≡ asked.reached }
-    ensures { AreFoundBy (game_spec G.Game.rules G.shown G.move_shown G.drawn G.mover G.naming G.style G.title G.board G.points)
+    ensures { AreFoundBy (game_spec G.Game.rules G.shown G.move_shown G.picture)
         asked (IsUnsearched G.Game.rules asked.tier) (O.contents output.old) (O.contents output.new) result }
 {
     let tables = &built.tables;
@@ -93,7 +94,7 @@ fn write_in<G: Pictured, O: Write>(
 ) -> Result<u8, Fault>
     requires tiers { AreTiersFor G.Game.rules asked.tier known.now.tiers.now }
     requires reached { is_some reached ≡ asked.reached }
-    ensures { AreFoundBy (game_spec G.Game.rules G.shown G.move_shown G.drawn G.mover G.naming G.style G.title G.board G.points)
+    ensures { AreFoundBy (game_spec G.Game.rules G.shown G.move_shown G.picture)
         asked (IsUnsearched G.Game.rules asked.tier) (O.contents output.old) (O.contents output.new) result }
 {
     match limit_of(asked) {
@@ -137,7 +138,7 @@ fn write_by_tier<G: Pictured, O: Write>(
     requires tiers { AreTiersFor G.Game.rules asked.tier known.now.tiers.now }
     requires reached { is_some reached ≡ asked.reached }
     requires limit { limit_by_tier asked.form asked.choice ≡ Some limit }
-    ensures { IsToldByTier (game_spec G.Game.rules G.shown G.move_shown G.drawn G.mover G.naming G.style G.title G.board G.points)
+    ensures { IsToldByTier (game_spec G.Game.rules G.shown G.move_shown G.picture)
         asked (IsUnsearched G.Game.rules asked.tier) (O.contents output.old) (O.contents output.new) result }
 {
     let mut left = limit;
@@ -164,7 +165,7 @@ fn write_tier<G: Pictured, O: Write>(
     requires held { AreAllHeld G.Game.rules tables.now tier }
     requires reached { is_some reached ≡ asked.reached }
     requires lines { asked.form ≡ Sheet → ⊥ }
-    ensures told { IsTierTold (game_spec G.Game.rules G.shown G.move_shown G.drawn G.mover G.naming G.style G.title G.board G.points)
+    ensures told { IsTierTold (game_spec G.Game.rules G.shown G.move_shown G.picture)
         asked tier left (O.contents output.old) (O.contents output.new) result }
     ensures fault { IfErr result (λ fault. IsOutputFault fault ⊎ IsMemoryFault fault) }
 {
@@ -204,7 +205,7 @@ fn text_at_once<G: Pictured>(
     reached: Option<&Reached<G>>,
 ) -> Result<Vec<u8>, Fault>
     requires reached { is_some reached ≡ asked.reached }
-    ensures text { IfOk result (λ v. IsFoundIn (game_spec G.Game.rules G.shown G.move_shown G.drawn G.mover G.naming G.style G.title G.board G.points)
+    ensures text { IfOk result (λ v. IsFoundIn (game_spec G.Game.rules G.shown G.move_shown G.picture)
         asked known.now.tiers.now v.items) }
     ensures fault { IfErr result IsMemoryFault }
 {
@@ -223,7 +224,7 @@ fn sheet_at_once<G: Pictured>(
 ) -> Result<Vec<u8>, Fault>
     requires reached { is_some reached ≡ asked.reached }
     requires sheet { asked.form ≡ Sheet }
-    ensures text { IfOk result (λ v. IsFoundIn (game_spec G.Game.rules G.shown G.move_shown G.drawn G.mover G.naming G.style G.title G.board G.points)
+    ensures text { IfOk result (λ v. IsFoundIn (game_spec G.Game.rules G.shown G.move_shown G.picture)
         asked known.now.tiers.now v.items) }
     ensures fault { IfErr result IsMemoryFault }
 {
@@ -240,7 +241,7 @@ fn lines_at_once<G: Pictured>(
 ) -> Result<Vec<u8>, Fault>
     requires reached { is_some reached ≡ asked.reached }
     requires lines { asked.form ≡ Sheet → ⊥ }
-    ensures text { IfOk result (λ v. IsFoundIn (game_spec G.Game.rules G.shown G.move_shown G.drawn G.mover G.naming G.style G.title G.board G.points)
+    ensures text { IfOk result (λ v. IsFoundIn (game_spec G.Game.rules G.shown G.move_shown G.picture)
         asked known.now.tiers.now v.items) }
     ensures fault { IfErr result IsMemoryFault }
 {
@@ -253,7 +254,7 @@ fn lines_at_once<G: Pictured>(
 fn lines_of<G: Pictured>(alloc: Global, found: &[Found], form: Form) -> Result<Vec<u8>, AllocError>
     requires found { All (IsFound G.Game.rules) found.now }
     requires lines { form ≡ Sheet → ⊥ }
-    ensures { IfOk result (λ v. IsTextOf (game_spec G.Game.rules G.shown G.move_shown G.drawn G.mover G.naming G.style G.title G.board G.points)
+    ensures { IfOk result (λ v. IsTextOf (game_spec G.Game.rules G.shown G.move_shown G.picture)
         form found.now v.items) }
 {
     match form {
@@ -268,7 +269,7 @@ fn lines_of<G: Pictured>(alloc: Global, found: &[Found], form: Form) -> Result<V
 fn board_rows<G: Pictured>(alloc: Global, found: &[Found]) -> Result<Vec<u8>, AllocError>
     requires { All (IsFound G.Game.rules) found.now }
     ensures { IfOk result (λ v. v.items
-        ≡ flat_map (board_row (game_spec G.Game.rules G.shown G.move_shown G.drawn G.mover G.naming G.style G.title G.board G.points)) found.now) }
+        ≡ flat_map (board_row (game_spec G.Game.rules G.shown G.move_shown G.picture)) found.now) }
 {
     let mut rows = Vec::new(alloc);
     for x in found {
@@ -281,9 +282,9 @@ fn board_rows<G: Pictured>(alloc: Global, found: &[Found]) -> Result<Vec<u8>, Al
 fn push_below<G: Pictured>(rows: &mut Vec<u8>, x: &Found) -> Result<(), AllocError>
     requires { IsFound G.Game.rules x.now }
     ensures { OnOk result (rows.new.items ≡ rows.old.items
-        ++ board_row (game_spec G.Game.rules G.shown G.move_shown G.drawn G.mover G.naming G.style G.title G.board G.points) x.now) }
+        ++ board_row (game_spec G.Game.rules G.shown G.move_shown G.picture) x.now) }
 {
-    rows.extend_from_slice(G::draw(x.position).as_slice())?;
+    rows.extend_from_slice(draw::<G>(x.position).as_slice())?;
     rows.extend_from_slice(b"\n")?;
     push_found::<G>(rows, x)
 }

@@ -72,7 +72,7 @@ fn answer<
     O: Write,
     E: Write + Send,
 >(rt: &R, asked: GameRequest<'_>, streams: Streams<'_, I, O, E>) -> Result<u8, Fault>
-    ensures answered { IsAnswered (game_spec G.Game.rules G.shown G.move_shown G.drawn G.mover G.naming G.style G.title G.board G.points)
+    ensures answered { IsAnswered (game_spec G.Game.rules G.shown G.move_shown G.picture)
         asked.entry (I.remaining streams.entry.input.now) (O.contents streams.entry.output.now) (O.contents streams.exit.1.0.now) result }
     ensures naming { asked.entry ≡ GameRequest.Naming → streams.exit.1.0.now ≡ streams.entry.output.now }
 {

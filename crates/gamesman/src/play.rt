@@ -18,7 +18,8 @@ use crate::tables::BuildOptions;
 use gm_build::build::Built;
 use gm_command::requests::PlayRequest;
 use gm_draw::boards::Boards;
-use gm_draw::drawn::Drawn;
+use gm_draw::drawn::mover;
+use gm_draw::pictured::Pictured;
 use gm_game::position::Position;
 use gm_play::known::Known;
 use gm_play::session::session_with;
@@ -33,7 +34,7 @@ use std::time::Clock;
 
 /// Plays with the person who reads the output and writes the input.
 pub fn play<
-    G: Drawn + Send + Sync,
+    G: Pictured + Send + Sync,
     R: Threads + Wait + Clock + Files + Sync + AllocGlobal,
     I: Read,
     O: Write,
@@ -45,7 +46,7 @@ pub fn play<
     input: &mut I,
     output: &mut O,
 ) -> Result<u8, Fault>
-    ensures { IsPlayed G.Game.rules G.shown G.move_shown G.drawn G.mover asked.entry (I.remaining input.old) (O.contents output.old) (O.contents output.new) result }
+    ensures { IsPlayed G.Game.rules G.shown G.move_shown G.picture asked.entry (I.remaining input.old) (O.contents output.old) (O.contents output.new) result }
 {
     let start = position_of::<G>(asked.position)?;
     let built = options.build_from::<G, R>(rt, start.tier)?;
@@ -102,25 +103,25 @@ fn write_sides<O: Write>(mover: &[u8], first: Side, output: &mut O) -> Result<()
 }
 
 // Writes the opening before the dialogue. It states who the person is if boards are drawn, and otherwise it is empty.
-fn write_opening<G: Drawn, O: Write>(
+fn write_opening<G: Pictured, O: Write>(
     start: Position,
     first: Side,
     drawn: bool,
     output: &mut O,
 ) -> Result<(), Fault>
     requires { G.Game.rules.is_legal start ≡ true }
-    ensures ok { OnOk result (Appends (O.contents output.old) (O.contents output.new) (opening drawn (G.mover start) first)) }
-    ensures err { OnErr result (AppendsPart (O.contents output.old) (O.contents output.new) (opening drawn (G.mover start) first)) }
+    ensures ok { OnOk result (Appends (O.contents output.old) (O.contents output.new) (opening drawn (G.picture.mover start) first)) }
+    ensures err { OnErr result (AppendsPart (O.contents output.old) (O.contents output.new) (opening drawn (G.picture.mover start) first)) }
     ensures fault { IfErr result IsOutputFault }
 {
     if !drawn {
         return Ok(());
     }
-    write_sides(G::mover(start), first, output)
+    write_sides(mover::<G>(start), first, output)
 }
 
 // Holds the session, with or without boards.
-fn sit<G: Drawn, I: Read, O: Write>(
+fn sit<G: Pictured, I: Read, O: Write>(
     known: &Known<'_, G>,
     first: Side,
     drawn: bool,
@@ -128,10 +129,10 @@ fn sit<G: Drawn, I: Read, O: Write>(
     output: &mut O,
 ) -> Result<(), SessionError>
     ensures ok { (k : Advice) → IsKnown G.Game.rules known.now.position.tier k
-        → OnOk result (IsSession G.Game.rules G.shown G.move_shown k (seen_by G.Game.rules G.shown G.move_shown G.drawn G.mover drawn)
+        → OnOk result (IsSession G.Game.rules G.shown G.move_shown k (seen_by G.Game.rules G.shown G.move_shown G.picture drawn)
         known.now.position first (I.remaining input.old) (I.remaining input.new) (O.contents output.old) (O.contents output.new)) }
     ensures err { (k : Advice) → IsKnown G.Game.rules known.now.position.tier k
-        → IfErr result (λ e. IsBroken G.Game.rules G.shown G.move_shown k (seen_by G.Game.rules G.shown G.move_shown G.drawn G.mover drawn)
+        → IfErr result (λ e. IsBroken G.Game.rules G.shown G.move_shown k (seen_by G.Game.rules G.shown G.move_shown G.picture drawn)
         known.now.position first e (I.remaining input.old) (I.remaining input.new) (O.contents output.old) (O.contents output.new)) }
     ensures won { (n : ℕ) → IsWonIn G.Game.rules known.now.position first n
         → OnOk result (WritesOne EndsWon (O.contents output.old) (O.contents output.new)) }
@@ -146,7 +147,7 @@ fn sit<G: Drawn, I: Read, O: Write>(
 }
 
 // Plays over the tables of all tiers that play from its start can reach.
-fn play_from<G: Drawn, I: Read, O: Write>(
+fn play_from<G: Pictured, I: Read, O: Write>(
     built: &Built<G>,
     start: Position,
     asked: PlayRequest<'_>,
@@ -156,7 +157,7 @@ fn play_from<G: Drawn, I: Read, O: Write>(
     requires order { IsOrderFrom G.Game.rules start.tier built.now.order }
     requires held { HoldsExactly built.now.tables built.now.order }
     requires legal { G.Game.rules.is_legal start ≡ true }
-    ensures { IsSitting G.Game.rules G.shown G.move_shown G.drawn G.mover asked.entry start (I.remaining input.old) (O.contents output.old) (O.contents output.new)
+    ensures { IsSitting G.Game.rules G.shown G.move_shown G.picture asked.entry start (I.remaining input.old) (O.contents output.old) (O.contents output.new)
         result }
 {
     write_opening::<G, O>(start, asked.first, asked.drawn, output)?;

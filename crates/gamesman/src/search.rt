@@ -50,7 +50,7 @@ pub fn search<
     input: &mut I,
     output: &mut O,
 ) -> Result<u8, Fault>
-    ensures { IsSearched (game_spec G.Game.rules G.shown G.move_shown G.drawn G.mover G.naming G.style G.title G.board G.points)
+    ensures { IsSearched (game_spec G.Game.rules G.shown G.move_shown G.picture)
         asked (I.remaining input.old) (O.contents output.old) (O.contents output.new) result }
 {
     let alloc = rt.alloc();
@@ -70,7 +70,7 @@ fn answer<G: Pictured, I: Read, O: Write>(
 ) -> Result<u8, Fault>
     requires order { IsOrderFrom G.Game.rules (first_of G.Game.rules (tier_asked asked)) built.now.order }
     requires held { HoldsExactly built.now.tables built.now.order }
-    ensures { IsSearched (game_spec G.Game.rules G.shown G.move_shown G.drawn G.mover G.naming G.style G.title G.board G.points)
+    ensures { IsSearched (game_spec G.Game.rules G.shown G.move_shown G.picture)
         asked (I.remaining input.old) (O.contents output.old) (O.contents output.new) result }
 {
     match asked {

@@ -9,10 +9,10 @@ use gm_solver::plan::Plan;
 use gm_solver::tier::Report;
 use gm_table::table::Table;
 use gm_table::tables::Tables;
-use gm_tierdb::encode::encode;
-use std::alloc::{AllocError, Global};
+use gm_tierdb::encode::encode_in;
+use std::alloc::AllocError;
 
-// The text of a tier of at most this many indexes is made by the calling thread alone: to start another takes longer.
+// The text of a tier of at most this many indexes is made by the calling thread: to start another takes longer.
 const FEW: u64 = 65_536;
 
 /// What was done for a tier before its turn: the observer has its `read` call, and the tier is solved, unless that failed.
@@ -32,10 +32,10 @@ pub(crate) fn is_ahead<G: Game>(table: &Table<G>, next: u64, tables: &Tables<G>,
         && tables.has_children(next)
 }
 
-/// Returns the text of a table.
-pub(crate) fn text_of<G: Game>(alloc: Global, table: &Table<G>) -> Result<Vec<u8>, AllocError>
+/// Returns the text of a table, in a list whose bytes it takes the place of.
+pub(crate) fn text_in<G: Game>(file: Vec<u8>, table: &Table<G>) -> Result<Vec<u8>, AllocError>
     ensures { IfOk result (λ text. IsTrueText G.rules table.now.tier text.items) }
 {
     let _tier = table.tier();
-    encode(alloc, table)
+    encode_in(file, table)
 }

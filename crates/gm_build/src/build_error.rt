@@ -3,6 +3,7 @@ ghost use Rattle.std.specs.Prelude.{◌≡◌};
 ghost use Rattle.gm_build.specs.Outcomes.{number_of};
 
 use gm_tiers::tier_error::TierError;
+use std::alloc::AllocError;
 use thiserror::Error;
 
 /// Why a game is not built. The texts of the tiers before the one at which a build stopped are written, so the next build reuses them.
@@ -51,5 +52,16 @@ impl From<TierError> for BuildError {
             TierError::TooManyTiers => BuildError::TooManyTiers,
             TierError::TierTooLarge { tier } => BuildError::TierTooLarge { tier },
         }
+    }
+}
+
+impl From<AllocError> for BuildError {
+    ghost use Rattle.std.specs.Prelude.{◌≡◌};
+    ghost use Rattle.gm_build.specs.declared.build_error.BuildError.TheVariants.{OutOfMemory};
+
+    ghost from_gives = { λ _ error. error ≡ OutOfMemory };
+
+    fn from(_refused: AllocError) -> BuildError {
+        BuildError::OutOfMemory
     }
 }

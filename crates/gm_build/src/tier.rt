@@ -7,7 +7,7 @@ ghost use Rattle.gm_build.specs.Work.{HoldsToo};
 ghost use Rattle.gm_build.specs.Steps.{IsAhead, IsStep, IsStepWork};
 ghost use Rattle.gm_build.specs.Outcomes.{failures_in, IsTierError, MayHaveText};
 
-use crate::ahead::{Ahead, is_ahead, text_of};
+use crate::ahead::{Ahead, is_ahead, text_in};
 use crate::build_error::BuildError;
 use crate::found::{Found, load_tier};
 use gm_game::game::Game;
@@ -21,6 +21,7 @@ use gm_solver::source::Source;
 use gm_solver::tier::Report;
 use gm_table::table::Table;
 use gm_table::tables::Tables;
+use gm_tierdb::encode::room;
 use gm_tierdb::store::Store;
 use gm_tierdb::store_error::StoreError;
 use std::alloc::{AllocError, Global};
@@ -160,20 +161,17 @@ impl<R: Threads + Wait + Files + Sync, T: Gate, P: Source, O: Observer> Builder<
         let tier = table.tier();
         if let Err(refused) = tables.insert(table) {
             // The next build reuses the text.
-            let text = text_of(self.alloc, &refused.value);
-            return match write::<G, R, S>(self.rt, tier, text, store) {
-                Ok(()) => Err(BuildError::OutOfMemory),
-                Err(error) => Err(error),
-            };
+            let table = &refused.value;
+            let text = text_in(room(self.alloc, table)?, table)?;
+            write::<G, R, S>(self.rt, tier, text.as_slice(), store)?;
+            return Err(BuildError::OutOfMemory);
         }
         let Some(table) = tables.table(tier) else {
             unreachable!()
         };
-        let (text, ahead) = self.make_text(table, next, tables);
-        match write::<G, R, S>(self.rt, tier, text, store) {
-            Ok(()) => Ok(ahead),
-            Err(error) => Err(error),
-        }
+        let (text, ahead) = self.make_text(table, next, tables)?;
+        write::<G, R, S>(self.rt, tier, text.as_slice(), store)?;
+        Ok(ahead)
     }
 
     // Returns the text of a table. While a long one is made, the next tier is solved.
@@ -182,9 +180,35 @@ impl<R: Threads + Wait + Files + Sync, T: Gate, P: Source, O: Observer> Builder<
         table: &Table<G>,
         next: Option<u64>,
         tables: &Tables<G>,
-    ) -> (Result<Vec<u8>, AllocError>, Option<Ahead<G>>)
-        ensures text { IfOk result.0 (λ text. IsTrueText G.rules table.now.tier text.items) }
-        ensures ahead { IfSome result.1 (IsAhead G.rules) }
+    ) -> Result<(Vec<u8>, Option<Ahead<G>>), AllocError>
+        ensures text { IfOk result (λ made. IsTrueText G.rules table.now.tier made.0.items) }
+        ensures ahead { IfOk result (λ made. IfSome made.1 (IsAhead G.rules)) }
+    {
+        let file = room(self.alloc, table)?;
+        match next {
+            Some(next) if is_ahead(table, next, tables, self.plan) => {
+                self.make_text_beside(file, table, next, tables)
+            }
+            _ => {
+                let text = text_in(file, table)?;
+                Ok((text, None))
+            }
+        }
+    }
+
+    // Returns the text of a table, which another thread makes in this list, and what this thread did for the next tier meanwhile. The list is this thread's, so
+    // that its memory is used again.
+    fn make_text_beside<G: Game + Send + Sync>(
+        &self,
+        file: Vec<u8>,
+        table: &Table<G>,
+        next: u64,
+        tables: &Tables<G>,
+    ) -> Result<(Vec<u8>, Option<Ahead<G>>), AllocError>
+        requires held { AreHeld G.rules tables.now next }
+        requires small { G.rules.tier_size next ≤ TIER_SIZE }
+        ensures text { IfOk result (λ made. IsTrueText G.rules table.now.tier made.0.items) }
+        ensures ahead { IfOk result (λ made. IfSome made.1 (IsAhead G.rules)) }
     {
         let rt = self.rt;
         let alloc = self.alloc;
@@ -192,38 +216,34 @@ impl<R: Threads + Wait + Files + Sync, T: Gate, P: Source, O: Observer> Builder<
         let gate = self.gate;
         let source = self.source;
         let observer = self.observer;
-        match next {
-            Some(next) if is_ahead(table, next, tables, plan) => {
-                observer.read(rt, next);
-                let (text, answer) = join(
-                    rt,
-                    || -> Result<Vec<u8>, AllocError>
-                        ensures { IfOk result (λ text. IsTrueText G.rules table.entry.now.tier text.items) }
-                    { text_of(alloc, table) },
-                    || -> Result<(Table<G>, Report), SolveError>
-                        requires { AreHeld G.rules tables.now next × (G.rules.tier_size next ≤ TIER_SIZE) }
-                        ensures { IfOk result (λ s. AreDeliveries G.rules s.0.tier s.1.deliveries × (s.1.by_hand ≤ s.1.deliveries)) }
-                    { solve::solve(rt, alloc, next, tables, plan, gate, source, observer) },
-                );
-                let solved = match answer {
-                    Ok(solved) => Some(solved),
-                    Err(_error) => None,
-                };
-                (text, Some(Ahead { solved }))
-            }
-            _ => (text_of(alloc, table), None),
-        }
+        observer.read(rt, next);
+        let (text, answer) = join(
+            rt,
+            move || -> Result<Vec<u8>, AllocError>
+                ensures { IfOk result (λ text. IsTrueText G.rules table.entry.now.tier text.items) }
+            { text_in(file, table) },
+            || -> Result<(Table<G>, Report), SolveError>
+                requires { AreHeld G.rules tables.now next × (G.rules.tier_size next ≤ TIER_SIZE) }
+                ensures { IfOk result (λ s. AreDeliveries G.rules s.0.tier s.1.deliveries × (s.1.by_hand ≤ s.1.deliveries)) }
+            { solve::solve(rt, alloc, next, tables, plan, gate, source, observer) },
+        );
+        let solved = match answer {
+            Ok(solved) => Some(solved),
+            Err(_error) => None,
+        };
+        let text = text?;
+        Ok((text, Some(Ahead { solved })))
     }
 }
 
-// Writes the text of a tier once, if there was memory for it.
+// Writes the text of a tier once.
 fn write<G: Game, R: Files, S: Store>(
     rt: &R,
     tier: u64,
-    text: Result<Vec<u8>, AllocError>,
+    text: &[u8],
     store: &mut S,
 ) -> Result<(), BuildError>
-    requires text { IfOk text (λ t. IsTrueText G.rules tier t.items) }
+    requires text { IsTrueText G.rules tier text.now }
     requires few { S.failed store.old < u64.MAX }
     ensures text { IsTrue S.KEEPS → OnOk result (HasText G.rules (S.texts store.new) tier) }
     ensures here { IsTrue S.KEEPS → OnErr result (MayHaveText G.rules (S.texts store.old) (S.texts store.new) tier) }
@@ -231,10 +251,7 @@ fn write<G: Game, R: Files, S: Store>(
     ensures error { IfErr result (IsTierError G.rules tier) }
     ensures count { S.failed store.new ≡ S.failed store.old + failures_in result }
 {
-    let Ok(text) = text else {
-        return Err(BuildError::OutOfMemory);
-    };
-    match store.write(rt, tier, text.as_slice()) {
+    match store.write(rt, tier, text) {
         Ok(()) => Ok(()),
         Err(StoreError::OutOfMemory) => Err(BuildError::OutOfMemory),
         Err(StoreError::Failed) => Err(BuildError::StoreFailed { tier }),

@@ -4,15 +4,12 @@
 
 pub mod asked;
 pub mod commands;
-mod count_lines;
 pub mod defaults;
 mod explore_commands;
-mod find_line;
 mod lines;
 pub mod manual;
 pub mod names;
 mod numbers;
-mod place_lines;
 mod relations;
 pub mod requests;
 mod search_commands;

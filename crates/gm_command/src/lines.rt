@@ -1,12 +1,9 @@
 //! The commands of the program and the words of each, with their texts in `--help`.
 
-use crate::count_lines::{COUNTS, LONGEST};
 use crate::defaults::{PIECE_WORD, SHARDS_WORD, WORKERS_WORD};
-use crate::find_line::FIND;
-use crate::place_lines::{AT, LOCATE, WHY};
 use crate::words::{
-    ArgKind, ArgSpec, CommandSpec, DISTINCT, FOLDER, GAME, GAME_OR_ALL, JSON, MOST, QUIET,
-    READ_ONLY, START,
+    CommandSpec, DISTINCT, FOLDER, GAME, GAME_OR_ALL, JSON, MOST, QUIET, REACHED, READ_ONLY, START,
+    word,
 };
 
 static LIST: CommandSpec = CommandSpec {
@@ -14,11 +11,7 @@ static LIST: CommandSpec = CommandSpec {
     alias: None,
     about: "Lists the games",
     examples: "Examples:\n  gamesman list\n  gamesman list --all | grep tactix",
-    words: &[ArgSpec {
-        name: "all",
-        kind: ArgKind::Flag,
-        help: "List the later games too",
-    }],
+    words: &[word!("all": Flag, "List the later games too")],
 };
 
 static SOLVE: CommandSpec = CommandSpec {
@@ -28,46 +21,11 @@ static SOLVE: CommandSpec = CommandSpec {
     examples: "Examples:\n  gamesman solve countdown tables\n  gamesman solve dao dao-tables --workers 8 --progress",
     words: &[
         GAME,
-        ArgSpec {
-            name: "FOLDER",
-            kind: ArgKind::Word,
-            help: "The folder for the tables",
-        },
-        ArgSpec {
-            name: "workers",
-            kind: ArgKind::Number {
-                shown: "N",
-                least: 1,
-                most: 16,
-                default: Some(WORKERS_WORD),
-            },
-            help: "Number of worker threads, 1 to 16",
-        },
-        ArgSpec {
-            name: "shards",
-            kind: ArgKind::Number {
-                shown: "N",
-                least: 1,
-                most: 4,
-                default: Some(SHARDS_WORD),
-            },
-            help: "Number of shards per tier, 1 to 4",
-        },
-        ArgSpec {
-            name: "piece",
-            kind: ArgKind::Number {
-                shown: "N",
-                least: 1,
-                most: 4096,
-                default: Some(PIECE_WORD),
-            },
-            help: "Number of positions a worker takes at a time, 1 to 4096",
-        },
-        ArgSpec {
-            name: "progress",
-            kind: ArgKind::Flag,
-            help: "Report progress on standard error, a few times a second",
-        },
+        word!("FOLDER": Word, "The folder for the tables"),
+        word!("workers": Number("N", 1..=16, WORKERS_WORD), "Number of worker threads, 1 to 16"),
+        word!("shards": Number("N", 1..=4, SHARDS_WORD), "Number of shards per tier, 1 to 4"),
+        word!("piece": Number("N", 1..=4096, PIECE_WORD), "Number of positions a worker takes at a time, 1 to 4096"),
+        word!("progress": Flag, "Report progress on standard error, a few times a second"),
         QUIET,
     ],
 };
@@ -79,11 +37,7 @@ static QUERY: CommandSpec = CommandSpec {
     examples: "Examples:\n  gamesman query countdown 10\n  gamesman query hare 'dd.d......h d' --folder tables",
     words: &[
         GAME,
-        ArgSpec {
-            name: "POSITION",
-            kind: ArgKind::Word,
-            help: "The position, as `10` in countdown, `x...o....` in tictactoe or `dd.d......h d` in hare",
-        },
+        word!("POSITION": Word, "The position, as `10` in countdown, `x...o....` in tictactoe or `dd.d......h d` in hare"),
         FOLDER,
         READ_ONLY,
         QUIET,
@@ -97,17 +51,21 @@ static MOVES: CommandSpec = CommandSpec {
     examples: "Examples:\n  gamesman moves tictactoe xo.......\n  gamesman moves dao --distinct --folder dao-tables",
     words: &[
         GAME,
-        ArgSpec {
-            name: "POSITION",
-            kind: ArgKind::Optional,
-            help: "The position (default: the start); `-` reads positions from standard input, one per line",
-        },
+        word!("POSITION": Optional, "The position (default: the start); `-` reads positions from standard input, one per line"),
         DISTINCT,
         JSON,
         FOLDER,
         READ_ONLY,
         QUIET,
     ],
+};
+
+static WHY: CommandSpec = CommandSpec {
+    name: "why",
+    alias: None,
+    about: "Lists the moves of a position, best first, with what each is worth, the best answer to it and the position after that",
+    examples: "Examples:\n  gamesman why countdown 9\n  gamesman why tictactoe ox.o.....",
+    words: &[GAME, START, FOLDER, READ_ONLY, QUIET],
 };
 
 static LINE: CommandSpec = CommandSpec {
@@ -118,16 +76,7 @@ static LINE: CommandSpec = CommandSpec {
     words: &[
         GAME,
         START,
-        ArgSpec {
-            name: "limit",
-            kind: ArgKind::Number {
-                shown: "N",
-                least: 1,
-                most: MOST,
-                default: None,
-            },
-            help: "Stop after this many moves, 1 or more",
-        },
+        word!("limit": Number("N", 1..=MOST), "Stop after this many moves, 1 or more"),
         JSON,
         FOLDER,
         READ_ONLY,
@@ -143,16 +92,8 @@ static SHOW: CommandSpec = CommandSpec {
     words: &[
         GAME,
         START,
-        ArgSpec {
-            name: "svg",
-            kind: ArgKind::Flag,
-            help: "Draw a diagram for print, as an SVG document",
-        },
-        ArgSpec {
-            name: "no-value",
-            kind: ArgKind::Flag,
-            help: "Leave the value out of the diagram, as for a puzzle",
-        },
+        word!("svg": Flag, "Draw a diagram for print, as an SVG document"),
+        word!("no-value": Flag, "Leave the value out of the diagram, as for a puzzle"),
         FOLDER,
         READ_ONLY,
         QUIET,
@@ -167,29 +108,93 @@ static PAGE: CommandSpec = CommandSpec {
     words: &[
         GAME_OR_ALL,
         START,
-        ArgSpec {
-            name: "limit",
-            kind: ArgKind::Number {
-                shown: "N",
-                least: 1,
-                most: 1_000_000,
-                default: Some("2000"),
-            },
-            help: "Put at most this many positions on the page, 1 to 1000000",
-        },
-        ArgSpec {
-            name: "engine",
-            kind: ArgKind::Text {
-                shown: "FILE",
-                required: false,
-            },
-            help: "Put the engine of this file on the page, which then solves the game in the browser",
-        },
-        ArgSpec {
-            name: "all",
-            kind: ArgKind::Flag,
-            help: "Make one page of all games that the engine solves, without tables",
-        },
+        word!("limit": Number("N", 1..=1_000_000, "2000"), "Put at most this many positions on the page, 1 to 1000000"),
+        word!("engine": Text("FILE"), "Put the engine of this file on the page, which then solves the game in the browser"),
+        word!("all": Flag, "Make one page of all games that the engine solves, without tables"),
+        FOLDER,
+        READ_ONLY,
+        QUIET,
+    ],
+};
+
+static AT: CommandSpec = CommandSpec {
+    name: "at",
+    alias: None,
+    about: "Prints the canonical position at an index of a tier, with its value",
+    examples: "Examples:\n  gamesman at countdown 0 10\n  gamesman at tictactoe 2 0",
+    words: &[
+        GAME,
+        word!("TIER": Word, "The number of the tier"),
+        word!("INDEX": Word, "The index in the tier, 0 or more, as in its file"),
+        FOLDER,
+        READ_ONLY,
+        QUIET,
+    ],
+};
+
+static LOCATE: CommandSpec = CommandSpec {
+    name: "locate",
+    alias: None,
+    about: "Prints the tier and index of a position, whether it is canonical, and the index and text of its canonical position",
+    examples: "Examples:\n  gamesman locate countdown 10\n  gamesman locate tictactoe xo.......",
+    words: &[GAME, word!("POSITION": Word, "The position")],
+};
+
+static FIND: CommandSpec = CommandSpec {
+    name: "find",
+    alias: None,
+    about: "Lists the positions with a given value, one per symmetry class, each with its best move and number of moves",
+    examples: "Examples:\n  gamesman find countdown --value win --limit 3\n  gamesman find dao --value win --remoteness 7..11 --whole-line --limit 1",
+    words: &[
+        GAME,
+        word!("value": Required("value"), "The value: win, tie, draw or lose"),
+        word!("remoteness": Text("remoteness"), "Moves to the end, N or A..B (not with draw)"),
+        word!("tier": Tier, "Only positions of this tier"),
+        word!("only-move": Flag, "Only positions in which exactly one move keeps the win or tie"),
+        word!("only-fastest": Flag, "Only wins in which exactly one move wins in the fewest moves"),
+        word!("whole-line": Flag, "Only wins in which, against every longest defence, exactly one move keeps the win at each turn but the last"),
+        word!("distinct": Flag, "Count moves whose results are symmetric as one"),
+        word!("min-moves": Number("N", 1..=MOST), "Only positions with at least this many moves, 1 or more"),
+        REACHED,
+        word!("limit": Number("limit", 1..=MOST), "List at most this many, 1 or more"),
+        word!("random": Number("N", 1..=MOST), "Choose this many at random, 1 or more, each choice equally likely; takes the place of a limit"),
+        word!("seed": Number("N", 0..=MOST), "Seed of the random choice (default: 0); the same seed gives the same choice"),
+        word!("show": Flag, "Draw the board of each position above its line"),
+        JSON,
+        word!("page": Flag, "Write an HTML page with a diagram of each position and its solution to unfold"),
+        FOLDER,
+        READ_ONLY,
+        QUIET,
+    ],
+};
+
+static COUNTS: CommandSpec = CommandSpec {
+    name: "counts",
+    alias: None,
+    about: "Counts the positions of a game by value and remoteness, with bars",
+    examples: "Examples:\n  gamesman counts countdown\n  gamesman counts tactix-3 --reached\n  gamesman counts tictactoe --legal --by-tier --csv > tictactoe.csv",
+    words: &[
+        GAME,
+        word!("legal": Flag, "Count all legal positions, not one per symmetry class"),
+        word!("by-tier": Flag, "Count each tier by itself; its number comes first"),
+        REACHED,
+        word!("csv": Flag, "Print comma-separated values under the names of the columns"),
+        JSON,
+        FOLDER,
+        READ_ONLY,
+        QUIET,
+    ],
+};
+
+static LONGEST: CommandSpec = CommandSpec {
+    name: "longest",
+    alias: None,
+    about: "Lists the longest wins and then the longest losses of a game, in the form of `find`",
+    examples: "Examples:\n  gamesman longest countdown\n  gamesman longest dao --limit 3",
+    words: &[
+        GAME,
+        REACHED,
+        word!("limit": Number("limit", 1..=MOST), "List at most this many wins and this many losses, 1 or more"),
         FOLDER,
         READ_ONLY,
         QUIET,
@@ -203,25 +208,10 @@ static ASK: CommandSpec = CommandSpec {
     examples: "Examples:\n  echo 10 | gamesman ask countdown\n  echo 10 | gamesman ask countdown --values --with canonical,best",
     words: &[
         GAME,
-        ArgSpec {
-            name: "values",
-            kind: ArgKind::Flag,
-            help: "Leave out the moves",
-        },
+        word!("values": Flag, "Leave out the moves"),
         DISTINCT,
-        ArgSpec {
-            name: "with",
-            kind: ArgKind::Text {
-                shown: "WORDS",
-                required: false,
-            },
-            help: "Add to each answer, separated by commas: canonical, parents, symmetric, best",
-        },
-        ArgSpec {
-            name: "ready",
-            kind: ArgKind::Flag,
-            help: "Write a first line once the tables are there",
-        },
+        word!("with": Text("WORDS"), "Add to each answer, separated by commas: canonical, parents, symmetric, best"),
+        word!("ready": Flag, "Write a first line once the tables are there"),
         FOLDER,
         READ_ONLY,
         QUIET,
@@ -243,11 +233,7 @@ static CHECK: CommandSpec = CommandSpec {
     examples: "Examples:\n  gamesman check countdown tables\n  gamesman check dao dao-tables",
     words: &[
         GAME,
-        ArgSpec {
-            name: "FOLDER",
-            kind: ArgKind::Word,
-            help: "The folder of the tables",
-        },
+        word!("FOLDER": Word, "The folder of the tables"),
         QUIET,
     ],
 };
@@ -262,24 +248,9 @@ static PLAY: CommandSpec = CommandSpec {
         FOLDER,
         READ_ONLY,
         QUIET,
-        ArgSpec {
-            name: "second",
-            kind: ArgKind::Flag,
-            help: "Let the computer move first",
-        },
-        ArgSpec {
-            name: "from",
-            kind: ArgKind::Text {
-                shown: "POSITION",
-                required: false,
-            },
-            help: "Begin at this position; you are the side to move, or with `--second` the other side",
-        },
-        ArgSpec {
-            name: "show",
-            kind: ArgKind::Flag,
-            help: "Draw the board before each question; you are `x` where a game has `x` and `o`",
-        },
+        word!("second": Flag, "Let the computer move first"),
+        word!("from": Text("POSITION"), "Begin at this position; you are the side to move, or with `--second` the other side"),
+        word!("show": Flag, "Draw the board before each question; you are `x` where a game has `x` and `o`"),
     ],
 };
 
@@ -288,11 +259,7 @@ static COMPLETIONS: CommandSpec = CommandSpec {
     alias: None,
     about: "Prints a shell completion script",
     examples: "Examples:\n  gamesman completions bash > ~/.local/share/bash-completion/completions/gamesman\n  gamesman completions fish > ~/.config/fish/completions/gamesman.fish",
-    words: &[ArgSpec {
-        name: "SHELL",
-        kind: ArgKind::Word,
-        help: "The shell: bash, zsh or fish",
-    }],
+    words: &[word!("SHELL": Word, "The shell: bash, zsh or fish")],
 };
 
 static MAN: CommandSpec = CommandSpec {

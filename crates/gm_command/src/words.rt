@@ -47,62 +47,59 @@ pub(crate) struct CommandSpec {
     pub words: &'static [ArgSpec],
 }
 
+// Writes a word of a command line: its name, its kind, and its text in `--help`.
+macro_rules! word {
+    ($name:literal: Unless($option:literal), $help:literal) => {
+        word!($name, Unless { option: $option }, $help)
+    };
+    ($name:literal: Text($shown:literal), $help:literal) => {
+        word!($name, Text { shown: $shown, required: false }, $help)
+    };
+    ($name:literal: Required($shown:literal), $help:literal) => {
+        word!($name, Text { shown: $shown, required: true }, $help)
+    };
+    ($name:literal: Number($shown:literal, $least:literal..=$most:expr), $help:literal) => {
+        word!($name, Number { shown: $shown, least: $least, most: $most, default: None }, $help)
+    };
+    ($name:literal: Number($shown:literal, $least:literal..=$most:expr, $default:expr), $help:literal) => {
+        word!($name, Number { shown: $shown, least: $least, most: $most, default: Some($default) }, $help)
+    };
+    ($name:literal: $kind:ident, $help:literal) => { word!($name, $kind, $help) };
+    ($name:literal, $kind:ident $({ $($field:tt)* })?, $help:literal) => {
+        $crate::words::ArgSpec {
+            name: $name,
+            kind: $crate::words::ArgKind::$kind $({ $($field)* })?,
+            help: $help,
+        }
+    };
+}
+
+pub(crate) use word;
+
 /// The greatest number for a limit or a remoteness.
 pub(crate) const MOST: i64 = 4_294_967_295;
 
-pub(crate) const GAME: ArgSpec = ArgSpec {
-    name: "GAME",
-    kind: ArgKind::Word,
-    help: "The name of a game, one of those that `gamesman list` prints",
-};
+pub(crate) const GAME: ArgSpec =
+    word!("GAME": Word, "The name of a game, one of those that `gamesman list` prints");
 
-pub(crate) const GAME_OR_ALL: ArgSpec = ArgSpec {
-    name: "GAME",
-    kind: ArgKind::Unless { option: "all" },
-    help: "The name of a game, one of those that `gamesman list` prints",
-};
+pub(crate) const GAME_OR_ALL: ArgSpec =
+    word!("GAME": Unless("all"), "The name of a game, one of those that `gamesman list` prints");
 
-pub(crate) const START: ArgSpec = ArgSpec {
-    name: "POSITION",
-    kind: ArgKind::Optional,
-    help: "The position (default: the start)",
-};
+pub(crate) const START: ArgSpec = word!("POSITION": Optional, "The position (default: the start)");
 
-pub(crate) const FOLDER: ArgSpec = ArgSpec {
-    name: "folder",
-    kind: ArgKind::Text {
-        shown: "FOLDER",
-        required: false,
-    },
-    help: "Keep the tables in this folder and reuse them",
-};
+pub(crate) const FOLDER: ArgSpec =
+    word!("folder": Text("FOLDER"), "Keep the tables in this folder and reuse them");
 
-pub(crate) const READ_ONLY: ArgSpec = ArgSpec {
-    name: "read-only",
-    kind: ArgKind::Flag,
-    help: "Only read the folder; every table needed must be there and correct",
-};
+pub(crate) const READ_ONLY: ArgSpec =
+    word!("read-only": Flag, "Only read the folder; every table needed must be there and correct");
 
-pub(crate) const QUIET: ArgSpec = ArgSpec {
-    name: "quiet",
-    kind: ArgKind::Flag,
-    help: "Report no progress, which is otherwise shown where standard error is a terminal",
-};
+pub(crate) const QUIET: ArgSpec =
+    word!("quiet": Flag, "Report no progress, which is otherwise shown where standard error is a terminal");
 
-pub(crate) const JSON: ArgSpec = ArgSpec {
-    name: "json",
-    kind: ArgKind::Flag,
-    help: "Print lines of JSON",
-};
+pub(crate) const JSON: ArgSpec = word!("json": Flag, "Print lines of JSON");
 
-pub(crate) const REACHED: ArgSpec = ArgSpec {
-    name: "reached",
-    kind: ArgKind::Flag,
-    help: "Only positions that can be reached from the start",
-};
+pub(crate) const REACHED: ArgSpec =
+    word!("reached": Flag, "Only positions that can be reached from the start");
 
-pub(crate) const DISTINCT: ArgSpec = ArgSpec {
-    name: "distinct",
-    kind: ArgKind::Flag,
-    help: "List only the first of the moves whose results are symmetric",
-};
+pub(crate) const DISTINCT: ArgSpec =
+    word!("distinct": Flag, "List only the first of the moves whose results are symmetric");

@@ -6,7 +6,8 @@ use Rattle.std.proofs.lemmas.Bool.{cases_Bool, cond-true, cond-false}
 use Rattle.std.proofs.lemmas.List.Elements.{All-nil, All-cons}
 use Rattle.std.proofs.lemmas.List.Sums.{sum_by-cons}
 use Rattle.gm_draw.specs.declared.pictured.Style.{Style}
-use Rattle.gm_draw.specs.Diagrams.{over_at, next_x, next_y, spread}
+use Rattle.gm_draw.specs.Diagrams.{over_at}
+use Rattle.gm_draw.specs.Templates.{next_x, next_y, spread}
 use Rattle.gm_draw.specs.Spots.{Spot, spots, IsBefore, AreApart, IsEachOnce}
 
 spread_spots : (f : ℕ → ℕ → ℕ → List ℕ) (x y : ℕ) (bs : List ℕ) → spread f x y bs ≡ flat_map (λ s. f s.x s.y s.byte) (spots x y bs)

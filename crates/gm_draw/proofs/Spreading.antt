@@ -4,7 +4,8 @@ use Rattle.std.specs.List.{flat_map}
 use Rattle.std.specs.Result.{OnOk, is_ok}
 use Rattle.std.proofs.lemmas.List.{append_assoc, append-nil, take_more, take_all, drop_more, drop_all}
 use Rattle.std.proofs.lemmas.Grind.{flat_map-append}
-use Rattle.gm_draw.specs.Diagrams.{escaped, escaped_byte, next_x, next_y, next_length, spread, widest}
+use Rattle.gm_draw.specs.Diagrams.{escaped, escaped_byte, next_length, widest}
+use Rattle.gm_draw.specs.Templates.{next_x, next_y, spread}
 
 -- one more byte of a text
 pub flat_next : (f : ℕ → List ℕ) (xs : List ℕ) (i : ℕ) (base cur new : List ℕ) → i < length xs → cur ≡ base ++ flat_map f (take i xs) → new ≡ cur ++ f

@@ -2,6 +2,7 @@
 -- these words is followed by a space.
 use Rattle.std.specs.Prelude.{ℕ, ◌+◌, ◌-◌, ◌/◌, ◌%◌, Bool, ◌&&◌, ◌==◌, List, [], ◌∷◌, map, codes, if◌then◌else◌}
 use Rattle.std.specs.List.{range_with_len}
+use Rattle.gm_draw.specs.Templates.{is_slot, spread}
 
 -- the names of the squares, from the eighth rank down, each rank from left to right
 abbrev pub square_name : ℕ → List ℕ
@@ -41,3 +42,11 @@ man_at text x y = man_on (file_at x) (rank_at y) text
 -- the byte of a square's drawing: its man, or `.` on a light square and `:` on a dark one
 abbrev pub square_byte : ℕ → Bool → ℕ
 square_byte man dark = if man == 0 then (if dark then 58 else 46) else man
+
+-- the byte of a drawing for a byte of the board at a point
+abbrev pub chess_byte : List ℕ → ℕ → ℕ → ℕ → List ℕ
+chess_byte text x y b = (if is_slot b then square_byte (man_at text x y) (is_dark x y) else b) ∷ []
+
+-- the board with the men of a position's text
+unfoldable pub chess_drawing : List ℕ → List ℕ
+chess_drawing text = spread (chess_byte text) 40 40 chess_board

@@ -11,7 +11,8 @@ use Rattle.gm_game.specs.Values.{IsTrueValue}
 use Rattle.gm_play.specs.PlayTexts.{IsReadAs}
 use Rattle.gm_draw.specs.declared.pictured.Style.{Style}
 use Rattle.gm_draw.specs.declared.pictured.Style.TheVariants.{Row, Crosses, Counters, Stones, Discs, Letters, Chess, Hounds}
-use Rattle.gm_draw.specs.Templates.{is_slot}
+use Rattle.gm_draw.specs.Templates.{is_slot, spread}
+use Rattle.gm_draw.specs.Pictures.{PictureSpec, drawn}
 use Rattle.gm_draw.specs.Chessboards.{is_dark, man_at}
 
 -- ---- texts in XML
@@ -175,18 +176,6 @@ over_at style text x y b = if is_slot b then point_of style x y ++ man_of style 
     style x y b
 
 -- ---- a board
--- the point of the byte after this one: to its right, or, after a line's end, at the beginning of the next line
-abbrev pub next_x : ℕ → ℕ → ℕ
-next_x x b = if b == 10 then 40 else x + 20
-
-abbrev pub next_y : ℕ → ℕ → ℕ
-next_y y b = if b == 10 then y + 40 else y
-
--- the drawing of the bytes of a board: the one in row r and column c is at 20c + 40 and 40r + 40
-unfoldable pub spread : (ℕ → ℕ → ℕ → List ℕ) → ℕ → ℕ → List ℕ → List ℕ
-spread f x y [] = []
-spread f x y (b ∷ bs) = f x y b ++ spread f (next_x x b) (next_y y b) bs
-
 -- the length of a line so far, after this byte
 abbrev pub next_length : ℕ → ℕ → ℕ
 next_length n b = if b == 10 then 0 else n + 1
@@ -289,11 +278,10 @@ svg_of style title board text drawing caption =
 abbrev pub caption_of : List ℕ → Solved → Bool → List ℕ
 caption_of mover s valued = mover ++ codes " to move" ++ (if valued then codes ": " ++ text_of s else [])
 
-module _ (r : Rules) (shown : Position → List ℕ) (move_shown : Position → ℕ → List ℕ) (drawn mover : Position → List ℕ) (style : Style)
-    (title board : List ℕ) where
+module _ (r : Rules) (shown : Position → List ℕ) (move_shown : Position → ℕ → List ℕ) (picture : PictureSpec) where
   -- the diagram of a position with this value
   abbrev pub diagram_of : Bool → Position → Solved → List ℕ
-  diagram_of valued p s = svg_of style title board (shown p) (drawn p) (caption_of (mover p) s valued)
+  diagram_of valued p s = svg_of picture.style picture.title picture.board (shown p) (drawn picture shown p) (caption_of (picture.mover p) s valued)
 
   -- the diagram of the position with this text
   abbrev pub IsDiagram : Bool → List ℕ → List ℕ → Type 0

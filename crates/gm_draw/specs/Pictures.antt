@@ -1,47 +1,69 @@
--- The boards of the games as templates: the k-th capital letter stands for the byte k of the position's text.
-use Rattle.std.specs.Prelude.{ℕ, ◌==◌, List, ◌++◌, codes, if◌then◌else◌}
-use Rattle.gm_morris.specs.declared.variant.Variant.{Variant}
-use Rattle.gm_morris.specs.declared.variant.Variant.TheVariants.{TicTacToe, ThreeMens, Achi}
+-- Pictures: what a game looks like, and the drawings of its positions.
+use Rattle.std.specs.Prelude.{◌≡◌, ℕ, ◌-◌, ◌==◌, List, [], map, length, slice_index, slice_index_or, if◌then◌else◌}
+use Rattle.std.specs.Borrow.{Bor}
+use Rattle.gm_game.specs.declared.position.Position.{Position}
+use Rattle.gm_draw.specs.declared.pictured.Style.{Style}
+use Rattle.gm_draw.specs.declared.pictured.Style.TheVariants.{Row, Chess, Hounds}
+use Rattle.gm_draw.specs.declared.pictured.Layout.{Layout}
+use Rattle.gm_draw.specs.declared.pictured.Layout.TheVariants.{Template, Rows, Squares}
+use Rattle.gm_draw.specs.declared.pictured.Mover.{Mover}
+use Rattle.gm_draw.specs.declared.pictured.Mover.TheVariants.{Same, ByLast}
+use Rattle.gm_draw.specs.declared.pictured.Picture.{Picture}
+use Rattle.gm_draw.specs.Templates.{filled}
+use Rattle.gm_draw.specs.Chessboards.{chess_drawing}
 
--- the columns of a square of side 3, far apart
-abbrev pub three_columns : List ℕ
-three_columns = codes "    1   2   3\n"
+-- what a game looks like
+pub record PictureSpec : Type 0 where
+  -- the name of the game for a heading
+  pub title : List ℕ
+  -- the look of the men
+  pub style : Style
+  -- a template with a slot for each point, a row of numbers, or the board of chess
+  pub board : List ℕ
+  -- the drawing of each position on a row of numbers, by its index
+  pub rows : List (List ℕ)
+  -- the names of the points, in the order of the bytes of a position's text
+  pub points : List (List ℕ)
+  -- the name of the side to move
+  pub mover : Position → List ℕ
+  -- the description of how cells, positions and moves are written
+  pub naming : List ℕ
 
--- the board of each game of nine points
-unfoldable pub nine_points : Variant → List ℕ
-nine_points TicTacToe = three_columns ++ codes "a   A | B | C\n   ---+---+---\nb   D | E | F\n   ---+---+---\nc   G | H | I"
-nine_points ThreeMens = three_columns ++ codes "a   A---B---C\n    |   |   |\nb   D---E---F\n    |   |   |\nc   G---H---I"
-nine_points Achi = three_columns ++ codes "a   A---B---C\n    | \\ | / |\nb   D---E---F\n    | / | \\ |\nc   G---H---I"
+-- how positions are drawn
+abbrev pub layout_of : Style → Layout
+layout_of Row = Rows
+layout_of Chess = Squares
+layout_of Hounds = Squares
+layout_of style = Template
 
--- the board of Dao
-unfoldable pub dao_board : List ℕ
-dao_board = codes "    1 2 3 4\na   A B C D\nb   E F G H\nc   I J K L\nd   M N O P"
+abbrev pub drawn_on : Layout → PictureSpec → List ℕ → ℕ → List ℕ
+drawn_on Template picture text index = filled picture.board text
+drawn_on Rows picture text index = slice_index_or picture.rows index []
+drawn_on Squares picture text index = chess_drawing text
 
--- the board of Tac Tix, by its side
-unfoldable pub tactix_board : ℕ → List ℕ
-tactix_board s =
-    if s == 5 then codes "    1 2 3 4 5\na   A B C D E\nb   F G H I J\nc   K L M N O\nd   P Q R S T\ne   U V W X Y" else
-    if s == 4 then codes "    1 2 3 4\na   A B C D\nb   E F G H\nc   I J K L\nd   M N O P" else
-    if s == 3 then codes "    1 2 3\na   A B C\nb   D E F\nc   G H I" else
-    if s == 2 then codes "    1 2\na   A B\nb   C D" else
-    codes "    1\na   A"
+-- the drawing of a position, in a game with these texts of positions
+abbrev pub drawn : PictureSpec → (Position → List ℕ) → Position → List ℕ
+drawn picture shown p = drawn_on (layout_of picture.style) picture (shown p) p.index
 
--- the board of Dodgem
-unfoldable pub dodgem_board : List ℕ
-dodgem_board = codes "    1 2 3\na   A B C\nb   D E F\nc   G H I"
+-- ---- pictures in programs
+abbrev pub texts : List (Bor (List ℕ)) → List (List ℕ)
+texts borrowed = map (λ t. t.now) borrowed
 
--- the board of Mu Torere and of Shisima: point 0 is at the top, and the ring goes round clockwise
-unfoldable pub ring_board : List ℕ
-ring_board = codes "H---A---B\n| \\ | / |\nG---I---C\n| / | \\ |\nF---E---D"
+-- one of two names, by the last byte of a text
+abbrev pub by_last : List ℕ → ℕ → List ℕ → List ℕ → List ℕ
+by_last text byte name other = if slice_index text (length text - 1) == byte then name else other
 
--- the board of Pong Hau K'i: the two upper points are not joined
-unfoldable pub pong_board : List ℕ
-pong_board = codes "A       B\n| \\   / |\n|   C   |\n| /   \\ |\nD-------E"
+-- the name of the side to move in the position with this text
+abbrev pub mover_of : Mover → List ℕ → List ℕ
+mover_of (Same name) text = name.now
+mover_of (ByLast byte name other) text = by_last text byte name.now other.now
 
--- the board of Tapatan
-unfoldable pub tapatan_board : List ℕ
-tapatan_board = codes "A---B---C\n| \\ | / |\nD---E---F\n| / | \\ |\nG---H---I"
-
--- the board of Hare and Hounds: the hounds begin on the left
-unfoldable pub hare_board : List ℕ
-hare_board = codes "      B---E---H\n    / | \\ | / | \\\n  A---C---F---I---K\n    \\ | / | \\ | /\n      D---G---J"
+-- a program's picture is this one
+pub record IsPictureOf (is : Picture) (shown : Position → List ℕ) (picture : PictureSpec) : Type 0 where
+  pub title : is.title.now ≡ picture.title
+  pub style : is.style ≡ picture.style
+  pub board : is.board.now ≡ picture.board
+  pub rows : texts is.rows.now ≡ picture.rows
+  pub points : texts is.points.now ≡ picture.points
+  pub mover : (p : Position) → mover_of is.mover (shown p) ≡ picture.mover p
+  pub naming : is.naming.now ≡ picture.naming

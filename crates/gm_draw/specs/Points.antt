@@ -1,15 +1,11 @@
 -- The points of the boards: their names, in the order of the bytes of a position's text.
-use Rattle.std.specs.Prelude.{◌≡◌, ℕ, ◌+◌, ◌*◌, ◌⊎◌, Bool, true, not, ◌&&◌, ◌==◌, List, [], ◌∷◌, ◌++◌, map, length, codes, if◌then◌else◌}
+use Rattle.std.specs.Prelude.{◌≡◌, ℕ, ◌+◌, ◌*◌, ◌⊎◌, Bool, true, not, ◌&&◌, ◌==◌, List, [], ◌∷◌, ◌++◌, map, length}
 use Rattle.std.specs.Fmt.{decimal}
 use Rattle.std.specs.List.{Contains, list_all, list_any, range_with_len}
 use Rattle.std.specs.Str.{bytes_eq}
 use Rattle.gm_board.specs.Squares.{cell_text}
 use Rattle.gm_hare.specs.Texts.{point_name}
-use Rattle.gm_morris.specs.declared.variant.Variant.{Variant}
-use Rattle.gm_morris.specs.declared.variant.Variant.TheVariants.{TicTacToe, ThreeMens, Achi}
 use Rattle.gm_mutorere.specs.Texts.{point_text}
-use Rattle.gm_draw.specs.declared.pictured.Style.{Style}
-use Rattle.gm_draw.specs.declared.pictured.Style.TheVariants.{Crosses, Discs}
 
 -- ---- the points of the games
 -- the cells of a square of side s, row by row
@@ -44,33 +40,6 @@ hare_points = map point_name (range_with_len 0 11)
 -- the numbers below n
 unfoldable pub number_points : ℕ → List (List ℕ)
 number_points n = map decimal (range_with_len 0 n)
-
--- ---- rows of numbers, which have no slots
-unfoldable pub countdown_board : List ℕ
-countdown_board = codes "0 1 2 3 4 5 6 7 8 9 10"
-
-unfoldable pub takeaway_board : List ℕ
-takeaway_board = codes "0 1 2 3 4 5 6 7 8 9 10 11 12"
-
-unfoldable pub wheel_board : List ℕ
-wheel_board = codes "0 1 2 3 4 5 6 7 8 9"
-
--- ---- titles and styles
-unfoldable pub nine_title : Variant → List ℕ
-nine_title TicTacToe = codes "Tic-Tac-Toe"
-nine_title ThreeMens = codes "Three Men's Morris"
-nine_title Achi = codes "Achi"
-
-unfoldable pub nine_style : Variant → Style
-nine_style TicTacToe = Crosses
-nine_style ThreeMens = Discs
-nine_style Achi = Discs
-
-unfoldable pub tactix_title : ℕ → Bool → List ℕ
-tactix_title s misere = codes "Tac Tix " ++ (48 + s) ∷ codes " by " ++ (48 + s) ∷ (if misere then codes ", misere" else [])
-
-unfoldable pub chess_title : Bool → List ℕ
-chess_title queen = if queen then codes "King and Queen against King" else codes "King and Rook against King"
 
 -- ---- names and moves
 -- whether a name is not empty and has no `-`

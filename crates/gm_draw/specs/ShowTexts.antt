@@ -6,11 +6,12 @@ use Rattle.gm_game.specs.Rules.{Rules}
 use Rattle.gm_game.specs.Texts.{text_of}
 use Rattle.gm_game.specs.Values.{IsTrueValue}
 use Rattle.gm_play.specs.PlayTexts.{IsReadAs}
+use Rattle.gm_draw.specs.Pictures.{PictureSpec, drawn}
 
-module _ (r : Rules) (shown : Position → List ℕ) (move_shown : Position → ℕ → List ℕ) (drawn mover : Position → List ℕ) (naming : List ℕ) where
+module _ (r : Rules) (shown : Position → List ℕ) (move_shown : Position → ℕ → List ℕ) (picture : PictureSpec) where
   -- the drawing, and the side to move with the value
   abbrev pub board_text : Position → Solved → List ℕ
-  board_text p s = drawn p ++ codes "\n" ++ mover p ++ codes " to move: " ++ text_of s ++ codes "\n"
+  board_text p s = drawn picture shown p ++ codes "\n" ++ picture.mover p ++ codes " to move: " ++ text_of s ++ codes "\n"
 
   -- the first of some moves
   abbrev pub first_move : Position → List ℕ → List ℕ
@@ -19,7 +20,7 @@ module _ (r : Rules) (shown : Position → List ℕ) (move_shown : Position → 
 
   -- the description of how cells, positions and moves are written, with this position and one of its moves
   abbrev pub naming_text : Position → List ℕ
-  naming_text p = codes "\n" ++ naming ++ codes "This position: " ++ shown p ++ codes "\n" ++ first_move p (r.moves p)
+  naming_text p = codes "\n" ++ picture.naming ++ codes "This position: " ++ shown p ++ codes "\n" ++ first_move p (r.moves p)
 
   abbrev pub explained_text : Bool → Position → List ℕ
   explained_text explained p = if explained then naming_text p else []

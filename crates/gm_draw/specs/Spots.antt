@@ -2,7 +2,8 @@
 use Rattle.std.specs.Prelude.{◌≡◌, ℕ, ◌+◌, ◌<◌, ◌⊎◌, ◌==◌, true, List, [], ◌∷◌, count_by}
 use Rattle.std.specs.List.{All, flat_map}
 use Rattle.gm_draw.specs.declared.pictured.Style.{Style}
-use Rattle.gm_draw.specs.Diagrams.{over_at, next_x, next_y, spread}
+use Rattle.gm_draw.specs.Diagrams.{over_at}
+use Rattle.gm_draw.specs.Templates.{next_x, next_y, spread}
 use Rattle.gm_draw.specs.Pictured.{has_place_once}
 
 -- a byte of a board, and the point that it is drawn at

@@ -1,6 +1,5 @@
--- Templates: texts in which each capital letter is a slot for a byte of another text.
-use Rattle.std.specs.Prelude.{ℕ, ◌-◌, ◌+◌, Bool, true, false, ◌&&◌, ◌==◌, nat_le, List, [], ◌∷◌, map, slice_index, if◌then◌else◌}
-use Rattle.std.specs.List.{list_all, range_with_len}
+-- Templates: texts in which each capital letter is a slot for a byte of another text; and the points of their bytes in a diagram.
+use Rattle.std.specs.Prelude.{ℕ, ◌-◌, ◌+◌, Bool, ◌&&◌, ◌==◌, nat_le, List, [], ◌∷◌, ◌++◌, map, slice_index, if◌then◌else◌}
 
 -- a slot: a capital letter
 abbrev pub is_slot : ℕ → Bool
@@ -14,11 +13,14 @@ drawn_byte text b = if is_slot b then slice_index text (b - 65) else b
 unfoldable pub filled : List ℕ → List ℕ → List ℕ
 filled template text = map (drawn_byte text) template
 
--- whether a template has the slot of the byte k
-abbrev pub has_slot : List ℕ → ℕ → Bool
-has_slot [] k = false
-has_slot (b ∷ bs) k = if b == 65 + k then true else has_slot bs k
+-- the point of the byte after this one: to its right, or, after a line's end, at the beginning of the next line
+abbrev pub next_x : ℕ → ℕ → ℕ
+next_x x b = if b == 10 then 40 else x + 20
 
--- whether a template has the slots of the first n bytes
-unfoldable pub has_slots : List ℕ → ℕ → Bool
-has_slots template n = list_all (has_slot template) (range_with_len 0 n)
+abbrev pub next_y : ℕ → ℕ → ℕ
+next_y y b = if b == 10 then y + 40 else y
+
+-- the drawing of the bytes of a board: the one in row r and column c is at 20c + 40 and 40r + 40
+unfoldable pub spread : (ℕ → ℕ → ℕ → List ℕ) → ℕ → ℕ → List ℕ → List ℕ
+spread f x y [] = []
+spread f x y (b ∷ bs) = f x y b ++ spread f (next_x x b) (next_y y b) bs

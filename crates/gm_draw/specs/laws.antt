@@ -1,8 +1,8 @@
 -- Facts that follow from the definitions.
-pub mod Drawn
+pub mod Templates
+pub mod Points
+pub mod Games
+pub mod Rows
 pub mod Chessboards
 pub mod Chessmen
 pub mod Hounds
-pub mod Rows
-pub mod Points
-pub mod Pictures

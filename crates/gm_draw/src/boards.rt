@@ -2,7 +2,8 @@
 ghost use Rattle.std.specs.Prelude.{◌≡◌, ◌≤◌, true, length};
 ghost use Rattle.gm_draw.specs.Sights.{sight, move_line};
 
-use crate::drawn::Drawn;
+use crate::drawn::draw;
+use crate::pictured::Pictured;
 use arrayvec::ArrayVec;
 use gm_game::position::Position;
 use gm_game::shown::Shown;
@@ -13,15 +14,15 @@ use gm_play::view::{Question, Sight, View};
 #[derive(Drop)]
 pub struct Boards;
 
-impl<G: Drawn> View<G> for Boards {
-    ghost seen = { sight G.Game.rules G.Shown.move_shown G.drawn };
+impl<G: Pictured> View<G> for Boards {
+    ghost seen = { sight G.Game.rules G.Shown.shown G.Shown.move_shown G.picture };
 
     fn see(asked: Question, p: Position) -> Sight {
         let mut sight = match asked {
             Question::First => ArrayVec::new(),
             Question::Again => move_line::<G>(p),
         };
-        let _fits = sight.try_extend_from_slice(G::draw(p).as_slice());
+        let _fits = sight.try_extend_from_slice(draw::<G>(p).as_slice());
         sight.push(b'\n');
         sight
     }

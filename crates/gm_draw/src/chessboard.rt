@@ -1,31 +1,25 @@
 //! The board of chess: its squares, and the men that a position's text puts on them.
-ghost use Rattle.std.specs.Prelude.{◌≡◌, ◌≤◌, ◌<◌, [], ◌∷◌, length, slice_index_or};
-ghost use Rattle.gm_draw.specs.Chessboards.{chess_board, chess_points, file_at as file_at_spec, rank_at as rank_at_spec, is_dark as is_dark_spec};
+ghost use Rattle.std.specs.Prelude.{◌≡◌, ◌≤◌, [], ◌∷◌, length};
+ghost use Rattle.gm_draw.specs.Chessboards.{chess_byte, chess_drawing, file_at as file_at_spec, rank_at as rank_at_spec, is_dark as is_dark_spec};
 ghost use Rattle.gm_draw.specs.Chessboards.{man_on as man_on_spec, man_at as man_at_spec, square_byte as square_byte_spec};
-ghost use Rattle.gm_draw.specs.ChessDrawings.{chess_byte, chess_drawing};
-ghost use Rattle.gm_draw.specs.Diagrams.{spread};
+ghost use Rattle.gm_draw.specs.Templates.{spread};
 
 use crate::drawn::{DRAWING, Drawing};
 use crate::svg::{next_x, next_y};
 use arrayvec::ArrayVec;
 
-/// Returns the board, a template with a slot for each square.
-#[tactic(auto, unfolding(crate::specs::Chessboards::chess_board))]
-pub(crate) fn board() -> &'static [u8]
-    ensures value { result.now ≡ chess_board }
-    ensures fits { length result.now ≤ DRAWING }
-{
-    b"    a b c d e f g h\n8   A A A A A A A A\n7   A A A A A A A A\n6   A A A A A A A A\n5   A A A A A A A A\n4   A A A A A A A A\n3   A A A A A A A A\n2   A A A A A A A A\n1   A A A A A A A A"
-}
+/// The board, a template with a slot for each square.
+pub(crate) const BOARD: &[u8] =
+    b"    a b c d e f g h\n8   A A A A A A A A\n7   A A A A A A A A\n6   A A A A A A A A\n5   A A A A A A A A\n4   A A A A A A A A\n3   A A A A A A A A\n2   A A A A A A A A\n1   A A A A A A A A";
 
-/// Returns the name of a square, by its number from the eighth rank down.
-#[tactic(auto, using(crate::specs::laws::Chessboards::square_named))]
-pub(crate) fn square_name(k: usize) -> [u8; 2]
-    requires { k < 64 }
-    ensures { result ≡ slice_index_or chess_points k [] }
-{
-    [b'a' + (k % 8) as u8, b'8' - (k / 8) as u8]
-}
+/// The names of the squares, from the eighth rank down.
+pub(crate) const SQUARES: &[&[u8]] = &[
+    b"a8", b"b8", b"c8", b"d8", b"e8", b"f8", b"g8", b"h8", b"a7", b"b7", b"c7", b"d7", b"e7",
+    b"f7", b"g7", b"h7", b"a6", b"b6", b"c6", b"d6", b"e6", b"f6", b"g6", b"h6", b"a5", b"b5",
+    b"c5", b"d5", b"e5", b"f5", b"g5", b"h5", b"a4", b"b4", b"c4", b"d4", b"e4", b"f4", b"g4",
+    b"h4", b"a3", b"b3", b"c3", b"d3", b"e3", b"f3", b"g3", b"h3", b"a2", b"b2", b"c2", b"d2",
+    b"e2", b"f2", b"g2", b"h2", b"a1", b"b1", b"c1", b"d1", b"e1", b"f1", b"g1", b"h1",
+];
 
 // Returns the letter of the file of the square at a point.
 fn file_at(x: u64) -> u64
@@ -116,9 +110,9 @@ fn filled(board: &[u8], text: &[u8]) -> Drawing
 }
 
 /// Returns the board of chess with the men of a position's text.
-#[tactic(auto, unfolding(crate::specs::ChessDrawings::chess_drawing))]
+#[tactic(auto, unfolding(crate::specs::Chessboards::chess_drawing, crate::specs::Chessboards::chess_board))]
 pub(crate) fn draw(text: &[u8]) -> Drawing
     ensures { result.items ≡ chess_drawing text.now }
 {
-    filled(board(), text)
+    filled(BOARD, text)
 }

@@ -2,9 +2,10 @@
 ghost use Rattle.std.specs.Prelude.{◌≡◌, ◌≤◌, ◌++◌, [], length, true, OnOk, IfOk};
 ghost use Rattle.gm_draw.specs.Diagrams.{start_of, svg_box, svg_size, svg_open, svg_title, svg_paper, svg_front, svg_net, svg_men, svg_back, svg_of, row_words};
 ghost use Rattle.gm_draw.specs.Diagrams.{over_all, under_all, caption_words, caption_of, diagram_of, IsDiagram};
+ghost use Rattle.gm_draw.specs.Pictures.{drawn};
 ghost use Rattle.gm_draw.specs.Spots.{IsEachOnce};
 
-use crate::drawn::DRAWING;
+use crate::drawn::{DRAWING, draw, mover};
 use crate::frame::{Frame, frame_of};
 use crate::markup::push_escaped;
 use crate::pictured::{Pictured, Style};
@@ -21,7 +22,7 @@ pub fn diagram_text<G: Pictured>(
     known: &Known<'_, G>,
     valued: bool,
 ) -> Result<Vec<u8>, AllocError>
-    ensures { IfOk result (λ v. IsDiagram G.Game.rules G.shown G.move_shown G.drawn G.mover G.style G.title G.board valued
+    ensures { IfOk result (λ v. IsDiagram G.Game.rules G.shown G.move_shown G.picture valued
         (G.shown known.now.position) v.items) }
 {
     diagram::<G>(alloc, known.position, known.value(), valued)
@@ -30,7 +31,7 @@ pub fn diagram_text<G: Pictured>(
 /// Has no effect; its contract states that a diagram draws each man once. Over the net of the board, the man of each byte of a
 /// position's text is drawn once, at a point of its own.
 pub fn each_once<G: Pictured>(bytes: &[u8])
-    ensures { IsEachOnce G.style bytes.now G.board }
+    ensures { IsEachOnce G.picture.style bytes.now G.picture.board }
 {}
 
 // Returns the diagram of a legal position of this value.
@@ -41,7 +42,7 @@ fn diagram<G: Pictured>(
     valued: bool,
 ) -> Result<Vec<u8>, AllocError>
     requires { G.Game.rules.is_legal p ≡ true }
-    ensures { IfOk result (λ v. v.items ≡ diagram_of G.Game.rules G.shown G.move_shown G.drawn G.mover G.style G.title G.board valued p value) }
+    ensures { IfOk result (λ v. v.items ≡ diagram_of G.Game.rules G.shown G.move_shown G.picture valued p value) }
 {
     let mut caption = Vec::new(alloc);
     let mut text = Vec::new(alloc);
@@ -67,9 +68,9 @@ fn push_diagram<G: Pictured>(
     requires legal { G.Game.rules.is_legal p ≡ true }
     requires empty { text.old.items ≡ [] }
     requires none { caption.old.items ≡ [] }
-    ensures { OnOk result (text.new.items ≡ diagram_of G.Game.rules G.shown G.move_shown G.drawn G.mover G.style G.title G.board valued p value) }
+    ensures { OnOk result (text.new.items ≡ diagram_of G.Game.rules G.shown G.move_shown G.picture valued p value) }
 {
-    push_caption(caption, G::mover(p), value, valued)?;
+    push_caption(caption, mover::<G>(p), value, valued)?;
     push_svg::<G>(text, p, caption.as_slice())
 }
 
@@ -95,24 +96,18 @@ fn push_caption(
 #[tactic(auto, unfolding(crate::specs::Diagrams::svg_of))]
 fn push_svg<G: Pictured>(text: &mut Vec<u8>, p: Position, caption: &[u8]) -> Result<(), AllocError>
     requires { G.Game.rules.is_legal p ≡ true }
-    ensures { OnOk result (text.new.items ≡ text.old.items ++ svg_of G.style G.title G.board (G.shown p) (G.drawn p) caption.now) }
+    ensures { OnOk result (text.new.items ≡ text.old.items ++ svg_of G.picture.style G.picture.title G.picture.board (G.shown p) (drawn G.picture G.shown p) caption.now) }
 {
-    let style = G::style();
+    let picture = G::picture();
     let bytes = G::show(p);
-    let drawing = G::draw(p);
-    let frame = frame_of(style, drawing.as_slice());
-    push_front(
-        text,
-        frame,
-        G::title().as_slice(),
-        bytes.as_slice(),
-        caption,
-    )?;
-    push_net_group(text, style, G::board())?;
+    let drawing = draw::<G>(p);
+    let frame = frame_of(picture.style, drawing.as_slice());
+    push_front(text, frame, picture.title, bytes.as_slice(), caption)?;
+    push_net_group(text, picture.style, picture.board)?;
     push_men_group(
         text,
-        style,
-        G::board(),
+        picture.style,
+        picture.board,
         bytes.as_slice(),
         drawing.as_slice(),
         frame.middle,

@@ -1,12 +1,9 @@
-//! Games with pictures: the board as a template, its points, and their names, from which any program can draw the board.
-ghost use Rattle.std.specs.Prelude.{◌≡◌, ◌<◌, ◌≤◌, ℕ, List, [], length, slice_index_or};
-ghost use Rattle.gm_draw.specs.declared.pictured.Style.{Style};
+//! Pictures: what a game looks like, from which any program can draw its board.
+ghost use Rattle.gm_draw.specs.Pictures.{PictureSpec, layout_of, IsPictureOf};
 ghost use Rattle.gm_draw.specs.Pictured.{IsPictured};
+ghost use Rattle.std.specs.Prelude.{◌≡◌};
 
-use crate::drawn::{DRAWING, Drawn};
-use gm_game::limits::LINE;
-use gm_game::shown::Line;
-use gm_game::text::push_text;
+use gm_game::shown::Shown;
 
 /// The look of the men of a game, and of the places under them.
 #[derive(Clone, Copy, Debug, PartialEq, Eq)]
@@ -30,57 +27,75 @@ pub enum Style {
     Hounds,
 }
 
-/// A game whose board any program can draw.
-pub trait Pictured: Drawn {
-    /// The board: a template with a slot for each byte of a position's text, or a row of numbers without slots.
-    ghost board: { List ℕ };
+/// How positions are drawn.
+#[derive(Clone, Copy, Debug, PartialEq, Eq)]
+pub enum Layout {
+    /// The board is a template. Its slots have the bytes of the position's text.
+    Template,
+    /// The board is a row of numbers. Each position has a row of its own.
+    Rows,
+    /// The board is that of chess. Its squares have the men of the position's text.
+    Squares,
+}
 
-    /// The names of the points, in the order of the bytes of a position's text.
-    ghost points: { List (List ℕ) };
+impl Style {
+    /// Returns how positions are drawn.
+    pub fn layout(self) -> Layout
+        ensures { result ≡ layout_of self }
+    {
+        match self {
+            Style::Row => Layout::Rows,
+            Style::Chess | Style::Hounds => Layout::Squares,
+            _ => Layout::Template,
+        }
+    }
+}
 
-    /// The look of the men.
-    ghost style: { Style };
+/// The name of the side to move.
+#[derive(Clone, Copy)]
+pub enum Mover {
+    /// The same name at each turn.
+    Same(&'static [u8]),
+    /// `name` if the last byte of the position's text is `byte`, else `other`.
+    ByLast {
+        byte: u8,
+        name: &'static [u8],
+        other: &'static [u8],
+    },
+}
 
+/// What a game looks like.
+#[derive(Clone, Copy)]
+pub struct Picture {
     /// The name of the game for a heading.
-    ghost title: { List ℕ };
+    pub title: &'static [u8],
+    pub style: Style,
+    /// The board: a template with a slot for each point, a row of numbers, or the board of chess.
+    pub board: &'static [u8],
+    /// The drawing of each position on a row of numbers, by its index. It is empty for other boards.
+    pub rows: &'static [&'static [u8]],
+    /// The names of the points, in the order of the bytes of a position's text.
+    pub points: &'static [&'static [u8]],
+    pub mover: Mover,
+    /// The description of how cells, positions and moves are written, in lines.
+    pub naming: &'static [u8],
+}
 
-    /// Returns the board, as a template.
-    fn board() -> &'static [u8]
-        ensures value { result.now ≡ board }
-        ensures fits { length board ≤ DRAWING };
+/// A game whose board any program can draw.
+pub trait Pictured: Shown {
+    /// What the game looks like.
+    ghost picture: { PictureSpec };
 
-    /// Returns the number of points.
-    fn points() -> usize
-        ensures { result ≡ length points };
+    /// Returns what the game looks like.
+    fn picture() -> Picture
+        ensures { IsPictureOf result Self.Shown.shown picture };
 
-    /// Returns the name of a point.
-    fn point(k: usize) -> Line
-        requires { k < length points }
-        ensures { result.items ≡ slice_index_or points k [] };
-
-    /// Returns the look of the men.
-    fn style() -> Style
-        ensures { result ≡ style };
-
-    /// Returns the name of the game for a heading.
-    fn title() -> Line
-        ensures { result.items ≡ title };
-
-    /// The laws of pictures: the board has each slot once, the names differ, and the words of moves are points.
-    ghost pictured: { IsPictured Self.Game.rules Self.Shown.shown Self.Shown.move_shown Self.Drawn.drawn style board points };
+    /// The laws of pictures: drawings fit and distinguish positions, the board has each slot once, the names of points differ, and
+    /// the words of moves are points.
+    ghost pictured: { IsPictured Self.Game.rules Self.Shown.shown Self.Shown.move_shown picture };
 }
 
 /// Has no effect; its contract states the laws of a game's picture.
 pub fn pictures<G: Pictured>()
-    ensures { IsPictured G.Game.rules G.shown G.move_shown G.drawn G.style G.board G.points }
+    ensures { IsPictured G.Game.rules G.shown G.move_shown G.picture }
 {}
-
-// Returns a line with this text.
-pub(crate) fn line_of(text: &[u8]) -> Line
-    requires { length text.now ≤ LINE }
-    ensures { result.items ≡ text.now }
-{
-    let mut line = Line::new();
-    push_text(&mut line, text);
-    line
-}

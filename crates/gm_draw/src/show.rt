@@ -2,7 +2,8 @@
 ghost use Rattle.std.specs.Prelude.{◌≡◌, ◌++◌, codes, true, OnOk, IfOk};
 ghost use Rattle.gm_draw.specs.ShowTexts.{board_text, naming_text, first_move, explained_text, IsShowText};
 
-use crate::drawn::Drawn;
+use crate::drawn::{draw, mover};
+use crate::pictured::Pictured;
 use gm_game::position::{Position, Solved};
 use gm_game::text::value_text;
 use gm_play::known::Known;
@@ -10,31 +11,31 @@ use std::alloc::{AllocError, Global};
 
 /// Returns the board of a position, and a line with the side to move and the true value. If `explained` is set, a description of
 /// how cells, positions and moves are written follows.
-pub fn show_text<G: Drawn>(
+pub fn show_text<G: Pictured>(
     alloc: Global,
     known: &Known<'_, G>,
     explained: bool,
 ) -> Result<Vec<u8>, AllocError>
-    ensures { IfOk result (λ v. IsShowText G.Game.rules G.shown G.move_shown G.drawn G.mover G.naming explained (G.shown known.now.position) v.items) }
+    ensures { IfOk result (λ v. IsShowText G.Game.rules G.shown G.move_shown G.picture explained (G.shown known.now.position) v.items) }
 {
     board_and_naming::<G>(alloc, known.position, known.value(), explained)
 }
 
 // Returns this text for a legal position of this value.
-fn board_and_naming<G: Drawn>(
+fn board_and_naming<G: Pictured>(
     alloc: Global,
     p: Position,
     value: Solved,
     explained: bool,
 ) -> Result<Vec<u8>, AllocError>
     requires { G.Game.rules.is_legal p ≡ true }
-    ensures { IfOk result (λ v. v.items ≡ board_text G.Game.rules G.shown G.move_shown G.drawn G.mover G.naming p value ++ explained_text G.Game.rules
-        G.shown G.move_shown G.drawn G.mover G.naming explained p) }
+    ensures { IfOk result (λ v. v.items ≡ board_text G.Game.rules G.shown G.move_shown G.picture p value ++ explained_text G.Game.rules
+        G.shown G.move_shown G.picture explained p) }
 {
     let mut text = Vec::new(alloc);
-    text.extend_from_slice(G::draw(p).as_slice())?;
+    text.extend_from_slice(draw::<G>(p).as_slice())?;
     text.extend_from_slice(b"\n")?;
-    text.extend_from_slice(G::mover(p))?;
+    text.extend_from_slice(mover::<G>(p))?;
     push_line(&mut text, b" to move: ", value_text(value).as_slice())?;
     if explained {
         push_naming::<G>(&mut text, p)?;
@@ -52,20 +53,20 @@ fn push_line(text: &mut Vec<u8>, front: &[u8], back: &[u8]) -> Result<(), AllocE
 }
 
 // Appends the description of how cells, positions and moves are written.
-fn push_naming<G: Drawn>(text: &mut Vec<u8>, p: Position) -> Result<(), AllocError>
+fn push_naming<G: Pictured>(text: &mut Vec<u8>, p: Position) -> Result<(), AllocError>
     requires { G.Game.rules.is_legal p ≡ true }
-    ensures { OnOk result (text.new.items ≡ text.old.items ++ naming_text G.Game.rules G.shown G.move_shown G.drawn G.mover G.naming p) }
+    ensures { OnOk result (text.new.items ≡ text.old.items ++ naming_text G.Game.rules G.shown G.move_shown G.picture p) }
 {
     text.extend_from_slice(b"\n")?;
-    text.extend_from_slice(G::naming())?;
+    text.extend_from_slice(G::picture().naming)?;
     push_line(text, b"This position: ", G::show(p).as_slice())?;
     push_first_move::<G>(text, p)
 }
 
 // Appends the first move, if there is one.
-fn push_first_move<G: Drawn>(text: &mut Vec<u8>, p: Position) -> Result<(), AllocError>
+fn push_first_move<G: Pictured>(text: &mut Vec<u8>, p: Position) -> Result<(), AllocError>
     requires { G.Game.rules.is_legal p ≡ true }
-    ensures { OnOk result (text.new.items ≡ text.old.items ++ first_move G.Game.rules G.shown G.move_shown G.drawn G.mover G.naming p (G.Game.rules.moves p)) }
+    ensures { OnOk result (text.new.items ≡ text.old.items ++ first_move G.Game.rules G.shown G.move_shown G.picture p (G.Game.rules.moves p)) }
 {
     match G::moves(p).as_slice().first() {
         Some(number) => push_line(text, b"A move here: ", G::move_text(p, *number).as_slice()),

@@ -3,8 +3,8 @@ ghost use Rattle.std.specs.Prelude.{◌≡◌, ◌≤◌, ◌++◌, ◌+◌, ◌
 ghost use Rattle.std.specs.Fmt.{decimal};
 ghost use Rattle.gm_draw.specs.Diagrams.{at_point, path, circle, words_at, stroke_of, has_cells as has_cells_spec, has_points as has_points_spec};
 ghost use Rattle.gm_draw.specs.Diagrams.{is_stroke as is_stroke_spec, has_squares as has_squares_spec, square_of, slot_byte as slot_byte_spec};
-ghost use Rattle.gm_draw.specs.Diagrams.{under_at, over_at, point_of, label_x as label_x_spec, label_y as label_y_spec, label_of, next_x as next_x_spec};
-ghost use Rattle.gm_draw.specs.Diagrams.{next_y as next_y_spec, spread};
+ghost use Rattle.gm_draw.specs.Diagrams.{under_at, over_at, point_of, label_x as label_x_spec, label_y as label_y_spec, label_of};
+ghost use Rattle.gm_draw.specs.Templates.{next_x as next_x_spec, next_y as next_y_spec, spread};
 
 use crate::chessboard::{is_dark, man_at};
 use crate::drawn::DRAWING;

@@ -1,5 +1,5 @@
 -- Words that proofs here use.
-pub use Rattle.gm_draw.specs.declared.pictured.Style.{Style}
+pub use Rattle.gm_draw.specs.Pictures.{PictureSpec}
 pub use Rattle.gm_find.specs.declared.found.Found.{Found}
 pub use Rattle.gm_game.proofs.Lists.{contains_cases, contains_first, contains_later, contains_none}
 pub use Rattle.gm_game.specs.Rules.{Rules, at}

@@ -1,7 +1,7 @@
 -- The rows of a page, and its first line, are read as their trees.
 use Rattle.gm_page.proofs.Lower.{◌≡◌, ℕ, suc, ◌+◌, ◌<◌, ◌≤◌, ◌^◌, Bool, List, [], ◌∷◌, ◌++◌, length, map, Option, None, Some, refl, sym, ap, ◌∙◌, arith, inl}
 use Rattle.gm_page.proofs.Lower.{inr, flat_map, unwrap_or, cases_Bool, cond-true, cond-false, Data, number, array, read, of_json, items_of, outline}
-use Rattle.gm_page.proofs.Lower.{items_outline, Position, Solved, MoveValue, text, Style, head_tree, is_same, place_from, place_of, Group, place_cells}
+use Rattle.gm_page.proofs.Lower.{items_outline, Position, Solved, MoveValue, text, PictureSpec, head_tree, is_same, place_from, place_of, Group, place_cells}
 use Rattle.gm_page.proofs.Lower.{move_cells, group_tree, row_tree, script_line}
 use Rattle.std.proofs.Common.{option_map}
 use Rattle.json.specs.Tree.{depth, items_depth}
@@ -88,10 +88,10 @@ texts_read : (ts : List (List ℕ)) → AllRead 0 (map text ts)
 texts_read [] = tt
 texts_read (t ∷ ts) = (reads_text 0 t, texts_read ts)
 
-pub head_read : (name : List ℕ) (style : Style) (title board : List ℕ) (points : List (List ℕ)) (naming start : List ℕ) (whole : Bool)
-    → read (script_line (head_tree name style title board points naming start whole)) ≡ Some (head_tree name style title board points naming start whole)
-head_read name style title board points naming start whole =
-    let names = reads_array 0 (map text points) (texts_read points) in
-    let d = head_tree name style title board points naming start whole in
+pub head_read : (name : List ℕ) (picture : PictureSpec) (start : List ℕ) (whole : Bool)
+    → read (script_line (head_tree name picture start whole)) ≡ Some (head_tree name picture start whole)
+head_read name picture start whole =
+    let names = reads_array 0 (map text picture.points) (texts_read picture.points) in
+    let d = head_tree name picture start whole in
     let a = names.shallow in
     read_line d (tt, (tt, (tt, (tt, (names.small, ((tt, (tt, tt)), (tt, (tt, (tt, (tt, tt)))))))))) (omega arith) (rw names.same refl)

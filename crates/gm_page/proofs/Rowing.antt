@@ -1,12 +1,14 @@
 -- Rows: moves in groups, one group after the other, and rows one by one.
 use Rattle.gm_page.proofs.Lower.{◌≡◌, ℕ, zero, suc, ◌+◌, ◌<◌, ◌≤◌, Bool, false, List, [], ◌∷◌, ◌++◌, length, map, take, drop, get_or, slice_get, Option, None}
 use Rattle.gm_page.proofs.Lower.{Some, refl, sym, ap, subst, ◌∙◌, arith, All, flat_map, flat_map-append, append_assoc, append-nil, map-append, take_more}
-use Rattle.gm_page.proofs.Lower.{take_all, Data, items_of, has_float, Position, Solved, Rules, MoveValue, text, Style, head_tree, place_of, Group, AreGroups}
+use Rattle.gm_page.proofs.Lower.{take_all, Data, items_of, has_float, Position, Solved, Rules, MoveValue, text, PictureSpec, head_tree, place_of, Group, AreGroups}
 use Rattle.gm_page.proofs.Lower.{IsRow, place_cells, move_cells, group_tree, row_tree}
 use Rattle.std.specs.Prelude.{IfSome, unwrap_or}
+use Rattle.std.specs.Borrow.{Bor}
 use Rattle.std.proofs.lemmas.Bool.{or_parts}
 use Rattle.std.proofs.lemmas.List.{take-append-drop}
 use Rattle.serde_json.specs.Written.{items_have_float}
+use Rattle.gm_draw.specs.Pictures.{texts}
 use Rattle.gm_page.specs.Rows.{IsRun, AreRows}
 
 -- ---- groups
@@ -105,9 +107,9 @@ texts_without : (ts : List (List ℕ)) → items_have_float (items_of (map text 
 texts_without [] = refl
 texts_without (t ∷ ts) = texts_without ts
 
-pub head_without : (name : List ℕ) (style : Style) (title board : List ℕ) (points : List (List ℕ)) (naming start : List ℕ) (whole : Bool) → has_float
-    (head_tree name style title board points naming start whole) ≡ false
-head_without name style title board points naming start whole = rw (texts_without points) refl
+pub head_without : (name : List ℕ) (picture : PictureSpec) (start : List ℕ) (whole : Bool) → has_float
+    (head_tree name picture start whole) ≡ false
+head_without name picture start whole = rw (texts_without picture.points) refl
 
 -- ---- lists that grow by one element
 -- the trees of some things, and of one more
@@ -123,6 +125,21 @@ trees_more {X} cells xs i d base old new l o n =
 pub trees_all : {X : Type 0} (cells : X → List Data) (xs : List X) (i : ℕ) (base old : List Data) → length xs ≤ i → old ≡ base ++ flat_map cells (take i xs)
     → old ≡ base ++ flat_map cells xs
 trees_all cells xs i base old l o = o ∙ ap (λ t. base ++ flat_map cells t) (take_all i xs l)
+
+-- the names of points, and of one more
+pub names_more : (points : List (Bor (List ℕ))) (i : ℕ) (d : Bor (List ℕ)) (old new : List Data) → i < length points → old ≡ map text (texts (take i points))
+    → new ≡ old ++ text (get_or points i d).now ∷ [] → new ≡ map text (texts (take (i + 1) points))
+names_more points i d old new l e n =
+    let x = get_or points i d in
+    let more : map text (texts (take (i + 1) points)) ≡ map text (texts (take i points)) ++ text x.now ∷ [] = ap
+    (λ (ps : List (Bor (List ℕ))). map text (texts ps)) (take_more points i d l)
+    ∙ ap (map text) (map-append (λ (t : Bor (List ℕ)). t.now) (take i points) (x ∷ []))
+    ∙ map-append text (texts (take i points)) (x.now ∷ []) in
+    n ∙ ap (λ (t : List Data). t ++ text x.now ∷ []) e ∙ sym more
+
+pub names_all : (points : List (Bor (List ℕ))) (i : ℕ) (old : List Data) → length points ≤ i → old ≡ map text (texts (take i points))
+    → old ≡ map text (texts points)
+names_all points i old l e = e ∙ ap (λ (ps : List (Bor (List ℕ))). map text (texts ps)) (take_all i points l)
 
 -- ---- rows
 module _ (r : Rules) (shown : Position → List ℕ) (move_shown : Position → ℕ → List ℕ) (all : List Position) where

@@ -1,6 +1,6 @@
 -- Sheets: entries one by one, and solutions move by move.
 use Rattle.gm_page.proofs.Lower.{◌≡◌, ℕ, ◌+◌, ◌<◌, ◌≤◌, true, false, List, [], ◌∷◌, ◌++◌, length, take, get_or, refl, sym, ap, subst, ◌∙◌, arith, codes}
-use Rattle.gm_page.proofs.Lower.{flat_map, flat_map-append, append_assoc, append-nil, take_more, take_all, Position, Rules, Found, Style, Entry, entry_text}
+use Rattle.gm_page.proofs.Lower.{flat_map, flat_map-append, append_assoc, append-nil, take_more, take_all, Position, Rules, Found, PictureSpec, Entry, entry_text}
 use Rattle.gm_page.proofs.Lower.{answer_text, IsEntry, AreEntries, steps_text}
 use Rattle.std.proofs.Common.{Result, Ok, Err}
 use Rattle.std.specs.Prelude.{OnOk}
@@ -29,10 +29,9 @@ pub both_parts : {X E : Type 0} → (m : Result (Unit {0}) E) (P A B : X → Typ
 both_parts (Ok u) P A B x p a b = (x, p, a, b)
 both_parts (Err e) P A B x p a b = tt
 
-module _ (r : Rules) (shown : Position → List ℕ) (move_shown : Position → ℕ → List ℕ) (drawn mover : Position → List ℕ) (style : Style)
-    (title board : List ℕ) where
+module _ (r : Rules) (shown : Position → List ℕ) (move_shown : Position → ℕ → List ℕ) (picture : PictureSpec) where
   abbrev All : List Found → List Entry → Type 0
-  All = AreEntries r shown move_shown drawn mover style title board
+  All = AreEntries r shown move_shown picture
 
   two_lists : (xs ys : List Found) (ds es : List Entry) → All xs ds → All ys es → All (xs ++ ys) (ds ++ es)
   two_lists [] ys [] es h k = k
@@ -58,7 +57,7 @@ module _ (r : Rules) (shown : Position → List ℕ) (move_shown : Position → 
 
   pub more_entries : (xs : List Found) (i : ℕ) (d : Found) (old now new old_answers answers more : List ℕ) → i < length xs → HasEntries (take i xs) old now
       old_answers answers
-      → ((e : Entry) × IsEntry r shown move_shown drawn mover style title board (get_or xs i d) e × (new ≡ now ++ entry_text e) ×
+      → ((e : Entry) × IsEntry r shown move_shown picture (get_or xs i d) e × (new ≡ now ++ entry_text e) ×
       (more ≡ answers ++ answer_text e))
       → HasEntries (take (i + 1) xs) old new old_answers more
   more_entries xs i d old now new old_answers answers more l h (e, is, n, m) = record {

@@ -1,8 +1,9 @@
 -- The first line of a page, which describes the game.
 use Rattle.std.specs.Prelude.{ℕ, Bool, true, false, List, [], ◌∷◌, ◌==◌, map, codes}
-use Rattle.gm_page.specs.Lower.{Data, string, array, object, items_of, text, Style}
+use Rattle.gm_page.specs.Lower.{Data, string, array, object, items_of, text, PictureSpec}
 use Rattle.std.specs.List.{before_first}
 use Rattle.serde_json.specs.Data.{Members, boolean, member, no_members}
+use Rattle.gm_draw.specs.declared.pictured.Style.{Style}
 use Rattle.gm_draw.specs.declared.pictured.Style.TheVariants.{Row, Crosses, Counters, Stones, Discs, Letters, Chess, Hounds}
 
 -- the bytes of a position's text that are men; on a board of chess the last is that of the second side, and the others are of the first
@@ -57,16 +58,16 @@ name_text bs = before_first (λ b. b == 0) bs
 
 -- the board, the names of the points and the other members that a page shows, the text of the position that it begins with, and whether it has every position
 -- that play reaches; the members are in alphabetical order
-abbrev pub head_members : List ℕ → Style → List ℕ → List ℕ → List (List ℕ) → List ℕ → List ℕ → Bool → Members
-head_members name style title board points naming start whole =
-    member (codes "board") (text board)
+abbrev pub head_members : List ℕ → PictureSpec → List ℕ → Bool → Members
+head_members name picture start whole =
+    member (codes "board") (text picture.board)
     (member (codes "game") (text (name_text name))
-    (member (codes "men") (string (men_of style))
-    (member (codes "naming") (text naming)
-    (member (codes "points") (array (items_of (map text points)))
-    (member (codes "sides") (sides_tree style)
+    (member (codes "men") (string (men_of picture.style))
+    (member (codes "naming") (text picture.naming)
+    (member (codes "points") (array (items_of (map text picture.points)))
+    (member (codes "sides") (sides_tree picture.style)
     (member (codes "start") (text start)
-    (member (codes "swap") (boolean (swaps style)) (member (codes "title") (text title) (member (codes "whole") (boolean whole) no_members)))))))))
+    (member (codes "swap") (boolean (swaps picture.style)) (member (codes "title") (text picture.title) (member (codes "whole") (boolean whole) no_members)))))))))
 
-abbrev pub head_tree : List ℕ → Style → List ℕ → List ℕ → List (List ℕ) → List ℕ → List ℕ → Bool → Data
-head_tree name style title board points naming start whole = object (head_members name style title board points naming start whole)
+abbrev pub head_tree : List ℕ → PictureSpec → List ℕ → Bool → Data
+head_tree name picture start whole = object (head_members name picture start whole)

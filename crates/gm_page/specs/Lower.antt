@@ -1,6 +1,6 @@
 -- Words of std and of the crates below that contracts and definitions here use.
 pub use Rattle.gm_draw.specs.Diagrams.{escaped}
-pub use Rattle.gm_draw.specs.declared.pictured.Style.{Style}
+pub use Rattle.gm_draw.specs.Pictures.{PictureSpec}
 pub use Rattle.gm_find.specs.Founds.{IsFound}
 pub use Rattle.gm_game.specs.Rules.{Rules}
 pub use Rattle.gm_game.specs.declared.position.Position.{Position}

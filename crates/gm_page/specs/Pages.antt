@@ -1,6 +1,6 @@
 -- Pages: the viewer with its lines of data, and the engine's text, between its parts.
 use Rattle.std.specs.Prelude.{◌≡◌, ◌↔◌, ℕ, Bool, false, List, ◌++◌, IsTrue}
-use Rattle.gm_page.specs.Lower.{flat_map, Data, Position, Rules, Style}
+use Rattle.gm_page.specs.Lower.{flat_map, Data, Position, Rules, PictureSpec}
 use Rattle.gm_play.specs.PlayTexts.{IsReadAs}
 use Rattle.gm_page.specs.declared.front.TheConstants.{OPENING, STYLE, PARTS}
 use Rattle.gm_page.specs.declared.engine.TheConstants.{BETWEEN}
@@ -31,11 +31,10 @@ abbrev pub with_viewer : List ℕ → List ℕ → List ℕ
 with_viewer lines digits = page_front ++ lines ++ page_back digits
 
 -- the line of a game in the page of all games
-abbrev pub game_tree : Rules → (Position → List ℕ) → Style → List ℕ → List ℕ → List (List ℕ) → List ℕ → Data
-game_tree r shown style title board points naming = head_tree r.name style title board points naming (shown r.initial) false
+abbrev pub game_tree : Rules → (Position → List ℕ) → PictureSpec → Data
+game_tree r shown picture = head_tree r.name picture (shown r.initial) false
 
-module _ (r : Rules) (shown : Position → List ℕ) (move_shown : Position → ℕ → List ℕ) (style : Style) (title board : List ℕ) (points : List (List ℕ))
-    (naming : List ℕ) where
+module _ (r : Rules) (shown : Position → List ℕ) (move_shown : Position → ℕ → List ℕ) (picture : PictureSpec) where
   -- the page of these positions with an engine of these digits, which may be none: a line that describes the game and the page, and then the rows of the
   -- positions
   pub record IsListedPage (start : List ℕ) (all : List Position) (digits out : List ℕ) : Type 0 where
@@ -43,7 +42,7 @@ module _ (r : Rules) (shown : Position → List ℕ) (move_shown : Position → 
     pub is_whole : IsTrue whole ↔ IsClosed r all
     pub rows : List Data
     pub are_rows : AreRows r shown move_shown all all rows
-    pub out_is : out ≡ with_viewer (script_lines (head_tree r.name style title board points naming start whole) rows) digits
+    pub out_is : out ≡ with_viewer (script_lines (head_tree r.name picture start whole) rows) digits
 
   -- the page of the position with this text, with an engine of these digits
   pub record IsPage (asked : List ℕ) (limit : ℕ) (digits out : List ℕ) : Type 0 where

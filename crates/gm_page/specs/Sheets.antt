@@ -1,6 +1,6 @@
 -- Sheets: diagrams of found positions, with their solutions.
 use Rattle.std.specs.Prelude.{◌≡◌, ◌==◌, ℕ, Bool, true, List, [], ◌∷◌, ◌++◌, codes, if◌then◌else◌, Option, None, Some}
-use Rattle.gm_page.specs.Lower.{Contains, flat_map, Position, Rules, BestLine, IsBestLine, IsFound, Style, escaped}
+use Rattle.gm_page.specs.Lower.{Contains, flat_map, Position, Rules, BestLine, IsBestLine, IsFound, PictureSpec, escaped}
 use Rattle.std.specs.Fmt.{decimal}
 use Rattle.gm_table.specs.Tables.{TableData}
 use Rattle.gm_play.specs.declared.best_line.LineEnd.{LineEnd}
@@ -77,12 +77,11 @@ lists entries answers = entries ++ SHEET_SOLUTIONS.now ++ answers ++ SHEET_BACK.
 abbrev pub sheet_of : List ℕ → List Entry → List ℕ
 sheet_of title es = heading title ++ lists (flat_map entry_text es) (flat_map answer_text es)
 
-module _ (r : Rules) (shown : Position → List ℕ) (move_shown : Position → ℕ → List ℕ) (drawn mover : Position → List ℕ) (style : Style)
-    (title board : List ℕ) where
+module _ (r : Rules) (shown : Position → List ℕ) (move_shown : Position → ℕ → List ℕ) (picture : PictureSpec) where
   -- the entry of a found position: its text, the diagram of it with its value, and its solution
   pub record IsEntry (x : Found) (e : Entry) : Type 0 where
     pub text : e.text ≡ shown x.position
-    pub diagram : IsDiagram r shown move_shown drawn mover style title board true (shown x.position) e.diagram
+    pub diagram : IsDiagram r shown move_shown picture true (shown x.position) e.diagram
     pub solution : IsSolution r move_shown x e.solution
 
   -- the entries of these positions, in their order
@@ -98,7 +97,7 @@ module _ (r : Rules) (shown : Position → List ℕ) (move_shown : Position → 
     pub are_found : AreChosen r q reached choice tiers found
     pub entries : List Entry
     pub are_entries : AreEntries found entries
-    pub out_is : out ≡ sheet_of title entries
+    pub out_is : out ≡ sheet_of picture.title entries
 
 -- ---- tables
 -- a found position whose tier has a table, as has each tier that is reached from it

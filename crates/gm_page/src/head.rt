@@ -1,9 +1,10 @@
 //! The first line of a page, which describes the game.
-ghost use Rattle.std.specs.Prelude.{◌≡◌, ◌==◌, ◌<◌, ◌++◌, ◌∷◌, [], length, map, IfOk, OnOk, IfSome, slice_index_or};
+ghost use Rattle.std.specs.Prelude.{◌≡◌, ◌==◌, ◌<◌, ◌++◌, ◌∷◌, [], length, map, IfOk, OnOk, IfSome};
 ghost use Rattle.gm_page.specs.Lower.{array, object, items_of, view, members_view, text};
 ghost use Rattle.std.specs.List.{position};
 ghost use Rattle.gm_page.specs.Heads.{head_tree, head_members, men_of, first_side, second_side, sides_tree, swaps as swaps_spec, name_text};
 ghost use Rattle.gm_page.specs.Scripts.{script_line};
+ghost use Rattle.gm_draw.specs.Pictures.{texts};
 
 use crate::words::{push_script_line, put_text, text_value, word_value};
 use gm_draw::pictured::{Pictured, Style};
@@ -19,14 +20,14 @@ pub(crate) fn push_head<G: Pictured>(
     whole: bool,
 ) -> Result<(), AllocError>
     ensures { OnOk result (page.new.items
-        ≡ page.old.items ++ script_line (head_tree G.Game.rules.name G.style G.title G.board G.points G.naming start.now whole)) }
+        ≡ page.old.items ++ script_line (head_tree G.Game.rules.name G.picture start.now whole)) }
 {
     let tree = head_value::<G>(alloc, start, whole)?;
     push_script_line(alloc, page, tree)
 }
 
 fn head_value<G: Pictured>(alloc: Global, start: &[u8], whole: bool) -> Result<Json, AllocError>
-    ensures { IfOk result (λ v. view v ≡ head_tree G.Game.rules.name G.style G.title G.board G.points G.naming start.now whole) }
+    ensures { IfOk result (λ v. view v ≡ head_tree G.Game.rules.name G.picture start.now whole) }
 {
     let mut members = Map::new(alloc);
     put_head::<G>(alloc, &mut members, start, whole)?;
@@ -42,18 +43,24 @@ fn put_head<G: Pictured>(
 ) -> Result<(), AllocError>
     requires { members.old.entries ≡ [] }
     ensures { OnOk result (members_view members.new.entries
-        ≡ head_members G.Game.rules.name G.style G.title G.board G.points G.naming start.now whole) }
+        ≡ head_members G.Game.rules.name G.picture start.now whole) }
 {
-    let style = G::style();
-    put_text(alloc, members, "board", G::board())?;
+    let picture = G::picture();
+    let style = picture.style;
+    put_text(alloc, members, "board", picture.board)?;
     put(members, alloc, "game", name_value(alloc, &G::name())?)?;
     put(members, alloc, "men", word_value(alloc, men(style))?)?;
-    put_text(alloc, members, "naming", G::naming())?;
-    put(members, alloc, "points", points_value::<G>(alloc)?)?;
+    put_text(alloc, members, "naming", picture.naming)?;
+    put(
+        members,
+        alloc,
+        "points",
+        points_value(alloc, picture.points)?,
+    )?;
     put(members, alloc, "sides", sides_value(alloc, style)?)?;
     put_text(alloc, members, "start", start)?;
     put(members, alloc, "swap", Json::Bool(swaps(style)))?;
-    put_text(alloc, members, "title", G::title().as_slice())?;
+    put_text(alloc, members, "title", picture.title)?;
     put(members, alloc, "whole", Json::Bool(whole))
 }
 
@@ -73,23 +80,23 @@ fn first_zero(name: &[u8]) -> Option<usize>
     name.iter().position(|byte| *byte == 0)
 }
 
-// Returns the names of the points.
-fn points_value<G: Pictured>(alloc: Global) -> Result<Json, AllocError>
-    ensures { IfOk result (λ v. view v ≡ array (items_of (map text G.points))) }
+// Returns the names of points.
+#[tactic(auto, using(crate::proofs::Rowing::names_all))]
+fn points_value(alloc: Global, points: &[&[u8]]) -> Result<Json, AllocError>
+    ensures { IfOk result (λ v. view v ≡ array (items_of (map text (texts points.now)))) }
 {
     let mut cells = Vec::new(alloc);
-    for k in 0..G::points() {
-        push_point::<G>(alloc, &mut cells, k)?;
+    for point in points {
+        push_point(alloc, &mut cells, point)?;
     }
     Ok(Json::Array(cells))
 }
 
 // Appends the name of a point.
-fn push_point<G: Pictured>(alloc: Global, cells: &mut Vec<Json>, k: usize) -> Result<(), AllocError>
-    requires { k < length G.points }
-    ensures { OnOk result (map view cells.new.items ≡ map view cells.old.items ++ text (slice_index_or G.points k []) ∷ []) }
+fn push_point(alloc: Global, cells: &mut Vec<Json>, point: &[u8]) -> Result<(), AllocError>
+    ensures { OnOk result (map view cells.new.items ≡ map view cells.old.items ++ text point.now ∷ []) }
 {
-    push(cells, text_value(alloc, G::point(k).as_slice())?)
+    push(cells, text_value(alloc, point)?)
 }
 
 // Returns the names of the two sides.

@@ -35,7 +35,7 @@ pub fn page_text<G: Pictured>(
     digits: &[u8],
 ) -> Result<Vec<u8>, AllocError>
     requires { 1 ≤ limit }
-    ensures { IfOk result (λ v. IsPage G.Game.rules G.shown G.move_shown G.style G.title G.board G.points G.naming (G.shown start.now.position)
+    ensures { IfOk result (λ v. IsPage G.Game.rules G.shown G.move_shown G.picture (G.shown start.now.position)
         limit digits.now v.items) }
 {
     let list = listing_of(alloc, start, limit)?;
@@ -52,7 +52,7 @@ fn page_of_listing<G: Pictured>(
     digits: &[u8],
 ) -> Result<Vec<u8>, AllocError>
     requires { All (IsReached G.Game.rules start.now.position.tier) list.now }
-    ensures { IfOk result (λ v. IsListedPage G.Game.rules G.shown G.move_shown G.style G.title G.board G.points G.naming
+    ensures { IfOk result (λ v. IsListedPage G.Game.rules G.shown G.move_shown G.picture
         (G.shown start.now.position) list.now digits.now v.items) }
 {
     let mut page = Vec::new(alloc);
@@ -75,7 +75,7 @@ fn push_page<G: Pictured>(
 ) -> Result<(), AllocError>
     requires reached { All (IsReached G.Game.rules start.now.position.tier) list.now }
     requires empty { page.old.items ≡ [] }
-    ensures { OnOk result (IsListedPage G.Game.rules G.shown G.move_shown G.style G.title G.board G.points G.naming
+    ensures { OnOk result (IsListedPage G.Game.rules G.shown G.move_shown G.picture
         (G.shown start.now.position) list.now digits.now page.new.items) }
 {
     let whole = is_whole::<G>(list);
@@ -98,7 +98,7 @@ pub fn push_front(page: &mut Vec<u8>) -> Result<(), AllocError>
 /// Appends the line of a game in the page of all games.
 pub fn push_game<G: Pictured>(alloc: Global, page: &mut Vec<u8>) -> Result<(), AllocError>
     ensures { OnOk result (page.new.items
-        ≡ page.old.items ++ script_line (game_tree G.Game.rules G.shown G.style G.title G.board G.points G.naming)) }
+        ≡ page.old.items ++ script_line (game_tree G.Game.rules G.shown G.picture)) }
 {
     laws::<G>();
     push_head::<G>(alloc, page, G::show(G::initial()).as_slice(), false)
@@ -122,7 +122,7 @@ pub fn push_back(page: &mut Vec<u8>, digits: &[u8]) -> Result<(), AllocError>
 /// that it was written from.
 pub fn lines_are_read<G: Pictured>(list: &[Position], start: &[u8], whole: bool)
     ensures closed { (head : Data) (rows : List Data) → list_all opens_none (script_lines head rows) ≡ true }
-    ensures head { IsReadBack (head_tree G.Game.rules.name G.style G.title G.board G.points G.naming start.now whole) }
+    ensures head { IsReadBack (head_tree G.Game.rules.name G.picture start.now whole) }
     ensures rows { length list.now < 2 ^ 64 → (p : Position) (s : Solved) (groups : List Group)
         → IsReadBack (row_tree G.shown G.move_shown list.now p s groups) }
 {}

@@ -29,7 +29,7 @@ pub fn sheet_text<G: Pictured>(
     reached: Option<&Reached<G>>,
     choice: Choice,
 ) -> Result<Vec<u8>, AllocError>
-    ensures { IfOk result (λ v. IsSheet G.Game.rules G.shown G.move_shown G.drawn G.mover G.style G.title G.board sought (is_some reached.entry) choice
+    ensures { IfOk result (λ v. IsSheet G.Game.rules G.shown G.move_shown G.picture sought (is_some reached.entry) choice
         known.now.tiers.now v.items) }
 {
     let found = find_some(alloc, known, sought, reached, choice)?;
@@ -44,7 +44,7 @@ fn sheet_of_found<G: Pictured>(
 ) -> Result<Vec<u8>, AllocError>
     requires { All (IsKnownAt G.Game.rules tables.now) found.now }
     ensures { IfOk result (λ v. (es : List Entry)
-        × AreEntries G.Game.rules G.shown G.move_shown G.drawn G.mover G.style G.title G.board found.now es × (v.items ≡ sheet_of G.title es)) }
+        × AreEntries G.Game.rules G.shown G.move_shown G.picture found.now es × (v.items ≡ sheet_of G.picture.title es)) }
 {
     let mut entries = Vec::new(alloc);
     let mut answers = Vec::new(alloc);
@@ -61,7 +61,7 @@ fn push_entries<G: Pictured>(
     answers: &mut Vec<u8>,
 ) -> Result<(), AllocError>
     requires { All (IsKnownAt G.Game.rules tables.now) found.now }
-    ensures { OnOk result ((es : List Entry) × AreEntries G.Game.rules G.shown G.move_shown G.drawn G.mover G.style G.title G.board found.now es
+    ensures { OnOk result ((es : List Entry) × AreEntries G.Game.rules G.shown G.move_shown G.picture found.now es
         × (entries.new.items ≡ entries.old.items ++ flat_map entry_text es) × (answers.new.items ≡ answers.old.items ++ flat_map answer_text es)) }
 {
     for x in found {
@@ -79,7 +79,7 @@ fn push_entry<G: Pictured>(
     answers: &mut Vec<u8>,
 ) -> Result<(), AllocError>
     requires { IsKnownAt G.Game.rules tables.now x }
-    ensures { OnOk result ((e : Entry) × IsEntry G.Game.rules G.shown G.move_shown G.drawn G.mover G.style G.title G.board x e
+    ensures { OnOk result ((e : Entry) × IsEntry G.Game.rules G.shown G.move_shown G.picture x e
         × (entries.new.items ≡ entries.old.items ++ entry_text e) × (answers.new.items ≡ answers.old.items ++ answer_text e)) }
 {
     let known = Known {
@@ -152,10 +152,10 @@ fn sheet_with<G: Pictured>(
     entries: &[u8],
     answers: &[u8],
 ) -> Result<Vec<u8>, AllocError>
-    ensures { IfOk result (λ v. v.items ≡ heading G.title ++ lists entries.now answers.now) }
+    ensures { IfOk result (λ v. v.items ≡ heading G.picture.title ++ lists entries.now answers.now) }
 {
     let mut sheet = Vec::new(alloc);
-    push_heading(&mut sheet, G::title().as_slice())?;
+    push_heading(&mut sheet, G::picture().title)?;
     push_lists(&mut sheet, entries, answers)?;
     Ok(sheet)
 }

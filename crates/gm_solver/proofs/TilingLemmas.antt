@@ -1,14 +1,14 @@
 -- Four tiles of a tier: every index is in one, and what is known of each is known of the tier.
 use Rattle.std.proofs.Common.{◌≡◌, ℕ, zero, suc, ◌+◌, ◌*◌, ◌<◌, ◌≤◌, inl, inr, min, List, [], ◌++◌, length, replicate, Option, Some, slice_get, sym}
-use Rattle.std.proofs.Common.{ap, subst, ◌∙◌, arith}
-use Rattle.gm_solver.proofs.Lower.{cases_lt, length-replicate, REMOTENESS, Position, Phase, WinLose, Place, Solved, Rules, IsTrueTable, StandsBefore}
+use Rattle.std.proofs.Common.{ap, ap₂, subst, ◌∙◌, refl, arith}
+use Rattle.gm_solver.proofs.Lower.{cases_lt, length-replicate, REMOTENESS, Position, Phase, Ties, WinLose, Place, Solved, Rules, IsTrueTable, StandsBefore}
 use Rattle.gm_solver.proofs.Lower.{IsPairInto, IsNumberBefore, ShardState, pairs_in, first_state, IsGood, place_of, ArePart, Spot, spot_of, choose, HasNoneHere}
 use Rattle.gm_solver.proofs.Lower.{IsCovered, tile_at, AreShardsAt}
-use Rattle.std.proofs.lemmas.List.{length-append}
+use Rattle.std.proofs.lemmas.List.{append_assoc, length-append}
 use Rattle.gm_frontier.specs.Levels.{place_at}
 use Rattle.gm_shard.proofs.CloseLemmas.{number_before}
 use Rattle.gm_locks.specs.declared.board.Four.{Four}
-use Rattle.gm_solver.specs.Tiling.{IsWide, AreGood, HaveNoneHere}
+use Rattle.gm_solver.specs.Tiling.{IsWide, AreGood, HaveNoneHere, IsEnded, AreRecordsOf}
 use Rattle.gm_solver.proofs.Deliveries.{there_sum}
 use Rattle.gm_solver.proofs.Parts.{part_more, part_whole}
 
@@ -153,6 +153,30 @@ four_parts r place width wide shards are none one two three four empty a b c d =
   where
     no_item : (k : ℕ) (o : Option Solved) → slice_get {X = Option Solved} [] k ≡ Some o → ⊥
     no_item k o e = absurd (cc)
+
+-- so are those of the two halves
+pub four_halves : (r : Rules) (place : Place) (width : ℕ) → IsWide r place.tier width → (shards : Four ShardState) → AreShardsAt r place width shards
+    → (low high all : List (Option Solved)) → AreRecordsOf r shards.a shards.b low → AreRecordsOf r shards.c shards.d high → all ≡ low ++ high
+    → IsTrueTable r REMOTENESS place.tier all
+four_halves r place width wide shards are low high all l h e =
+    let three = (l.first ++ l.second) ++ h.first in
+    four_parts r place width wide shards are [] l.first (l.first ++ l.second) three all refl
+    (l.first, refl, l.first_is.long, l.first_is.are_true)
+    (l.second, refl, l.second_is.long, l.second_is.are_true)
+    (h.first, refl, h.first_is.long, h.first_is.are_true) (
+      h.second,
+      e ∙ ap₂ (λ (a b : List (Option Solved)). a ++ b) l.both h.both ∙ sym (append_assoc (l.first ++ l.second) h.first h.second),
+      h.second_is.long,
+      h.second_is.are_true,
+    )
+
+-- a tile of a tier at whose place nothing is left to settle
+pub ended_at : (r : Rules) (place : Place) (width k : ℕ) (s : ShardState) → spot_of s ≡ tile_at r place width k
+    → (last : Place) → last ≡ place → place.phase ≡ Ties → IsEnded s last
+ended_at r place width k s is last at ties = record {
+  last_is = at ∙ sym (spot_place r place width k s is);
+  ties = ap (λ (x : Spot). x.phase) is ∙ ties;
+}
 
 -- a shard of a tile before the first level
 pub begun_at : (r : Rules) (tier width k lo n : ℕ) (s : ShardState) → s ≡ first_state tier lo n → lo ≡ min (k * width) (r.tier_size tier)

@@ -17,7 +17,7 @@ pub fn starts<G: Game>(alloc: Global, tier: u64, lo: u64, hi: u64) -> Result<Vec
     ensures length { IfOk result (λ list. length list.items ≡ hi - lo) }
     ensures starts { IfOk result (λ list. AreStarts G.rules tier lo list.items) }
 {
-    let mut list = Vec::new(alloc);
+    let mut list = Vec::with_capacity(alloc, (hi - lo) as usize)?;
     for index in lo..hi {
         list.push(start::<G>(Position { tier, index }))?;
     }

@@ -1,13 +1,13 @@
 //! The tiles of a tier, each with a shard.
-ghost use Rattle.std.specs.Prelude.{ℕ, ◌≡◌, ◌+◌, ◌-◌, ◌<◌, ◌≤◌, length, max, IfOk, IfErr, OnOk};
-ghost use Rattle.gm_solver.specs.Lower.{div_ceil, WinLose, IsTrueTable, place_at, AreStarts, place_of, AreHeld, IsTable, IsTooFar, AreDeliveries, spot_of};
-ghost use Rattle.gm_solver.specs.Lower.{HasNoneHere};
+ghost use Rattle.std.specs.Prelude.{ℕ, ◌≡◌, ◌+◌, ◌-◌, ◌<◌, ◌≤◌, ◌++◌, List, Option, length, max, IfOk, IfErr, OnOk};
+ghost use Rattle.gm_game.specs.declared.position.Solved.{Solved as SolvedData};
+ghost use Rattle.gm_solver.specs.Lower.{div_ceil, WinLose, IsTrueTable, place_at, AreStarts, place_of, AreHeld, IsTable, IsTooFar, AreDeliveries, spot_of, TIER_SIZE};
 ghost use Rattle.gm_game.specs.declared.position.Phase.TheVariants.{Ties};
 ghost use Rattle.gm_frontier.specs.Counts.{IsNumberBefore};
 ghost use Rattle.gm_shard.specs.Steps.{CanTurn};
 ghost use Rattle.gm_game.specs.Places.{IsLastLevel};
 ghost use Rattle.gm_solver.specs.Solving.{IsError};
-ghost use Rattle.gm_solver.specs.Tiling.{IsWide, AreShardsAt, HaveNoneHere, AreGood, AreTwo, AreWhole, tile_at, next_place};
+ghost use Rattle.gm_solver.specs.Tiling.{IsWide, AreShardsAt, HaveNoneHere, AreGood, IsTile, AreTwo, AreWhole, IsEnded, AreAllOf, AreRecordsOf, next_place};
 
 use crate::context::SolveContext;
 use crate::error::SolveError;
@@ -76,8 +76,7 @@ fn begin_tile<G: Game>(
     requires small { G.rules.tier_size tier ≤ TIER_SIZE }
     requires wide { IsWide G.rules tier width }
     requires tile { k < 4 }
-    ensures shard { IfOk result (λ shard. spot_of shard ≡ tile_at G.rules (place_at tier WinLose 0) width k) }
-    ensures none { IfOk result (HasNoneHere G.rules) }
+    ensures { IfOk result (IsTile G.rules tier width k) }
 {
     let size = G::tier_size(tier);
     let lo = (k * width).min(size);
@@ -103,7 +102,45 @@ fn begin_two<G: Game>(alloc: Global, tier: u64, width: u64, k: u64, starts: &[St
     Ok((low, high))
 }
 
-// Makes the shards of all four tiles, by two threads with two tiles each.
+// Makes the shards of tiles k and k + 1, by two threads.
+fn begin_two_by<G: Game + Send + Sync, R: Threads + Sync>(
+    rt: &R,
+    alloc: Global,
+    tier: u64,
+    width: u64,
+    k: u64,
+    starts: &[Start],
+) -> Two<G>
+    requires starts { AreStarts G.rules tier 0 starts.now }
+    requires whole { length starts.now ≡ G.rules.tier_size tier }
+    requires small { G.rules.tier_size tier ≤ TIER_SIZE }
+    requires wide { IsWide G.rules tier width }
+    requires tiles { k < 3 }
+    ensures { IfOk result (λ two. AreTwo G.rules tier width k two.0 two.1) }
+{
+    let (low, high) = join(
+        rt,
+        || -> Result<OrderedShard<G>, AllocError>
+            requires { AreStarts G.rules tier 0 starts.now × (length starts.now ≡ G.rules.tier_size tier)
+                × (G.rules.tier_size tier ≤ TIER_SIZE) × IsWide G.rules tier width × (k < 3) }
+            ensures { IfOk result (IsTile G.rules tier width k) }
+        { begin_tile(alloc, tier, width, k, starts) },
+        || -> Result<OrderedShard<G>, AllocError>
+            requires { AreStarts G.rules tier 0 starts.now × (length starts.now ≡ G.rules.tier_size tier)
+                × (G.rules.tier_size tier ≤ TIER_SIZE) × IsWide G.rules tier width × (k < 3) }
+            ensures { IfOk result (IsTile G.rules tier width (k + 1)) }
+        { begin_tile(alloc, tier, width, k + 1, starts) },
+    );
+    match (low, high) {
+        (Ok(low), Ok(high)) => Ok((low, high)),
+        (low, high) => {
+            drop((low, high));
+            Err(AllocError)
+        }
+    }
+}
+
+// Makes the shards of all four tiles, by four threads.
 fn begin_four<G: Game + Send + Sync, R: Threads + Sync>(
     rt: &R,
     alloc: Global,
@@ -124,12 +161,12 @@ fn begin_four<G: Game + Send + Sync, R: Threads + Sync>(
             requires { AreStarts G.rules tier 0 starts.now × (length starts.now ≡ G.rules.tier_size tier)
                 × (G.rules.tier_size tier ≤ TIER_SIZE) × IsWide G.rules tier width }
             ensures { IfOk result (λ two. AreTwo G.rules tier width 0 two.0 two.1) }
-        { begin_two(alloc, tier, width, 0, starts) },
+        { begin_two_by(rt, alloc, tier, width, 0, starts) },
         || -> Two<G>
             requires { AreStarts G.rules tier 0 starts.now × (length starts.now ≡ G.rules.tier_size tier)
                 × (G.rules.tier_size tier ≤ TIER_SIZE) × IsWide G.rules tier width }
             ensures { IfOk result (λ two. AreTwo G.rules tier width 2 two.0 two.1) }
-        { begin_two(alloc, tier, width, 2, starts) },
+        { begin_two_by(rt, alloc, tier, width, 2, starts) },
     )
 }
 
@@ -175,7 +212,7 @@ pub(crate) fn begin_in_turn<G: Game>(
     tiles_of(tier, width, low, high)
 }
 
-/// Returns a tier before its first level: for several workers and many indexes the start values are found by threads, and two threads make two shards each.
+/// Returns a tier before its first level: for several workers and many indexes the start values are found by threads, and four threads make a shard each.
 pub(crate) fn begin_tiles<G: Game + Send + Sync, R: Threads + Sync>(
     rt: &R,
     alloc: Global,
@@ -194,6 +231,84 @@ pub(crate) fn begin_tiles<G: Game + Send + Sync, R: Threads + Sync>(
     let (low, high) = begin_four::<G, R>(rt, alloc, tier, width, starts.as_slice());
     drop(starts);
     tiles_of(tier, width, low, high)
+}
+
+// Returns the true records of a shard when nothing is left to settle, with room for this many.
+fn finish_one<G: Game>(
+    alloc: Global,
+    room: u64,
+    shard: OrderedShard<G>,
+    last: &Last<G>,
+) -> Result<Packed, AllocError>
+    requires { IsEnded shard last.now }
+    ensures { IfOk result (AreAllOf G.rules shard) }
+{
+    let mut records = Packed::with_capacity(alloc, room as usize)?;
+    shard.finish(last, &mut records)?;
+    Ok(records)
+}
+
+// Returns the true records of two shards when nothing is left to settle, made by two threads.
+fn finish_two<G: Game + Send + Sync, R: Threads + Sync>(
+    rt: &R,
+    alloc: Global,
+    room: u64,
+    low: OrderedShard<G>,
+    high: OrderedShard<G>,
+    last: &Last<G>,
+) -> Result<Packed, AllocError>
+    requires low { IsEnded low last.now }
+    requires high { IsEnded high last.now }
+    ensures { IfOk result (AreRecordsOf G.rules low high) }
+{
+    let (first, second) = join(
+        rt,
+        move || -> Result<Packed, AllocError>
+            requires { IsEnded low last.now }
+            ensures { IfOk result (AreAllOf G.rules low) }
+        { finish_one(alloc, room, low, last) },
+        move || -> Result<Packed, AllocError>
+            requires { IsEnded high last.now }
+            ensures { IfOk result (AreAllOf G.rules high) }
+        { finish_one(alloc, room, high, last) },
+    );
+    joined(first, second)
+}
+
+// Returns the records of both, one after the other.
+fn joined(
+    low: Result<Packed, AllocError>,
+    high: Result<Packed, AllocError>,
+) -> Result<Packed, AllocError>
+    ensures { IfOk result (λ all. (p : List (Option SolvedData)) × (q : List (Option SolvedData)) × (low ≡ Ok p) × (high ≡ Ok q) × (all ≡ p ++ q)) }
+{
+    let mut all = low?;
+    all.append(&high?)?;
+    Ok(all)
+}
+
+/// Returns the true table of a tier of its true records, and the number of all pairs whose child is no draw, when nothing is left to settle.
+pub(crate) fn table_of<G: Game>(
+    tier: u64,
+    tables: &Tables<G>,
+    last: &Last<G>,
+    records: Packed,
+    number: u64,
+) -> (Table<G>, u64)
+    requires held { AreHeld G.rules tables.now tier }
+    requires small { G.rules.tier_size tier ≤ TIER_SIZE }
+    requires tier_is { last.now.tier ≡ tier }
+    requires ties { last.now.phase ≡ Ties }
+    requires records { IsTrueTable G.rules REMOTENESS tier records }
+    requires number { IsNumberBefore G.rules last.now.tier 0 (G.rules.tier_size last.now.tier) last.now.phase last.now.level number }
+    ensures tier { result.0.tier ≡ tier }
+    ensures table { IsTable G.rules result.0 }
+    ensures deliveries { AreDeliveries G.rules tier result.1 }
+    ensures near { IsTooFar G.rules tier → ⊥ }
+{
+    let _end = last.place();
+    let _held = tables.has(tier);
+    (Table::from_packed(tier, records), number)
 }
 
 // Closes a level in all four shards, which have all of its pairs.
@@ -231,6 +346,16 @@ impl<G: Game> Tiles<G> {
         let _d = self.shards.d.range();
     }
 
+    // Shows that nothing is left to settle in any shard.
+    fn show_ended(&self, last: &Last<G>)
+        requires last { last.now ≡ place_of self.now.shards.a }
+        requires ties { self.now.shards.a.phase ≡ Ties }
+        ensures a { IsEnded self.now.shards.a last.now }
+        ensures b { IsEnded self.now.shards.b last.now }
+        ensures c { IsEnded self.now.shards.c last.now }
+        ensures d { IsEnded self.now.shards.d last.now }
+    {}
+
     /// Shows that the present level is within the limit, if something of its phase is left: the shards are good and the tables are true.
     pub(crate) fn show_near(&self, tables: &Tables<G>)
         requires held { AreHeld G.rules tables.now self.now.shards.a.tier }
@@ -253,8 +378,8 @@ impl<G: Game> Tiles<G> {
         self.shards.d.next_phase(last);
     }
 
-    // Returns the true records of the tier when nothing is left to settle.
-    fn records(&self, alloc: Global, last: &Last<G>) -> Result<Packed, AllocError>
+    /// Returns the true records of the tier when nothing is left to settle.
+    pub(crate) fn records(&self, alloc: Global, last: &Last<G>) -> Result<Packed, AllocError>
         requires last { last.now ≡ place_of self.now.shards.a }
         requires ties { self.now.shards.a.phase ≡ Ties }
         ensures { IfOk result (IsTrueTable G.rules REMOTENESS self.now.shards.a.tier) }
@@ -280,29 +405,6 @@ impl<G: Game> Tiles<G> {
             + self.shards.d.delivered()
     }
 
-    /// Returns the true table of the tier when nothing is left to settle, and the number of all pairs whose child is no draw.
-    pub(crate) fn table(
-        &self,
-        alloc: Global,
-        tables: &Tables<G>,
-        last: &Last<G>,
-    ) -> Result<(Table<G>, u64), AllocError>
-        requires held { AreHeld G.rules tables.now self.now.shards.a.tier }
-        requires small { G.rules.tier_size self.now.shards.a.tier ≤ TIER_SIZE }
-        requires last { last.now ≡ place_of self.now.shards.a }
-        requires ties { self.now.shards.a.phase ≡ Ties }
-        ensures tier { IfOk result (λ answer. answer.0.tier ≡ self.now.shards.a.tier) }
-        ensures table { IfOk result (λ answer. IsTable G.rules answer.0) }
-        ensures deliveries { IfOk result (λ answer. AreDeliveries G.rules self.now.shards.a.tier answer.1) }
-        ensures near { OnOk result (IsTooFar G.rules self.now.shards.a.tier → ⊥) }
-    {
-        let tier = self.shards.a.tier();
-        let _end = last.place();
-        let _held = tables.has(tier);
-        let records = self.records(alloc, last)?;
-        Ok((Table::from_packed(tier, records), self.number()))
-    }
-
     /// Delivers the pairs of a level in this thread, and closes it.
     pub(crate) fn run_in_order(self, level: &Level<G>) -> Result<Tiles<G>, SolveError>
         requires place { level.now.place ≡ place_of self.shards.a }
@@ -321,6 +423,39 @@ impl<G: Game> Tiles<G> {
 }
 
 impl<G: Game + Send + Sync> Tiles<G> {
+    /// Returns the true records of the tier when nothing is left to settle: for several workers and many indexes four threads make those of a tile each.
+    pub(crate) fn finish<R: Threads + Sync>(
+        self,
+        rt: &R,
+        alloc: Global,
+        last: &Last<G>,
+        workers: usize,
+    ) -> Result<Packed, AllocError>
+        requires last { last.now ≡ place_of self.shards.a }
+        requires ties { self.shards.a.phase ≡ Ties }
+        ensures { IfOk result (IsTrueTable G.rules REMOTENESS self.shards.a.tier) }
+    {
+        let size = G::tier_size(self.shards.a.tier());
+        if workers == 1 || size <= FEW {
+            return self.records(alloc, last);
+        }
+        self.show_ended(last);
+        let Tiles { shards, width: _ } = self;
+        let Four { a, b, c, d } = shards;
+        let (low, high) = join(
+            rt,
+            move || -> Result<Packed, AllocError>
+                requires { IsEnded a last.now × IsEnded b last.now }
+                ensures { IfOk result (AreRecordsOf G.rules a b) }
+            { finish_two(rt, alloc, size, a, b, last) },
+            move || -> Result<Packed, AllocError>
+                requires { IsEnded c last.now × IsEnded d last.now }
+                ensures { IfOk result (AreRecordsOf G.rules c d) }
+            { finish_two(rt, alloc, size, c, d, last) },
+        );
+        joined(low, high)
+    }
+
     /// Lets workers deliver the pairs of a level, and the coordinator the rest, and closes it. Returns the number of the workers' deliveries too.
     pub(crate) fn run<R: Threads + Wait + Sync, T: Gate, S: Source, O: Observer>(
         self,

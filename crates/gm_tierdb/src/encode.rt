@@ -5,7 +5,7 @@ ghost use Rattle.std.specs.Int.{to_le_bytes, w64};
 ghost use Rattle.gm_table.specs.RecordCodes.{record_bytes, IsStorable};
 ghost use Rattle.gm_tierdb.specs.TierText.{IsTierText, IsTierText1, IsVersionText, AreUpTo, IsFor};
 
-use crate::layout::{DIGEST_LEN, HEADER_LEN, RECORD_LEN};
+use crate::layout::{DIGEST_LEN, HEADER_LEN};
 use crate::magic::magic;
 use byteorder::{ByteOrder, LittleEndian};
 use gm_game::game::Game;
@@ -20,7 +20,19 @@ use std::alloc::{AllocError, Global};
 pub fn encode<G: Game>(alloc: Global, table: &Table<G>) -> Result<Vec<u8>, AllocError>
     ensures { IfOk result (λ file. IsTierText G.rules table.now.tier table.now.records file.items) }
 {
-    write_file(alloc, Version::Two, table)
+    encode_in(room_for(alloc, Version::Two, table)?, table)
+}
+
+/// Returns an empty list with room for the file of a table's tier.
+pub fn room<G: Game>(alloc: Global, table: &Table<G>) -> Result<Vec<u8>, AllocError> {
+    room_for(alloc, Version::Two, table)
+}
+
+/// Returns the file of a table's tier as `encode` does, in a list whose bytes it takes the place of. No more memory is needed if the list is that of `room`.
+pub fn encode_in<G: Game>(file: Vec<u8>, table: &Table<G>) -> Result<Vec<u8>, AllocError>
+    ensures { IfOk result (λ file. IsTierText G.rules table.now.tier table.now.records file.items) }
+{
+    write_file(file, Version::Two, table)
 }
 
 /// Returns the file of a table's tier in version 1: docs/FORMATS.md, "Version 1". It has 72 bytes and 2 for each index of the tier. No record of the table may
@@ -29,7 +41,7 @@ pub fn encode_v1<G: Game>(alloc: Global, table: &Table<G>) -> Result<Vec<u8>, Al
     requires { AreUpTo REMOTENESS_1 table.now.records }
     ensures { IfOk result (λ file. IsTierText1 G.rules table.now.tier table.now.records file.items) }
 {
-    write_file(alloc, Version::One, table)
+    write_file(room_for(alloc, Version::One, table)?, Version::One, table)
 }
 
 /// Returns whether a file of version 1 can have the records of a table: whether the `greatest` of both phases is at most 4,095.
@@ -49,9 +61,19 @@ fn is_within(greatest: Option<u32>) -> bool
     }
 }
 
-// Returns the file of a table's tier, in this version.
-fn write_file<G: Game>(
+// Returns an empty list with room for a file of this version.
+fn room_for<G: Game>(
     alloc: Global,
+    version: Version,
+    table: &Table<G>,
+) -> Result<Vec<u8>, AllocError> {
+    let records = version.record_len() * table.size() as usize;
+    Vec::with_capacity(alloc, HEADER_LEN + records + DIGEST_LEN)
+}
+
+// Returns the file of a table's tier in this version, in a list whose bytes it takes the place of.
+fn write_file<G: Game>(
+    mut file: Vec<u8>,
     version: Version,
     table: &Table<G>,
 ) -> Result<Vec<u8>, AllocError>
@@ -59,8 +81,7 @@ fn write_file<G: Game>(
     ensures { IfOk result (λ file. IsVersionText version G.rules table.now.tier table.now.records file.items) }
 {
     let size = table.size();
-    let room = HEADER_LEN + version.record_len() * size as usize + DIGEST_LEN;
-    let mut file = Vec::with_capacity(alloc, room)?;
+    file.clear();
     file.extend_from_slice(magic(version))?;
     file.extend_from_slice(&G::name())?;
     push_u64(&mut file, table.tier())?;
@@ -95,9 +116,11 @@ fn push_record(
     requires { IsStorable version entry }
     ensures { OnOk result (file.new.items ≡ file.old.items ++ record_bytes version entry) }
 {
-    let mut bytes = [0u8; RECORD_LEN];
-    LittleEndian::write_u32(&mut bytes, number_of(version, entry));
-    file.extend_from_slice(&bytes[..version.record_len()])
+    let number = number_of(version, entry);
+    match version {
+        Version::One => file.extend_from_slice(&(number as u16).to_le_bytes()),
+        Version::Two => file.extend_from_slice(&number.to_le_bytes()),
+    }
 }
 
 // Appends a number of eight bytes.

@@ -8,8 +8,11 @@ use gm_toys::countdown::Countdown;
 use std::alloc::Global;
 use std::process::Abort;
 
+/// A value with its remoteness.
+pub(crate) type Known = (Value, u32);
+
 /// The values of 0 to 10.
-pub(crate) const VALUES: [(Value, u32); 11] = [
+pub(crate) const VALUES: [Known; 11] = [
     (Value::Lose, 0),
     (Value::Win, 1),
     (Value::Win, 1),
@@ -23,24 +26,15 @@ pub(crate) const VALUES: [(Value, u32); 11] = [
     (Value::Win, 7),
 ];
 
-/// Returns this many of the first records.
-pub(crate) fn records(rt: &impl Abort, alloc: Global, number: usize) -> Vec<Option<Solved>> {
-    let mut records = Vec::new(alloc);
-    for (value, remoteness) in VALUES.get(..number).unwrap_or(&[]) {
-        let solved = Solved {
-            value: *value,
-            remoteness: *remoteness,
-        };
-        must(rt, records.push(Some(solved)));
-    }
-    records
+/// Returns the record of a value.
+pub(crate) fn record((value, remoteness): Known) -> Option<Solved> {
+    Some(Solved { value, remoteness })
 }
 
 /// Returns the table of Countdown from 10.
 pub(crate) fn countdown(rt: &impl Abort, alloc: Global) -> Table<Countdown<10>> {
-    let records = records(rt, alloc, 11);
     let tables: Tables<Countdown<10>> = Tables::new(alloc);
-    let table = check(alloc, 0, records.as_slice(), &tables);
-    drop((records, tables));
+    let table = check(alloc, 0, &VALUES.map(record), &tables);
+    drop(tables);
     must(rt, table)
 }

@@ -9,16 +9,6 @@ pub(crate) fn expect_eq<T: Debug + PartialEq + Drop>(rt: &impl Abort, found: T, 
     assert_eq!(rt; found, wanted);
 }
 
-/// Fails if one of many values is not the wanted one, and reports which one it is.
-pub(crate) fn expect_eq_at<T: Debug + PartialEq + Drop>(
-    rt: &impl Abort,
-    found: T,
-    wanted: T,
-    at: usize,
-) {
-    expect_eq(rt, (at, found), (at, wanted));
-}
-
 /// Fails if a condition is not true.
 pub(crate) fn expect(rt: &impl Abort, is_so: bool)
     ensures { IsTrue is_so }

@@ -1,18 +1,16 @@
 -- Drawings on the board of chess: what they have in common with their positions' texts.
 use Rattle.std.proofs.Common.{◌≡◌, ℕ, suc, ◌+◌, ◌-◌, ◌*◌, ◌/◌, ◌%◌, ◌<◌, ◌≤◌, Bool, true, false, ◌&&◌, if◌then◌else◌, eqb, eqb-true, ltb, ◌||◌, List, [], ◌∷◌, ◌++◌}
-use Rattle.std.proofs.Common.{map, length, get_or, refl, sym, ap, ap₂, subst, ◌∙◌, arith, inl, inr, zero-add}
+use Rattle.std.proofs.Common.{map, length, refl, sym, ap, ap₂, subst, ◌∙◌, arith, inl, inr}
 use Rattle.std.specs.List.{Contains, list_all, list_any, range_with_len}
 use Rattle.std.proofs.lemmas.Bool.{cases_Bool, true≢false}
 use Rattle.std.proofs.lemmas.Bool.Decides.{nat_tests}
 use Rattle.std.proofs.lemmas.List.{length-map}
-use Rattle.std.proofs.lemmas.List.FromFn.{length-range_with_len, get_or-map-range_with_len}
+use Rattle.std.proofs.lemmas.List.FromFn.{length-range_with_len}
 use Rattle.gm_board.specs.laws.Lists.{and_left, and_right, contains_map, contains_range}
 use Rattle.gm_board.specs.laws.Permutations.{all_at}
 use Rattle.gm_draw.specs.declared.drawn.TheConstants.{DRAWING}
-use Rattle.gm_draw.specs.Templates.{is_slot}
-use Rattle.gm_draw.specs.Chessboards.{square_name, chess_points, chess_board, file_at, rank_at, is_dark, man_on, man_at, square_byte}
-use Rattle.gm_draw.specs.ChessDrawings.{chess_drawing}
-use Rattle.gm_draw.specs.Diagrams.{next_x, next_y, spread}
+use Rattle.gm_draw.specs.Templates.{is_slot, next_x, next_y, spread}
+use Rattle.gm_draw.specs.Chessboards.{square_name, chess_points, chess_board, file_at, rank_at, is_dark, man_on, man_at, square_byte, chess_drawing}
 use Rattle.gm_draw.specs.Spots.{Spot, spots}
 use Rattle.gm_draw.specs.Points.{is_name, are_apart, IsPointWord}
 
@@ -70,10 +68,6 @@ pub square_many : length chess_points ≡ 64
 unfolding chess_points
 square_many = length-map (range_with_len 0 64) square_name ∙ length-range_with_len 0 64
 
-pub square_named : (k : ℕ) → k < 64 → get_or chess_points k [] ≡ square_name k
-unfolding chess_points
-square_named k l = get_or-map-range_with_len square_name 0 64 k k [] l (zero-add k)
-
 -- the byte of a drawing for a byte of the board
 abbrev byte_of : List ℕ → ℕ → ℕ → ℕ → ℕ
 byte_of text x y b = if is_slot b then square_byte (man_at text x y) (is_dark x y) else b
@@ -98,6 +92,10 @@ same_men_on s t k l e h i =
     same_byte _ _ (is_dark (square_x k) (square_y k)) h i
     (subst (λ (a : ℕ). square_byte (man_on a (56 - k / 8) s) (is_dark (square_x k) (square_y k)) ≡ square_byte (man_on a (56 - k / 8) t) (is_dark (square_x k) (square_y k))) f
     (subst (λ (a : ℕ). square_byte (man_on (file_at (square_x k)) a s) (is_dark (square_x k) (square_y k)) ≡ square_byte (man_on (file_at (square_x k)) a t) (is_dark (square_x k) (square_y k))) r same))
+
+pub board_fits : length chess_board ≤ DRAWING
+unfolding chess_board
+board_fits = omega arith
 
 pub chess_fits : (text : List ℕ) → length (chess_drawing text) ≤ DRAWING
 unfolding chess_drawing chess_board

@@ -3,6 +3,8 @@ use Rattle.std.proofs.Common.{◌≡◌, ◌≢◌, ℕ, ◌<◌, Bool, true, fa
 use Rattle.std.proofs.Common.{sym, ap, ◌∙◌, arith, inl, inr}
 use Rattle.std.proofs.lemmas.Bool.{cases_Bool, true≢false}
 use Rattle.std.proofs.lemmas.Bool.Decides.{nat_tests}
+use Rattle.std.specs.Prelude.{◌==◌, codes}
+use Rattle.gm_game.specs.declared.position.Position.{Position}
 use Rattle.gm_game.proofs.BoardLaws.{legal_board}
 use Rattle.gm_pieces.specs.MoveGames.{board_game}
 use Rattle.gm_pieces.specs.MoveTexts.{position_text, move_text}
@@ -12,14 +14,13 @@ use Rattle.gm_squares.specs.Chess.{ending, chess_rules, board as men_at, board_t
 use Rattle.gm_squares.specs.laws.MenFacts.{legal_in, IsLegal, same_men, from_below, to_below}
 use Rattle.gm_squares.specs.laws.MenNumbering.{numbered}
 use Rattle.gm_squares.specs.laws.MenTexts.{readable}
-use Rattle.gm_draw.specs.declared.pictured.Style.TheVariants.{Chess}
-use Rattle.gm_draw.specs.Chessboards.{chess_points, chess_board, man_on}
-use Rattle.gm_draw.specs.ChessDrawings.{chess_drawing}
-use Rattle.gm_draw.specs.Drawn.{IsDrawn}
-use Rattle.gm_draw.specs.Names.{chess_side, chess_mover}
+use Rattle.gm_draw.specs.Chessboards.{chess_points, man_on, chess_drawing}
+use Rattle.gm_draw.specs.Movers.{chess_side, chess_mover}
+use Rattle.gm_draw.specs.Pictures.{by_last}
+use Rattle.gm_draw.specs.Games.{chess_picture}
 use Rattle.gm_draw.specs.Points.{IsPointWord}
 use Rattle.gm_draw.specs.Pictured.{IsPictured}
-use Rattle.gm_draw.specs.laws.Chessboards.{is_man, man_of_text, same_on_board, same_square, two_squares, chess_fits, squares_named, squares_apart, square_many}
+use Rattle.gm_draw.specs.laws.Chessboards.{is_man, man_of_text, same_on_board, same_square, two_squares, chess_fits, board_fits, squares_named, squares_apart, square_many}
 
 -- ---- the man on a square
 abbrev man_of_board : Bool → Men → ℕ → ℕ
@@ -125,27 +126,39 @@ same_board q b c l k e m =
     let same : AreSame q b c = (λ s j. sym (on_board q b h s j) ∙ same_on_board (board_text q b) (board_text q c) (letters q b h) (letters q c i) e s j ∙ on_board q c i s j) in
     same_men b c (side_once _ _ m) (same_king q b c h same) (same_piece q b c h i same) (same_foe q b c h same)
 
--- ---- the laws
-pub chess_drawn : (q : Bool) → IsDrawn (chess_rules q) (λ p. chess_drawing (position_text (ending q) (board_text q) p)) chess_mover
-chess_drawn q = record {
-  drawn_fits = λ p l. chess_fits (board_text q (men_at p.tier p.index));
-  drawn_once = λ p r l k e m.
-      let b = men_at p.tier p.index in
-      let c = men_at r.tier r.index in
-      let same = same_board q b c (legal_board (board_game (ending q)) p l) (legal_board (board_game (ending q)) r k) e m in
-      (texts_are_shown (ending q) (board_text q) (λ t n. step_text q n) (numbered q) (readable q)).shown_once p r l k (ap (board_text q) same);
-}
+-- the last byte of a text is the side to move
+side_named : (x : Bool) → (if (if x then 119 else 98) == 119 then codes "White" else codes "Black") ≡ chess_side x
+side_named true = refl
+side_named false = refl
 
+pub chess_named : (q : Bool) (p : Position) → by_last (position_text (ending q) (board_text q) p) 119 (codes "White") (codes "Black") ≡ chess_mover p
+unfolding board_text
+chess_named q p =
+    let b = men_at p.tier p.index in elim (cases_Bool (eqb b.piece 64)) [
+      | inl e ↦ rw e (side_named b.white_moves)
+      | inr e ↦ rw e (side_named b.white_moves)
+    ]
+
+-- ---- the laws
 step_words : (q : Bool) (m : ℕ) → (c : ℕ) × (word : List ℕ) × (step_text q m ≡ c ∷ word) × IsPointWord chess_points word
 unfolding step_text
 step_words q m = (man_char q (man m), _, refl, two_squares (from_square m) (to_square m) (from_below m) (to_below m))
 
-pub chess_pictured : (q : Bool) → IsPictured (chess_rules q) (position_text (ending q) (board_text q)) (move_text (λ t m. step_text q m))
-    (λ p. chess_drawing (position_text (ending q) (board_text q) p)) Chess chess_board chess_points
+pub chess_pictured : (q : Bool) → IsPictured (chess_rules q) (position_text (ending q) (board_text q)) (move_text (λ t m. step_text q m)) (chess_picture q)
+unfolding chess_picture
 chess_pictured q = record {
+  drawings = record {
+    drawn_fits = λ p l. chess_fits (board_text q (men_at p.tier p.index));
+    drawn_once = λ p r l k e m.
+        let b = men_at p.tier p.index in
+        let c = men_at r.tier r.index in
+        let same = same_board q b c (legal_board (board_game (ending q)) p l) (legal_board (board_game (ending q)) r k) e m in
+        (texts_are_shown (ending q) (board_text q) (λ t n. step_text q n) (numbered q) (readable q)).shown_once p r l k (ap (board_text q) same);
+  };
+  fits = board_fits;
   few = omega (arith, square_many);
   named = squares_named;
   apart = squares_apart;
   words = λ p m l c. step_words q m;
-  board_is = record { drawn_is = λ p l. refl; board_is = refl; points_are = refl };
+  board_is = record { board_is = refl; points_are = refl };
 }

@@ -5,6 +5,10 @@ use Rattle.std.specs.List.{Contains, list_any, flat_map}
 use Rattle.std.specs.Int.{trailing_zeros, w32}
 use Rattle.std.proofs.lemmas.Bool.{cases_eq}
 use Rattle.std.proofs.lemmas.Bool.Decides.{nat_tests}
+use Rattle.std.specs.Prelude.{◌-◌, ◌==◌, codes, length}
+use Rattle.std.proofs.lemmas.List.{length-append, get_or-append-add}
+use Rattle.gm_squares.specs.Squares.{square_text}
+use Rattle.gm_game.specs.declared.position.Position.{Position}
 use Rattle.gm_game.proofs.BoardLaws.{legal_board}
 use Rattle.gm_board.specs.Masks.{has_cell}
 use Rattle.gm_board.specs.laws.NextCells.{cell_one, cell_none}
@@ -23,14 +27,13 @@ use Rattle.gm_squares.specs.laws.MaskFacts.{toggled_other}
 use Rattle.gm_squares.specs.laws.ChaseNumbering.{numbered}
 use Rattle.gm_squares.specs.laws.DarkFacts.{dark_below, step}
 use Rattle.gm_squares.specs.laws.ChaseTexts.{AreLowest, lowest_of, readable}
-use Rattle.gm_draw.specs.declared.pictured.Style.TheVariants.{Hounds}
-use Rattle.gm_draw.specs.Chessboards.{chess_points, chess_board, man_on}
-use Rattle.gm_draw.specs.ChessDrawings.{chess_drawing}
-use Rattle.gm_draw.specs.Drawn.{IsDrawn}
-use Rattle.gm_draw.specs.Names.{chase_side, chase_mover}
+use Rattle.gm_draw.specs.Chessboards.{chess_points, man_on, chess_drawing}
+use Rattle.gm_draw.specs.Movers.{chase_side, chase_mover}
+use Rattle.gm_draw.specs.Pictures.{by_last}
+use Rattle.gm_draw.specs.Games.{foxhounds_picture}
 use Rattle.gm_draw.specs.Points.{IsPointWord}
 use Rattle.gm_draw.specs.Pictured.{IsPictured}
-use Rattle.gm_draw.specs.laws.Chessboards.{is_man, man_of_text, same_on_board, same_square, two_squares, chess_fits, squares_named, squares_apart, square_many}
+use Rattle.gm_draw.specs.laws.Chessboards.{is_man, man_of_text, same_on_board, same_square, two_squares, chess_fits, board_fits, squares_named, squares_apart, square_many}
 
 -- ---- dark squares among all squares
 dark_once : (j k : ℕ) → dark j ≡ dark k → j ≡ k
@@ -160,17 +163,26 @@ same_board b c l k e m =
     (same_from_bits_below 32 b.hounds c.hounds h.within i.within (λ j n. same_bit b.hounds c.hounds j (same_hound b c h i same j n)))
     (same_fox b c h same)
 
--- ---- the laws
-pub chase_drawn : IsDrawn foxhounds_rules (λ p. chess_drawing (position_text fox_and_hounds board_text p)) chase_mover
-chase_drawn = record {
-  drawn_fits = λ p l. chess_fits (board_text (chase_at p.index));
-  drawn_once = λ p q l k e m.
-      let b = chase_at p.index in
-      let c = chase_at q.index in
-      let same = same_board b c (legal_board (board_game fox_and_hounds) p l) (legal_board (board_game fox_and_hounds) q k) e m in
-      (texts_are_shown fox_and_hounds board_text (λ t n. step_text n) numbered readable).shown_once p q l k (ap board_text same);
-}
+-- the last byte of a text is the side to move
+side_named : (x : Bool) → (if (if x then 104 else 102) == 104 then codes "hounds" else codes "fox") ≡ chase_side x
+side_named true = refl
+side_named false = refl
 
+last_named : (xs : List ℕ) (x : Bool) → by_last (xs ++ 32 ∷ side_char x ∷ []) 104 (codes "hounds") (codes "fox") ≡ chase_side x
+last_named xs x =
+    let ys : List ℕ = 32 ∷ side_char x ∷ [] in
+    let n : length (xs ++ ys) - 1 ≡ length xs + 1 = (let a = length-append xs ys in omega (arith, a)) in
+    ap (λ (i : ℕ). if get_or (xs ++ ys) i 0 == 104 then codes "hounds" else codes "fox") n
+    ∙ ap (λ (c : ℕ). if c == 104 then codes "hounds" else codes "fox") (get_or-append-add xs ys 1 0)
+    ∙ side_named x
+
+pub foxhounds_named : (p : Position) → by_last (position_text fox_and_hounds board_text p) 104 (codes "hounds") (codes "fox") ≡ chase_mover p
+unfolding board_text
+foxhounds_named p =
+    let b = chase_at p.index in
+    last_named (102 ∷ square_text (dark b.fox) ++ flat_map hound_text (squares_of 4 b.hounds)) b.hounds_move
+
+-- ---- the laws
 step_words : (m : ℕ) → from_square m < 32 → to_square m < 32 → IsPointWord chess_points (step_text m)
 unfolding step_text
 step_words m l h = two_squares (dark (from_square m)) (dark (to_square m)) (dark_below _ l) (dark_below _ h)
@@ -178,12 +190,21 @@ step_words m l h = two_squares (dark (from_square m)) (dark (to_square m)) (dark
 move_words : (b : Chase) (m : ℕ) → IsMove fox_and_hounds b m → IsPointWord chess_points (step_text m)
 move_words b m h = let s = step m h.below (stays_on b m h.can) in step_words m s.from_below s.to_below
 
-pub chase_pictured : IsPictured foxhounds_rules (position_text fox_and_hounds board_text) (move_text (λ t m. step_text m))
-    (λ p. chess_drawing (position_text fox_and_hounds board_text p)) Hounds chess_board chess_points
-chase_pictured = record {
+pub foxhounds_pictured : IsPictured foxhounds_rules (position_text fox_and_hounds board_text) (move_text (λ t m. step_text m)) foxhounds_picture
+unfolding foxhounds_picture
+foxhounds_pictured = record {
+  drawings = record {
+    drawn_fits = λ p l. chess_fits (board_text (chase_at p.index));
+    drawn_once = λ p q l k e m.
+        let b = chase_at p.index in
+        let c = chase_at q.index in
+        let same = same_board b c (legal_board (board_game fox_and_hounds) p l) (legal_board (board_game fox_and_hounds) q k) e m in
+        (texts_are_shown fox_and_hounds board_text (λ t n. step_text n) numbered readable).shown_once p q l k (ap board_text same);
+  };
+  fits = board_fits;
   few = omega (arith, square_many);
   named = squares_named;
   apart = squares_apart;
   words = λ p m l c. move_words (chase_at p.index) m (move_in fox_and_hounds (chase_at p.index) m c);
-  board_is = record { drawn_is = λ p l. refl; board_is = refl; points_are = refl };
+  board_is = record { board_is = refl; points_are = refl };
 }

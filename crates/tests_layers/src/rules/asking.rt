@@ -1,40 +1,19 @@
-//! Checks of a game's positions, tiers and texts.
+//! Checks of a game's positions, tiers and texts, by rows of worked values.
+use crate::countdowns::{Known, record};
 use crate::expect::{expect, expect_eq};
 use gm_game::ahead::within;
 use gm_game::children::canonical_children;
 use gm_game::game::Game;
-use gm_game::position::{End, Position, Solved, Value};
+use gm_game::position::{End, Position, Solved};
 use gm_game::shown::Shown;
 use std::process::Abort;
 
-/// Returns a position of tier 0.
-pub fn at(index: u64) -> Position {
-    Position { tier: 0, index }
-}
+/// A tier and an index in it.
+pub type At = (u64, u64);
 
-/// Tests whether a position is legal and has these moves.
-pub fn has_moves<G: Game>(p: Position, moves: &[u32]) -> bool {
-    G::is_legal(p) && G::moves(p).as_slice() == moves
-}
-
-/// Tests whether a position is legal, and ends the game in this way or not at all.
-pub fn ends<G: Game>(p: Position, end: Option<End>) -> bool {
-    G::is_legal(p) && G::primitive(p) == end
-}
-
-/// Tests whether a position is legal and canonical.
-pub fn is_canonical<G: Game>(p: Position) -> bool {
-    G::is_legal(p) && G::canonical(p) == p
-}
-
-/// Tests whether a position is legal and has these canonical children.
-pub fn has_children<G: Game>(p: Position, children: &[Position]) -> bool {
-    G::is_legal(p) && canonical_children::<G>(p).as_slice() == children
-}
-
-/// Tests whether a tier has this size and this rank.
-pub fn has_size_and_rank<G: Game>(tier: u64, size: u64, rank: u64) -> bool {
-    G::tier_size(tier) == size && G::tier_rank(tier) == rank
+/// Returns the position at a place.
+pub fn on((tier, index): At) -> Position {
+    Position { tier, index }
 }
 
 /// Returns the value that looking this many moves ahead finds for a position. It finds none if the position is not legal.
@@ -46,102 +25,77 @@ pub fn looked_ahead<G: Game>(p: Position, moves: u32) -> Option<Solved> {
     }
 }
 
-/// A text, the number of moves to look ahead, and the value and remoteness that this finds.
-pub type Ahead = (&'static [u8], u32, Option<(Value, u32)>);
-
-/// Checks the values that looking ahead finds for the boards with these texts.
-pub fn check_ahead<G: Shown>(rt: &impl Abort, rows: &[Ahead]) {
+/// Checks the values that looking ahead finds. A row has the text of a board, the number of moves, and the value and remoteness.
+pub fn check_ahead<G: Shown>(rt: &impl Abort, rows: &[(&str, u32, Option<Known>)]) {
     for (text, moves, found) in rows {
-        let solved = match found {
-            Some((value, remoteness)) => Some(Solved {
-                value: *value,
-                remoteness: *remoteness,
-            }),
+        let solved = match G::read(text.as_bytes()) {
+            Some(p) => looked_ahead::<G>(p, *moves),
             None => None,
         };
-        expect_eq(rt, ahead::<G>(text, *moves), solved);
+        expect_eq(rt, (text, solved), (text, found.and_then(record)));
     }
 }
 
-// Returns the value that looking this many moves ahead finds for the board with this text.
-fn ahead<G: Shown>(text: &[u8], moves: u32) -> Option<Solved> {
-    match G::read(text) {
-        Some(p) => looked_ahead::<G>(p, moves),
-        None => None,
-    }
-}
+/// A legal position that is canonical, its moves, the way in which it ends the game, and its canonical children.
+pub type Row<'a> = (At, &'a [u32], Option<End>, &'a [At]);
 
-/// Checks the moves of these indexes of tier 0, and the way in which each ends the game.
-pub fn check_indexes<G: Game>(rt: &impl Abort, rows: &[(u64, &[u32], Option<End>)]) {
-    for (index, moves, end) in rows {
-        let p = at(*index);
-        expect(rt, has_moves::<G>(p, moves) && ends::<G>(p, *end));
-        expect(rt, is_canonical::<G>(p));
-    }
-}
-
-/// Checks the child tiers of these tiers.
-pub fn check_child_tiers<G: Game>(rt: &impl Abort, rows: &[(u64, &[u64])]) {
-    for (tier, tiers) in rows {
-        expect(rt, G::child_tiers(*tier).as_slice() == *tiers);
-    }
-}
-
-/// Checks the canonical parents of these positions. A row has a tier, an index, another tier, and the parents in that tier.
-pub fn check_parents<G: Game>(rt: &impl Abort, rows: &[(u64, u64, u64, &[u64])]) {
-    for (tier, index, above, parents) in rows {
-        let c = Position {
-            tier: *tier,
-            index: *index,
-        };
-        expect(rt, G::is_legal(c) && G::canonical(c) == c);
-        expect(rt, G::parents(c, *above).as_slice() == *parents);
-    }
-}
-
-/// Checks for each text whether it is that of the move with this number of a position.
-pub fn check_moves<G: Shown>(rt: &impl Abort, position: &[u8], rows: &[(&[u8], u32, bool)]) {
-    for (text, number, is_so) in rows {
-        expect_eq(rt, move_from::<G>(position, text) == Some(*number), *is_so);
-    }
-}
-
-/// Checks for each pair of texts whether the first is that of a position and the second that of one of its moves.
-pub fn check_are_moves<G: Shown>(rt: &impl Abort, rows: &[(&[u8], &[u8], bool)]) {
-    for (position, text, is_so) in rows {
-        expect_eq(rt, move_from::<G>(position, text).is_some(), *is_so);
-    }
-}
-
-/// Tests whether this is the text of the start.
-pub fn starts<G: Shown>(text: &[u8]) -> bool {
-    G::show(G::initial()).as_slice() == text
-}
-
-/// Tests whether this is the text of a legal position, and is read as that position.
-pub fn shows<G: Shown>(p: Position, text: &[u8]) -> bool {
-    G::is_legal(p) && G::show(p).as_slice() == text && G::read(text) == Some(p)
-}
-
-/// Tests whether no position has any of these texts.
-pub fn reads_none<G: Shown>(texts: &[&[u8]]) -> bool {
-    for text in texts {
-        if G::read(text).is_some() {
-            return false;
+/// Checks these positions.
+pub fn check_positions<G: Game>(rt: &impl Abort, rows: &[Row<'_>]) {
+    for (place, moves, end, children) in rows {
+        let p = on(*place);
+        expect(rt, G::is_legal(p));
+        expect_eq(rt, (p, G::canonical(p)), (p, p));
+        expect_eq(rt, (p, G::moves(p).as_slice()), (p, *moves));
+        expect_eq(rt, (p, G::primitive(p)), (p, *end));
+        let found = canonical_children::<G>(p);
+        expect_eq(rt, (p, found.len()), (p, children.len()));
+        for (child, place) in found.as_slice().iter().zip(*children) {
+            expect_eq(rt, (p, *child), (p, on(*place)));
         }
     }
-    true
 }
 
-/// Returns the move that this text is read as at a legal position, if the text is also that of the move.
-pub fn move_at<G: Shown>(p: Position, text: &[u8]) -> Option<u32> {
+/// Checks the sizes, the ranks and the child tiers of tiers.
+pub fn check_tiers<G: Game>(rt: &impl Abort, rows: &[(u64, u64, u64, &[u64])]) {
+    for (tier, size, rank, below) in rows {
+        let found = (tier, G::tier_size(*tier), G::tier_rank(*tier));
+        expect_eq(rt, found, (tier, *size, *rank));
+        expect_eq(rt, (tier, G::child_tiers(*tier).as_slice()), (tier, *below));
+    }
+}
+
+/// Checks the canonical parents of canonical positions. A row has a position, a tier, and the parents in that tier.
+pub fn check_parents<G: Game>(rt: &impl Abort, rows: &[(At, u64, &[u64])]) {
+    for (place, above, parents) in rows {
+        let c = on(*place);
+        expect(rt, G::is_legal(c) && G::canonical(c) == c);
+        expect_eq(rt, (c, G::parents(c, *above).as_slice()), (c, *parents));
+    }
+}
+
+/// Checks the texts of legal positions, and that no position has any of the other texts.
+pub fn check_texts<G: Shown>(rt: &impl Abort, rows: &[(At, &str)], others: &[&[u8]]) {
+    for (place, text) in rows {
+        let p = on(*place);
+        expect(rt, G::is_legal(p));
+        expect_eq(rt, G::show(p).as_slice(), text.as_bytes());
+        expect_eq(rt, G::read(text.as_bytes()), Some(p));
+    }
+    for text in others {
+        expect_eq(rt, (*text, G::read(text)), (*text, None));
+    }
+}
+
+/// Returns the move that this text is read as at a legal position, with the position to which it leads, if the text is also that of
+/// the move.
+pub fn move_at<G: Shown>(p: Position, text: &[u8]) -> Option<(u32, Position)> {
     if !G::is_legal(p) {
         return None;
     }
     match G::read_move(p, text) {
         Some(m) => {
             if G::move_text(p, m).as_slice() == text {
-                Some(m)
+                Some((m, G::play(p, m)))
             } else {
                 None
             }
@@ -150,34 +104,27 @@ pub fn move_at<G: Shown>(p: Position, text: &[u8]) -> Option<u32> {
     }
 }
 
-/// Returns the move of this text at the position with that text.
-fn move_from<G: Shown>(position: &[u8], text: &[u8]) -> Option<u32> {
-    match G::read(position) {
-        Some(p) => move_at::<G>(p, text),
-        None => None,
-    }
+/// Returns the move with a text at the position with a text.
+pub fn move_from<G: Shown>(position: &str, text: &str) -> Option<u32> {
+    let p = G::read(position.as_bytes())?;
+    Some(move_at::<G>(p, text.as_bytes())?.0)
 }
 
-/// Tests whether this text is read as a move of a legal position that leads there.
-pub fn leads<G: Shown>(p: Position, text: &[u8], child: Position) -> bool {
-    if !G::is_legal(p) {
-        return false;
+/// Checks the texts of a position's moves. A row has a text, the move's number, and the position to which it leads. No move has any
+/// of the other texts.
+pub fn check_moves<G: Shown>(
+    rt: &impl Abort,
+    place: At,
+    rows: &[(&str, u32, At)],
+    others: &[&[u8]],
+) {
+    let p = on(place);
+    for (text, m, child) in rows {
+        let found = move_at::<G>(p, text.as_bytes());
+        expect_eq(rt, (text, found), (text, Some((*m, on(*child)))));
     }
-    match G::read_move(p, text) {
-        Some(read) => G::play(p, read) == child,
-        None => false,
+    expect(rt, G::is_legal(p));
+    for text in others {
+        expect_eq(rt, (*text, G::read_move(p, text)), (*text, None));
     }
-}
-
-/// Tests whether no move of a legal position has any of these texts.
-pub fn reads_no_move<G: Shown>(p: Position, texts: &[&[u8]]) -> bool {
-    if !G::is_legal(p) {
-        return false;
-    }
-    for text in texts {
-        if G::read_move(p, text).is_some() {
-            return false;
-        }
-    }
-    true
 }

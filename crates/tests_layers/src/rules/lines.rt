@@ -4,9 +4,9 @@ ghost use Rattle.gm_toys.specs.Countdown.{countdown};
 
 use crate::countdowns::countdown;
 use crate::expect::{expect_eq, must};
-use crate::rules::asking::at;
+use crate::rules::asking::on;
 use gm_game::game::Game;
-use gm_play::play_line::{PlayLine, play_line};
+use gm_play::play_line::play_line;
 use gm_play::sides::Side;
 use gm_table::tables::Tables;
 use gm_toys::countdown::Countdown;
@@ -42,19 +42,13 @@ fn check_line(rt: &impl Abort, tables: &Tables<Ten>, row: Row)
     requires { AreAllHeld (countdown 10) tables.now 0 }
 {
     let (from, first, replies, wanted) = row;
-    let start = at(from);
+    let start = on((0, from));
     assert!(rt; start.tier == 0 && Ten::is_legal(start));
     let found = match play_line(tables, start, first, replies) {
-        Some(
-            PlayLine {
-                position,
-                side,
-                moves,
-            },
-        ) => Some((position.index, side, moves)),
+        Some(line) => Some((line.position.index, line.side, line.moves)),
         None => None,
     };
-    expect_eq(rt, found, wanted);
+    expect_eq(rt, (from, replies, found), (from, replies, wanted));
 }
 
 #[test]

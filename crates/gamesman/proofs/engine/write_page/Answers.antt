@@ -23,8 +23,7 @@ returns-in_err-put g c =
     let move_shown = g.G.Shown.move_shown in
     let known = c.args.known.now in
     let p = known.position in
-    let spec = game_spec r shown move_shown g.G.Drawn.drawn g.G.Drawn.mover g.G.Drawn.naming g.G.Pictured.style g.G.Pictured.title g.G.Pictured.board
-    g.G.Pictured.points in
+    let spec = game_spec r shown move_shown g.G.Pictured.picture in
     let IsText : List ℕ → Type 0 = IsPaged spec (shown p) c.args.limit in
     let is : IsText c.as_slice.result.now = subst IsText (sym c.as_slice.ensures.value) (c.args.digits.now, c.requires.digits, c.in_ok-text.ensures) in
     let q = err_from_is_err_and c.from_residual-in_err-put.result c.from_residual-in_err-put.ensures.1 in
@@ -36,8 +35,7 @@ returns g c =
     let known = c.args.known.now in
     let p = known.position in
     let shown = g.G.Shown.shown in
-    let spec = game_spec g.G.Game.rules shown g.G.Shown.move_shown g.G.Drawn.drawn g.G.Drawn.mover g.G.Drawn.naming g.G.Pictured.style g.G.Pictured.title
-    g.G.Pictured.board g.G.Pictured.points in
+    let spec = game_spec g.G.Game.rules shown g.G.Shown.move_shown g.G.Pictured.picture in
     let IsText : List ℕ → Type 0 = IsPaged spec (shown p) c.args.limit in
     let is : IsText c.as_slice.result.now = subst IsText (sym c.as_slice.ensures.value) (c.args.digits.now, c.requires.digits, c.in_ok-text.ensures) in
     record { written = (refl, (c.as_slice.result.now, is, c.in_ok-put.ensures.ok)); refused = tt; unread = λ none. absurd (none p (known.legal, refl)) }

@@ -20,8 +20,7 @@ returns g c =
     let r = g.G.Game.rules in
     let shown = g.G.Shown.shown in
     let move_shown = g.G.Shown.move_shown in
-    let spec = game_spec r shown move_shown g.G.Drawn.drawn g.G.Drawn.mover g.G.Drawn.naming g.G.Pictured.style g.G.Pictured.title g.G.Pictured.board
-    g.G.Pictured.points in
+    let spec = game_spec r shown move_shown g.G.Pictured.picture in
     let asked = c.args.asked in
     let p = c.in_ok-position.position in
     let is = asked_text r shown move_shown p asked.position (λ none. one_answer c.position_of.result p r.initial c.in_ok-position.was

@@ -6,5 +6,4 @@ use Rattle.gamesman.proofs.found.board_rows.Given as goal
 
 abbrev pub invariant-loop-x : goal.invariant-loop-x
 invariant-loop-x g l =
-    l.rows.items ≡ flat_map (board_row (game_spec g.G.Game.rules g.G.Shown.shown g.G.Shown.move_shown g.G.Drawn.drawn g.G.Drawn.mover g.G.Drawn.naming
-    g.G.Pictured.style g.G.Pictured.title g.G.Pictured.board g.G.Pictured.points)) (take l.x-index l.found)
+    l.rows.items ≡ flat_map (board_row (game_spec g.G.Game.rules g.G.Shown.shown g.G.Shown.move_shown g.G.Pictured.picture)) (take l.x-index l.found)

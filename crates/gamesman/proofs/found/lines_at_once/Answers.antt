@@ -12,8 +12,7 @@ lines_of-requires-clause-found g c = subst (All (IsFound g.G.Game.rules)) (sym c
 pub returns-clause-text : goal.returns-clause-text
 returns-clause-text g c =
     let asked = c.args.asked in
-    let spec = game_spec g.G.Game.rules g.G.Shown.shown g.G.Shown.move_shown g.G.Drawn.drawn g.G.Drawn.mover g.G.Drawn.naming g.G.Pictured.style
-    g.G.Pictured.title g.G.Pictured.board g.G.Pictured.points in
+    let spec = game_spec g.G.Game.rules g.G.Shown.shown g.G.Shown.move_shown g.G.Pictured.picture in
     let xs = c.in_ok-found.found.items in (
       xs,
       subst (λ (b : Bool). AreChosen g.G.Game.rules asked.sought b asked.choice c.args.known.now.tiers.now xs) c.requires.reached c.in_ok-found.ensures.chosen,

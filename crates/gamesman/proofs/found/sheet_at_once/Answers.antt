@@ -8,8 +8,7 @@ use Rattle.gamesman.proofs.found.sheet_at_once.Goals as goal
 pub returns-clause-text : goal.returns-clause-text
 returns-clause-text g c =
     let asked = c.args.asked in
-    let spec = game_spec g.G.Game.rules g.G.Shown.shown g.G.Shown.move_shown g.G.Drawn.drawn g.G.Drawn.mover g.G.Drawn.naming g.G.Pictured.style
-    g.G.Pictured.title g.G.Pictured.board g.G.Pictured.points in
+    let spec = game_spec g.G.Game.rules g.G.Shown.shown g.G.Shown.move_shown g.G.Pictured.picture in
     let is = c.in_ok-sheet.ensures in (
       is.found,
       subst (λ (b : Bool). AreChosen g.G.Game.rules asked.sought b asked.choice c.args.known.now.tiers.now is.found) c.requires.reached is.are_found,

@@ -10,8 +10,7 @@ use Rattle.gamesman.proofs.found.write_by_tier.Goals as goal
 
 pub loop-tier-init : goal.loop-tier-init
 loop-tier-init g c =
-    let spec = game_spec g.G.Game.rules g.G.Shown.shown g.G.Shown.move_shown g.G.Drawn.drawn g.G.Drawn.mover g.G.Drawn.naming g.G.Pictured.style
-    g.G.Pictured.title g.G.Pictured.board g.G.Pictured.points in
+    let spec = game_spec g.G.Game.rules g.G.Shown.shown g.G.Shown.move_shown g.G.Pictured.picture in
     so_far_none spec c.args.asked c.args.limit c.requires.limit _
 
 pub write_tier-requires-clause-held : goal.write_tier-requires-clause-held
@@ -24,8 +23,7 @@ write_tier-requires-clause-lines g c = (told_by_tier c.args.asked.form c.args.as
 
 pub returns-in_err-many : goal.returns-in_err-many
 returns-in_err-many g c =
-    let spec = game_spec g.G.Game.rules g.G.Shown.shown g.G.Shown.move_shown g.G.Drawn.drawn g.G.Drawn.mover g.G.Drawn.naming g.G.Pictured.style
-    g.G.Pictured.title g.G.Pictured.board g.G.Pictured.points in
+    let spec = game_spec g.G.Game.rules g.G.Shown.shown g.G.Shown.move_shown g.G.Pictured.picture in
     let r = g.G.Game.rules in
     let asked = c.args.asked in
     let tiers = c.args.known.now.tiers.now in
@@ -38,8 +36,7 @@ returns-in_err-many g c =
 
 pub loop-tier-preserved : goal.loop-tier-preserved
 loop-tier-preserved g c =
-    let spec = game_spec g.G.Game.rules g.G.Shown.shown g.G.Shown.move_shown g.G.Drawn.drawn g.G.Drawn.mover g.G.Drawn.naming g.G.Pictured.style
-    g.G.Pictured.title g.G.Pictured.board g.G.Pictured.points in
+    let spec = game_spec g.G.Game.rules g.G.Shown.shown g.G.Shown.move_shown g.G.Pictured.picture in
     let tiers = c.args.known.now.tiers.now in
     let k = c.loop-tier.tier-index in
     let before = g.O.Write.contents c.args.output.now in
@@ -51,8 +48,7 @@ loop-tier-preserved g c =
 
 pub returns-then-left-eq0 : goal.returns-then-left-eq0
 returns-then-left-eq0 g c =
-    let spec = game_spec g.G.Game.rules g.G.Shown.shown g.G.Shown.move_shown g.G.Drawn.drawn g.G.Drawn.mover g.G.Drawn.naming g.G.Pictured.style
-    g.G.Pictured.title g.G.Pictured.board g.G.Pictured.points in
+    let spec = game_spec g.G.Game.rules g.G.Shown.shown g.G.Shown.move_shown g.G.Pictured.picture in
     let asked = c.args.asked in
     let tiers = c.args.known.now.tiers.now in
     let k = c.loop-tier.tier-index in
@@ -67,8 +63,7 @@ returns-then-left-eq0 g c =
 
 pub returns : goal.returns
 returns g c =
-    let spec = game_spec g.G.Game.rules g.G.Shown.shown g.G.Shown.move_shown g.G.Drawn.drawn g.G.Drawn.mover g.G.Drawn.naming g.G.Pictured.style
-    g.G.Pictured.title g.G.Pictured.board g.G.Pictured.points in
+    let spec = game_spec g.G.Game.rules g.G.Shown.shown g.G.Shown.move_shown g.G.Pictured.picture in
     let asked = c.args.asked in
     let tiers = c.args.known.now.tiers.now in
     let k = c.loop-tier.tier-index in

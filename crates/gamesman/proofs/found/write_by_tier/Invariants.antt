@@ -5,6 +5,5 @@ use Rattle.gamesman.proofs.found.write_by_tier.Given as goal
 
 abbrev pub invariant-loop-tier : goal.invariant-loop-tier
 invariant-loop-tier g l =
-    IsSoFar (game_spec g.G.Game.rules g.G.Shown.shown g.G.Shown.move_shown g.G.Drawn.drawn g.G.Drawn.mover g.G.Drawn.naming g.G.Pictured.style
-    g.G.Pictured.title g.G.Pictured.board g.G.Pictured.points)
+    IsSoFar (game_spec g.G.Game.rules g.G.Shown.shown g.G.Shown.move_shown g.G.Pictured.picture)
     l.asked l.limit (take l.tier-index l.known.tiers.now) (g.O.Write.contents l.initial.output) (g.O.Write.contents l.output) l.left

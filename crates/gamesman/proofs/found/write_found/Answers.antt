@@ -7,8 +7,7 @@ use Rattle.gamesman.proofs.found.write_found.Goals as goal
 
 pub returns-in_err-reached : goal.returns-in_err-reached
 returns-in_err-reached g c =
-    let spec = game_spec g.G.Game.rules g.G.Shown.shown g.G.Shown.move_shown g.G.Drawn.drawn g.G.Drawn.mover g.G.Drawn.naming g.G.Pictured.style
-    g.G.Pictured.title g.G.Pictured.board g.G.Pictured.points in
+    let spec = game_spec g.G.Game.rules g.G.Shown.shown g.G.Shown.move_shown g.G.Pictured.picture in
     let r = g.G.Game.rules in
     let asked = c.args.asked in
     let q = err_from_is_err_and c.from_residual.result c.from_residual.ensures.1 in

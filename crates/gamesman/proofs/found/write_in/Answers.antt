@@ -9,16 +9,14 @@ use Rattle.gamesman.proofs.found.write_in.Goals as goal
 
 pub returns-in-Some : goal.returns-in-Some
 returns-in-Some g c =
-    let spec = game_spec g.G.Game.rules g.G.Shown.shown g.G.Shown.move_shown g.G.Drawn.drawn g.G.Drawn.mover g.G.Drawn.naming g.G.Pictured.style
-    g.G.Pictured.title g.G.Pictured.board g.G.Pictured.points in
+    let spec = game_spec g.G.Game.rules g.G.Shown.shown g.G.Shown.move_shown g.G.Pictured.picture in
     let asked = c.args.asked in
     found_with (Some c.in-Some.limit) _ spec asked (IsUnsearched g.G.Game.rules asked.tier) _ _ c.write_by_tier.result
     (sym c.in-Some.is ∙ c.limit_of.ensures) c.write_by_tier.ensures
 
 pub returns-in_err-text-in-None : goal.returns-in_err-text-in-None
 returns-in_err-text-in-None g c =
-    let spec = game_spec g.G.Game.rules g.G.Shown.shown g.G.Shown.move_shown g.G.Drawn.drawn g.G.Drawn.mover g.G.Drawn.naming g.G.Pictured.style
-    g.G.Pictured.title g.G.Pictured.board g.G.Pictured.points in
+    let spec = game_spec g.G.Game.rules g.G.Shown.shown g.G.Shown.move_shown g.G.Pictured.picture in
     let r = g.G.Game.rules in
     let asked = c.args.asked in
     let q = err_from_is_err_and c.from_residual.result c.from_residual.ensures.1 in
@@ -27,8 +25,7 @@ returns-in_err-text-in-None g c =
 
 pub returns-in_ok-text-in-None : goal.returns-in_ok-text-in-None
 returns-in_ok-text-in-None g c =
-    let spec = game_spec g.G.Game.rules g.G.Shown.shown g.G.Shown.move_shown g.G.Drawn.drawn g.G.Drawn.mover g.G.Drawn.naming g.G.Pictured.style
-    g.G.Pictured.title g.G.Pictured.board g.G.Pictured.points in
+    let spec = game_spec g.G.Game.rules g.G.Shown.shown g.G.Shown.move_shown g.G.Pictured.picture in
     let r = g.G.Game.rules in
     let asked = c.args.asked in
     let text = c.as_slice.result.now in

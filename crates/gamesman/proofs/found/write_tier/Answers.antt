@@ -11,8 +11,7 @@ use Rattle.gamesman.proofs.found.write_tier.Goals as goal
 
 pub returns-in_err-found : goal.returns-in_err-found
 returns-in_err-found g c =
-    let spec = game_spec g.G.Game.rules g.G.Shown.shown g.G.Shown.move_shown g.G.Drawn.drawn g.G.Drawn.mover g.G.Drawn.naming g.G.Pictured.style
-    g.G.Pictured.title g.G.Pictured.board g.G.Pictured.points in
+    let spec = game_spec g.G.Game.rules g.G.Shown.shown g.G.Shown.move_shown g.G.Pictured.picture in
     let q = err_from_is_err_and c.from_residual.result c.from_residual.ensures.1 in
     let is = c.in_err-found.ensures.fault in
     rw (q.1, q.2) (record { told = memory_cut (IsFoundAt spec c.args.asked c.args.tier c.args.left) _ c.in_err-found.field-0.0 is; fault = inr is })
@@ -27,8 +26,7 @@ returns-in_err-lines g c =
 
 pub returns-in_err-put : goal.returns-in_err-put
 returns-in_err-put g c =
-    let spec = game_spec g.G.Game.rules g.G.Shown.shown g.G.Shown.move_shown g.G.Drawn.drawn g.G.Drawn.mover g.G.Drawn.naming g.G.Pictured.style
-    g.G.Pictured.title g.G.Pictured.board g.G.Pictured.points in
+    let spec = game_spec g.G.Game.rules g.G.Shown.shown g.G.Shown.move_shown g.G.Pictured.picture in
     let asked = c.args.asked in
     let q = err_from_is_err_and c.from_residual-in_err-put.result c.from_residual-in_err-put.ensures.1 in
     let is = subst (λ (ys : List Found). IsTextOf spec asked.form ys c.in_ok-lines.lines.items) c.as_slice.ensures.value c.in_ok-lines.ensures in
@@ -42,8 +40,7 @@ returns-in_err-put g c =
 
 pub returns : goal.returns
 returns g c =
-    let spec = game_spec g.G.Game.rules g.G.Shown.shown g.G.Shown.move_shown g.G.Drawn.drawn g.G.Drawn.mover g.G.Drawn.naming g.G.Pictured.style
-    g.G.Pictured.title g.G.Pictured.board g.G.Pictured.points in
+    let spec = game_spec g.G.Game.rules g.G.Shown.shown g.G.Shown.move_shown g.G.Pictured.picture in
     let asked = c.args.asked in
     let is = subst (λ (ys : List Found). IsTextOf spec asked.form ys c.in_ok-lines.lines.items) c.as_slice.ensures.value c.in_ok-lines.ensures in
     let here = subst (IsTextOf spec asked.form c.in_ok-found.found.items) (sym c.as_slice-2.ensures.value) is in

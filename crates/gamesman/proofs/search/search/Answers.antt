@@ -8,15 +8,13 @@ use Rattle.gamesman.proofs.search.search.Goals as goal
 
 pub returns-in_err-first : goal.returns-in_err-first
 returns-in_err-first g c =
-    let spec = game_spec g.G.Game.rules g.G.Shown.shown g.G.Shown.move_shown g.G.Drawn.drawn g.G.Drawn.mover g.G.Drawn.naming g.G.Pictured.style
-    g.G.Pictured.title g.G.Pictured.board g.G.Pictured.points in
+    let spec = game_spec g.G.Game.rules g.G.Shown.shown g.G.Shown.move_shown g.G.Pictured.picture in
     let q = err_from_is_err_and c.from_residual.result c.from_residual.ensures.1 in
     rw (q.1, q.2) (unsearched spec c.args.asked _ _ c.in_err-first.field-0.0 (inl c.in_err-first.ensures.refused))
 
 pub returns-in_err-built : goal.returns-in_err-built
 returns-in_err-built g c =
-    let spec = game_spec g.G.Game.rules g.G.Shown.shown g.G.Shown.move_shown g.G.Drawn.drawn g.G.Drawn.mover g.G.Drawn.naming g.G.Pictured.style
-    g.G.Pictured.title g.G.Pictured.board g.G.Pictured.points in
+    let spec = game_spec g.G.Game.rules g.G.Shown.shown g.G.Shown.move_shown g.G.Pictured.picture in
     let q = err_from_is_err_and c.from_residual-in_err-built.result c.from_residual-in_err-built.ensures.1 in
     let fault = c.in_err-built.field-0.0 in
     let is = subst (λ (t : ℕ). IsUnbuilt g.G.Game.rules t fault) c.in_ok-first.ensures.first c.in_err-built.ensures.unbuilt in

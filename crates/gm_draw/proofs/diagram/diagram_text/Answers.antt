@@ -9,6 +9,5 @@ returns g c =
     let s = g.G.Shown.shown in
     let m = g.G.Shown.move_shown in
     let known = c.args.known.now in
-    IfOk-weaker c.diagram.result _ (λ v. IsDiagram r s m g.G.Drawn.drawn g.G.Drawn.mover g.G.Pictured.style g.G.Pictured.title g.G.Pictured.board
-    c.args.valued (s known.position) v.items)
+    IfOk-weaker c.diagram.result _ (λ v. IsDiagram r s m g.G.Pictured.picture c.args.valued (s known.position) v.items)
     (λ v h. (known.position, (known.legal, refl), c.value.result, c.value.ensures.value, h)) c.diagram.ensures

@@ -9,5 +9,5 @@ returns g c =
     let s = g.G.Shown.shown in
     let m = g.G.Shown.move_shown in
     let known = c.args.known.now in
-    IfOk-weaker c.board_and_naming.result _ (λ v. IsShowText r s m g.G.Drawn.drawn g.G.Drawn.mover g.G.Drawn.naming c.args.explained (s known.position) v.items)
+    IfOk-weaker c.board_and_naming.result _ (λ v. IsShowText r s m g.G.Pictured.picture c.args.explained (s known.position) v.items)
     (λ v h. (known.position, (known.legal, refl), c.value.result, c.value.ensures.value, h)) c.board_and_naming.ensures

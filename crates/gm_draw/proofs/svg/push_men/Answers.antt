@@ -1,5 +1,6 @@
 use Rattle.std.proofs.Common.{◌++◌, arith}
-use Rattle.gm_draw.specs.Diagrams.{over_at, spread}
+use Rattle.gm_draw.specs.Diagrams.{over_at}
+use Rattle.gm_draw.specs.Templates.{spread}
 use Rattle.gm_draw.proofs.Spreading.{spread_next, spread_all}
 use Rattle.gm_draw.proofs.svg.push_men.Goals as goal
 

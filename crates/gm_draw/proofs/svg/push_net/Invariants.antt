@@ -1,5 +1,6 @@
 use Rattle.std.proofs.Common.{◌≡◌, ◌+◌, ◌*◌, ◌≤◌, ◌++◌, drop}
-use Rattle.gm_draw.specs.Diagrams.{under_at, spread}
+use Rattle.gm_draw.specs.Diagrams.{under_at}
+use Rattle.gm_draw.specs.Templates.{spread}
 use Rattle.gm_draw.proofs.svg.push_net.Given as goal
 
 abbrev pub invariant-loop-byte : goal.invariant-loop-byte

@@ -1,5 +1,6 @@
 use Rattle.gm_page.proofs.Lower.{◌≡◌, take, map, view, text}
+use Rattle.gm_draw.specs.Pictures.{texts}
 use Rattle.gm_page.proofs.head.points_value.Given as goal
 
-abbrev pub invariant-loop-k : goal.invariant-loop-k
-invariant-loop-k g l = map view l.cells.items ≡ map text (take l.k g.G.Pictured.points)
+abbrev pub invariant-loop-point : goal.invariant-loop-point
+invariant-loop-point l = map view l.cells.items ≡ map text (texts (take l.point-index l.points))

@@ -5,5 +5,5 @@ use Rattle.gm_page.proofs.head.push_head.Goals as goal
 pub push_script_line-requires : goal.push_script_line-requires
 push_script_line-requires g c =
     subst (λ (d : Data). has_float d ≡ false) (sym c.in_ok-tree.ensures)
-    (head_without g.G.Game.rules.name g.G.Pictured.style g.G.Pictured.title g.G.Pictured.board g.G.Pictured.points g.G.Drawn.naming c.args.start.now
+    (head_without g.G.Game.rules.name g.G.Pictured.picture c.args.start.now
     c.args.whole)

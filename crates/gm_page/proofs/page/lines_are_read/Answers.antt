@@ -7,7 +7,7 @@ returns-clause-closed g c = lines_open_none
 
 pub returns-clause-head : goal.returns-clause-head
 returns-clause-head g c =
-    head_read g.G.Game.rules.name g.G.Pictured.style g.G.Pictured.title g.G.Pictured.board g.G.Pictured.points g.G.Drawn.naming c.args.start.now c.args.whole
+    head_read g.G.Game.rules.name g.G.Pictured.picture c.args.start.now c.args.whole
 
 pub returns-clause-rows : goal.returns-clause-rows
 returns-clause-rows g c = row_read g.G.Shown.shown g.G.Shown.move_shown c.args.list.now

@@ -10,12 +10,12 @@ is_whole-whole-requires g c = λ k d l. (c.requires.reached k d l).0
 pub returns : goal.returns
 returns g c =
     let whole = c.is_whole-whole.result in
-    let head = script_line (head_tree g.G.Game.rules.name g.G.Pictured.style g.G.Pictured.title g.G.Pictured.board g.G.Pictured.points g.G.Drawn.naming
+    let head = script_line (head_tree g.G.Game.rules.name g.G.Pictured.picture
     (g.G.Shown.shown c.args.start.now.position) whole) in
     let rows = c.in_ok-push_rows.ensures in
     let shown_is : c.as_slice.result.now ≡ g.G.Shown.shown c.args.start.now.position = search rules in
     let started = subst (λ (t : List ℕ). c.push_head.new.page.items ≡ c.push_front.new.page.items ++ script_line (head_tree g.G.Game.rules.name
-    g.G.Pictured.style g.G.Pictured.title g.G.Pictured.board g.G.Pictured.points g.G.Drawn.naming t whole)) shown_is c.in_ok-push_head.ensures in
+    g.G.Pictured.picture t whole)) shown_is c.in_ok-push_head.ensures in
     on_ok_weaker c.push_back.result
     (λ e. record {
       whole = whole;

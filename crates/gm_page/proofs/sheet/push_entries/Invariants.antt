@@ -4,6 +4,6 @@ use Rattle.gm_page.proofs.sheet.push_entries.Given as goal
 
 abbrev pub invariant-loop-x : goal.invariant-loop-x
 invariant-loop-x g l =
-    HasEntries g.G.Game.rules g.G.Shown.shown g.G.Shown.move_shown g.G.Drawn.drawn g.G.Drawn.mover g.G.Pictured.style g.G.Pictured.title g.G.Pictured.board
+    HasEntries g.G.Game.rules g.G.Shown.shown g.G.Shown.move_shown g.G.Pictured.picture
     (take l.x-index l.found)
     l.initial.entries.items l.entries.items l.initial.answers.items l.answers.items

@@ -10,10 +10,10 @@ returns g c =
     let shown = g.G.Shown.shown in
     let move_shown = g.G.Shown.move_shown in
     let x = c.args.x in
-    let IsDrawn : List ℕ → Type 0 = IsDiagram r shown move_shown g.G.Drawn.drawn g.G.Drawn.mover g.G.Pictured.style g.G.Pictured.title g.G.Pictured.board
+    let IsDrawn : List ℕ → Type 0 = IsDiagram r shown move_shown g.G.Pictured.picture
     true (shown x.position) in
     let e : Entry = record { text = c.as_slice.result.now; diagram = c.as_slice-2.result.now; solution = c.as_slice-3.result.now } in
-    both_parts c.push_parts.result (IsEntry r shown move_shown g.G.Drawn.drawn g.G.Drawn.mover g.G.Pictured.style g.G.Pictured.title g.G.Pictured.board x) _ _ e
+    both_parts c.push_parts.result (IsEntry r shown move_shown g.G.Pictured.picture x) _ _ e
     (record {
       text = c.as_slice.ensures.value ∙ c.show-text.ensures;
       diagram = subst IsDrawn (sym c.as_slice-2.ensures.value) c.in_ok-diagram.ensures;

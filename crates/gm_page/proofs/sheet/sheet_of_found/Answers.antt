@@ -9,5 +9,5 @@ returns g c =
     c.new-entries.ensures.items in
     let answers : c.as_slice-2.result.now ≡ flat_map answer_text es = c.as_slice-2.ensures.value ∙ b ∙ ap (λ (t : List ℕ). t ++ flat_map answer_text es)
     c.new-answers.ensures.items in
-    IfOk-weaker c.sheet_with.result _ _ (λ v h. (es, are, h ∙ ap₂ (λ (x : List ℕ) (y : List ℕ). heading g.G.Pictured.title ++ lists x y) entries answers))
+    IfOk-weaker c.sheet_with.result _ _ (λ v h. (es, are, h ∙ ap₂ (λ (x : List ℕ) (y : List ℕ). heading g.G.Pictured.picture.title ++ lists x y) entries answers))
     c.sheet_with.ensures

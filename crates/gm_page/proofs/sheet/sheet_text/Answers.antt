@@ -22,8 +22,7 @@ returns g c =
       found = c.in_ok-found.found.items;
       are_found = c.in_ok-found.ensures.chosen;
       entries = es;
-      are_entries = subst (λ (xs : List Found). AreEntries g.G.Game.rules g.G.Shown.shown g.G.Shown.move_shown g.G.Drawn.drawn g.G.Drawn.mover
-          g.G.Pictured.style g.G.Pictured.title g.G.Pictured.board xs es)
+      are_entries = subst (λ (xs : List Found). AreEntries g.G.Game.rules g.G.Shown.shown g.G.Shown.move_shown g.G.Pictured.picture xs es)
           c.as_slice.ensures.value are;
       out_is = is;
     }) c.sheet_of_found.ensures

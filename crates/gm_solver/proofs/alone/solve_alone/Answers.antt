@@ -1,5 +1,5 @@
 use Rattle.std.proofs.Common.{◌≤◌, ◌+◌, ℕ, sym, ap, subst, ◌∙◌, arith}
-use Rattle.gm_solver.proofs.Lower.{REMOTENESS, TIER_SIZE, Place, AreHeld}
+use Rattle.gm_solver.proofs.Lower.{REMOTENESS, TIER_SIZE, Place, AreHeld, IsTrueTable, IsNumberBefore}
 use Rattle.gm_solver.proofs.alone.solve_alone.Goals as goal
 
 pub finish_levels-requires-clause-held : goal.finish_levels-requires-clause-held
@@ -25,16 +25,27 @@ finish_levels-requires-2-clause-small g c = subst (λ (t : ℕ). g.G.Game.rules.
 pub finish_levels-requires-2-clause-near : goal.finish_levels-requires-2-clause-near
 finish_levels-requires-2-clause-near g c = subst (λ (n : ℕ). n ≤ REMOTENESS + 1) (sym (ap (λ (p : Place). p.level) c.next_phase.ensures)) (omega arith)
 
-pub table-solved-requires-clause-held : goal.table-solved-requires-clause-held
-table-solved-requires-clause-held g c = subst (AreHeld g.G.Game.rules c.args.tables.now) (sym (c.in_ok-tiles-3.ensures.later.tier
-    ∙ ap (λ (p : Place). p.tier) c.next_phase.ensures ∙ c.in_ok-tiles-2.ensures.later.tier ∙ ap (λ (p : Place). p.tier) c.in_ok-tiles.ensures)) c.requires.held
+pub records-requires-clause-last : goal.records-requires-clause-last
+records-requires-clause-last g c = c.in_ok-tiles-3.ensures.last
 
-pub table-solved-requires-clause-small : goal.table-solved-requires-clause-small
-table-solved-requires-clause-small g c = subst (λ (t : ℕ). g.G.Game.rules.tier_size t ≤ TIER_SIZE) (sym (c.in_ok-tiles-3.ensures.later.tier
-    ∙ ap (λ (p : Place). p.tier) c.next_phase.ensures ∙ c.in_ok-tiles-2.ensures.later.tier ∙ ap (λ (p : Place). p.tier) c.in_ok-tiles.ensures)) c.requires.small
+pub records-requires-clause-ties : goal.records-requires-clause-ties
+records-requires-clause-ties g c = c.in_ok-tiles-3.ensures.later.phase ∙ ap (λ (p : Place). p.phase) c.next_phase.ensures
 
-pub table-solved-requires-clause-last : goal.table-solved-requires-clause-last
-table-solved-requires-clause-last g c = c.in_ok-tiles-3.ensures.last
+pub table_of-requires-clause-tier_is : goal.table_of-requires-clause-tier_is
+table_of-requires-clause-tier_is g c = ap (λ (p : Place). p.tier) c.in_ok-tiles-3.ensures.last ∙ c.in_ok-tiles-3.ensures.later.tier ∙ ap (λ (p : Place). p.tier) c.next_phase.ensures ∙ c.in_ok-tiles-2.ensures.later.tier
+    ∙ ap (λ (p : Place). p.tier) c.in_ok-tiles.ensures
 
-pub table-solved-requires-clause-ties : goal.table-solved-requires-clause-ties
-table-solved-requires-clause-ties g c = c.in_ok-tiles-3.ensures.later.phase ∙ ap (λ (p : Place). p.phase) c.next_phase.ensures
+pub table_of-requires-clause-ties : goal.table_of-requires-clause-ties
+table_of-requires-clause-ties g c = ap (λ (p : Place). p.phase) c.in_ok-tiles-3.ensures.last ∙ c.in_ok-tiles-3.ensures.later.phase
+    ∙ ap (λ (p : Place). p.phase) c.next_phase.ensures
+
+pub table_of-requires-clause-records : goal.table_of-requires-clause-records
+table_of-requires-clause-records g c = subst (λ (t : ℕ). IsTrueTable g.G.Game.rules REMOTENESS t c.in_ok-records.records)
+    (c.in_ok-tiles-3.ensures.later.tier ∙ ap (λ (p : Place). p.tier) c.next_phase.ensures ∙ c.in_ok-tiles-2.ensures.later.tier
+    ∙ ap (λ (p : Place). p.tier) c.in_ok-tiles.ensures) c.in_ok-records.ensures
+
+pub table_of-requires-clause-number : goal.table_of-requires-clause-number
+table_of-requires-clause-number g c =
+    let r = g.G.Game.rules in
+    subst (λ (p : Place). IsNumberBefore r p.tier 0 (r.tier_size p.tier) p.phase p.level c.number-number.result) (sym c.in_ok-tiles-3.ensures.last)
+    c.number-number.ensures

@@ -18,7 +18,7 @@ loop-index-preserved g c =
     }
 
 pub returns-in_err-push-clause-length : goal.returns-in_err-push-clause-length
-returns-in_err-push-clause-length g c = IfOk-from_err c.from_residual.result _ c.from_residual.ensures.0
+returns-in_err-push-clause-length g c = IfOk-from_err c.from_residual-in_err-push.result _ c.from_residual-in_err-push.ensures.0
 
 pub returns-in_err-push-clause-starts : goal.returns-in_err-push-clause-starts
-returns-in_err-push-clause-starts g c = IfOk-from_err c.from_residual.result _ c.from_residual.ensures.0
+returns-in_err-push-clause-starts g c = IfOk-from_err c.from_residual-in_err-push.result _ c.from_residual-in_err-push.ensures.0

@@ -25,14 +25,11 @@ pub begin-requires-clause-starts : goal.begin-requires-clause-starts
 begin-requires-clause-starts g c = starts_part g.G.Game.rules c.args.tier c.min-lo.result (c.min-hi.result - c.min-lo.result)
     c.args.starts.now c.requires.starts
 
-pub returns-in_err-shard-clause-shard : goal.returns-in_err-shard-clause-shard
-returns-in_err-shard-clause-shard g c = IfOk-from_err c.from_residual.result _ c.from_residual.ensures.0
+pub returns-in_err-shard : goal.returns-in_err-shard
+returns-in_err-shard g c = IfOk-from_err c.from_residual.result _ c.from_residual.ensures.0
 
-pub returns-in_err-shard-clause-none : goal.returns-in_err-shard-clause-none
-returns-in_err-shard-clause-none g c = IfOk-from_err c.from_residual.result _ c.from_residual.ensures.0
-
-pub returns-clause-shard : goal.returns-clause-shard
-returns-clause-shard g c =
+pub returns : goal.returns
+returns g c =
     let r = g.G.Game.rules in
     let lo = c.min-lo.result in
     let hi = c.min-hi.result in
@@ -44,7 +41,7 @@ returns-clause-shard g c =
     let end : hi ≡ min (suc c.args.k * c.args.width) (r.tier_size c.args.tier) = omega arith in
     let rest = length-drop lo c.args.starts.now in
     let long : length part ≡ hi - lo = length-take-le (hi - lo) (drop lo c.args.starts.now) (omega arith) in
-    begun_at r c.args.tier c.args.width c.args.k lo (length part) c.in_ok-shard.shard c.in_ok-shard.ensures from (omega arith)
-
-pub returns-clause-none : goal.returns-clause-none
-returns-clause-none g c = subst (HasNoneHere g.G.Game.rules) (sym c.in_ok-shard.ensures) (none_first g.G.Game.rules c.args.tier c.min-lo.result _)
+    record {
+      spot_is = begun_at r c.args.tier c.args.width c.args.k lo (length part) c.in_ok-shard.shard c.in_ok-shard.ensures from (omega arith);
+      none = subst (HasNoneHere r) (sym c.in_ok-shard.ensures) (none_first r c.args.tier lo _);
+    }

@@ -18,7 +18,7 @@ returns g c =
     let t = c.args.table.now in
     let is = c.size-size.ensures.table in
     let magical : c.extend_from_slice.new.self.items ≡ magic v =
-    c.in_ok-extend_from_slice.ensures.items ∙ (λ i. c.in_ok-file.ensures.items i ++ c.magic.ensures i) in
+    c.in_ok-extend_from_slice.ensures.items ∙ (λ i. c.clear.ensures.items i ++ c.magic.ensures i) in
     let named : c.extend_from_slice-2.new.self.items ≡ magic v ++ r.name = c.in_ok-extend_from_slice-2.ensures.items ∙ (λ i. magical i ++ c.name.ensures i) in
     let tiered : c.push_u64.new.file.items ≡ magic v ++ r.name ++ to_le_bytes w64 t.tier =
     c.in_ok-push_u64.ensures ∙ (λ i. named i ++ to_le_bytes w64 (c.tier.ensures.value i)) in

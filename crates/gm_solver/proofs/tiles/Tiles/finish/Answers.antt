@@ -1,0 +1,16 @@
+use Rattle.std.proofs.lemmas.Result.{IfOk-at_ok, IfOk-weaker}
+use Rattle.gm_solver.proofs.Lower.{REMOTENESS, IsTrueTable, place_of}
+use Rattle.gm_solver.specs.Tiling.{AreRecordsOf}
+use Rattle.gm_solver.proofs.TilingLemmas.{four_halves}
+use Rattle.gm_solver.proofs.tiles.Tiles.finish.Goals as goal
+
+pub returns : goal.returns
+returns g c =
+    let r = g.G.Game.rules in
+    let s = c.args.self in
+    IfOk-weaker c.joined.result _ (IsTrueTable r REMOTENESS s.shards.a.tier)
+    (λ all (p, q, low, high, e).
+    four_halves r (place_of s.shards.a) s.width s.wide s.shards s.shards_are p q all
+    (IfOk-at_ok (AreRecordsOf r s.shards.a s.shards.b) low c.join-low.ensures.first)
+    (IfOk-at_ok (AreRecordsOf r s.shards.c s.shards.d) high c.join-low.ensures.second) e)
+    c.joined.ensures
