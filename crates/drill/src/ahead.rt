@@ -3,7 +3,7 @@
 ghost use Rattle.std.specs.Prelude.{◌≡◌, true};
 
 use crate::files::table_of;
-use crate::words::named;
+use crate::said::Done;
 use gm_dao::dao::Dao;
 use gm_game::ahead::within;
 use gm_game::game::Game;
@@ -14,11 +14,10 @@ use gm_mutorere::mutorere::MuTorere;
 use gm_table::table::Table;
 use gm_table::tables::Tables;
 use gm_tactix::tactix::TacTix;
+use gm_testing::hosts::Host;
 use gm_tierdb::folder_store::FolderStore;
 use gm_tierdb::store::Store;
 use gm_tiers::order::TierOrder;
-use std::alloc::Global;
-use std::fs::Files;
 
 // The counts of a tier: its canonical positions, those whose value looking ahead finds too, and those with which it disagrees.
 #[derive(Clone, Copy)]
@@ -47,11 +46,10 @@ fn with_position<G: Game>(before: Found, p: Position, record: Option<Solved>, mo
         (None, Some(solved)) => is_later(solved, moves),
         (None, None) => false,
     };
+    let known = u64::from(fits && ahead.is_some());
     Found {
         positions: before.positions.saturating_add(1),
-        known: before
-            .known
-            .saturating_add(u64::from(fits && ahead.is_some())),
+        known: before.known.saturating_add(known),
         wrong: before.wrong.saturating_add(u64::from(!fits)),
     }
 }
@@ -74,9 +72,8 @@ fn compared<G: Game>(table: &Table<G>, moves: u32) -> Found {
 }
 
 // Returns the table of a tier's file in a folder, if the file is right.
-fn right_table<G: Game, R: Files>(
+fn right_table<G: Game, R: Host>(
     rt: &R,
-    alloc: Global,
     tier: u64,
     folder: &mut FolderStore,
     tables: &Tables<G>,
@@ -84,140 +81,59 @@ fn right_table<G: Game, R: Files>(
     if folder.failures() == u64::MAX {
         return None;
     }
-    let text = folder.read(rt, alloc, tier);
-    let table = match &text {
-        Ok(Some(text)) => table_of(alloc, tables, tier, text.as_slice()).ok(),
-        _ => None,
-    };
+    let text = folder.read(rt, rt.alloc(), tier).ok()??;
+    let table = table_of(rt.alloc(), tables, tier, text.as_slice()).ok();
     drop(text);
     table
 }
 
-// Counts a tier, and then holds its table. Returns `None` if its file isn't right.
-fn found_in<G: Game, R: Files>(
+// Compares these tiers, one after another, up to the first whose file isn't right. Prints the counts of each, and holds its table.
+fn compare_tiers<G: Game, R: Host + Print>(
     rt: &R,
-    alloc: Global,
-    tier: u64,
-    moves: u32,
-    folder: &mut FolderStore,
-    tables: &mut Tables<G>,
-) -> Option<Found> {
-    match right_table(rt, alloc, tier, folder, tables) {
-        Some(table) => {
-            let found = compared(&table, moves);
-            let is_held = tables.insert(table).is_ok();
-            is_held.then_some(found)
-        }
-        None => None,
-    }
-}
-
-// Prints the counts of a tier.
-fn say_found<R: Print>(rt: &R, tier: u64, found: Found) -> bool {
-    let Found {
-        positions,
-        known,
-        wrong,
-    } = found;
-    println!(rt; "tier {tier}: {positions} positions, {known} known, {wrong} wrong").is_ok()
-}
-
-// Compares these tiers, one after another, up to the first whose file isn't right.
-fn compare_tiers<G: Game, R: Print + Files>(
-    rt: &R,
-    alloc: Global,
     tiers: &[u64],
     moves: u32,
     folder: &mut FolderStore,
     tables: &mut Tables<G>,
-) -> bool {
+) -> Done {
     for tier in tiers {
-        let is_said = match found_in(rt, alloc, *tier, moves, folder, tables) {
-            Some(found) => say_found(rt, *tier, found),
-            None => return true,
+        let Some(table) = right_table(rt, *tier, folder, tables) else {
+            return Some(());
         };
-        if !is_said {
-            return false;
+        let found = compared(&table, moves);
+        if tables.insert(table).is_err() {
+            return Some(());
         }
+        let (positions, known, wrong) = (found.positions, found.known, found.wrong);
+        println!(rt; "tier {tier}: {positions} positions, {known} known, {wrong} wrong").ok()?;
     }
-    true
+    Some(())
 }
 
-// Compares a game.
-fn compare<G: Game, R: Print + Files>(
-    rt: &R,
-    alloc: Global,
-    moves: u32,
-    folder: &mut FolderStore,
-) -> bool {
-    let mut tables: Tables<G> = Tables::new(alloc);
-    let order = TierOrder::<G>::from_initial(alloc);
-    let said = match &order {
-        Ok(order) => compare_tiers(rt, alloc, order.tiers(), moves, folder, &mut tables),
-        Err(_) => false,
-    };
+// Compares the files of a game.
+fn compare<G: Game, R: Host + Print>(rt: &R, moves: u32, folder: &mut FolderStore) -> Done {
+    let order = TierOrder::<G>::from_initial(rt.alloc()).ok()?;
+    let mut tables: Tables<G> = Tables::new(rt.alloc());
+    let said = compare_tiers(rt, order.tiers(), moves, folder, &mut tables);
     drop((order, tables));
     said
 }
 
-// A game whose files are compared.
-#[derive(Clone, Copy)]
-enum Solvable {
-    TicTacToe,
-    ThreeMens,
-    Achi,
-    MuTorere,
-    Hare,
-    Dao,
-    Five,
-    FiveMisere,
-}
-
-const GAMES: [(&str, Solvable); 8] = [
-    ("tictactoe", Solvable::TicTacToe),
-    ("threemens", Solvable::ThreeMens),
-    ("achi", Solvable::Achi),
-    ("mutorere", Solvable::MuTorere),
-    ("hare", Solvable::Hare),
-    ("dao", Solvable::Dao),
-    ("tactix-5", Solvable::Five),
-    ("tactix-5-misere", Solvable::FiveMisere),
-];
-
-// Compares one of the games.
-fn compare_one<R: Print + Files>(
-    rt: &R,
-    alloc: Global,
-    game: Solvable,
-    moves: u32,
-    folder: &mut FolderStore,
-) -> bool {
-    match game {
-        Solvable::TicTacToe => compare::<TicTacToe, R>(rt, alloc, moves, folder),
-        Solvable::ThreeMens => compare::<ThreeMens, R>(rt, alloc, moves, folder),
-        Solvable::Achi => compare::<Achi, R>(rt, alloc, moves, folder),
-        Solvable::MuTorere => compare::<MuTorere, R>(rt, alloc, moves, folder),
-        Solvable::Hare => compare::<Hare, R>(rt, alloc, moves, folder),
-        Solvable::Dao => compare::<Dao, R>(rt, alloc, moves, folder),
-        Solvable::Five => compare::<TacTix<5, false>, R>(rt, alloc, moves, folder),
-        Solvable::FiveMisere => compare::<TacTix<5, true>, R>(rt, alloc, moves, folder),
-    }
-}
-
 /// Compares the files of a game in a folder with looking this many moves ahead. It goes tier by tier, as far as the files are
-/// right, and prints a line for each tier. Returns false if there is no such game.
-pub fn look_ahead<R: Print + Files>(
-    rt: &R,
-    alloc: Global,
-    game: &str,
-    folder: &str,
-    moves: u32,
-) -> bool {
-    match (named(&GAMES, game), String::from_str(alloc, folder)) {
-        (Some(game), Ok(folder)) => {
-            let mut folder = FolderStore::new(alloc, folder);
-            compare_one(rt, alloc, game, moves, &mut folder)
-        }
-        _ => false,
-    }
+/// right, and prints a line for each tier. Returns `None` if there is no such game.
+pub fn look_ahead<R: Host + Print>(rt: &R, game: &str, folder: &str, moves: u32) -> Done {
+    let folder = String::from_str(rt.alloc(), folder).ok()?;
+    let mut store = FolderStore::new(rt.alloc(), folder);
+    let said = match game {
+        "tictactoe" => compare::<TicTacToe, R>(rt, moves, &mut store),
+        "threemens" => compare::<ThreeMens, R>(rt, moves, &mut store),
+        "achi" => compare::<Achi, R>(rt, moves, &mut store),
+        "mutorere" => compare::<MuTorere, R>(rt, moves, &mut store),
+        "hare" => compare::<Hare, R>(rt, moves, &mut store),
+        "dao" => compare::<Dao, R>(rt, moves, &mut store),
+        "tactix-5" => compare::<TacTix<5, false>, R>(rt, moves, &mut store),
+        "tactix-5-misere" => compare::<TacTix<5, true>, R>(rt, moves, &mut store),
+        _ => None,
+    };
+    drop(store);
+    said
 }

@@ -3,11 +3,15 @@
 use gm_game::game::Game;
 use gm_tiers::order::TierOrder;
 
-/// The result of a call. In its place `None` means that memory was refused.
+/// What remains of a drill that succeeded.
+pub type Done = Option<()>;
+
+/// The result of a call.
 #[derive(Clone, Copy)]
 pub enum Said<'a> {
     Number(u64),
     Text(&'a str),
+    OutOfMemory,
 }
 
 /// A result that is printed as a number.
@@ -15,11 +19,11 @@ pub trait Counted: Drop {
     fn count(&self) -> u64;
 }
 
-/// Returns the result of a call as its number, or `None` if memory was refused.
-pub fn number_of<T: Counted, E: Drop>(answer: Result<T, E>) -> Option<Said<'static>> {
+/// Returns the result of a call that fails only if memory is refused, as its number.
+pub fn number_of<T: Counted, E: Drop>(answer: Result<T, E>) -> Said<'static> {
     match answer {
-        Ok(made) => Some(Said::Number(made.count())),
-        Err(_) => None,
+        Ok(made) => Said::Number(made.count()),
+        Err(_) => Said::OutOfMemory,
     }
 }
 
@@ -35,55 +39,28 @@ impl<G: Game> Counted for TierOrder<G> {
     }
 }
 
-// Prints a line. This function and the following ones return whether that succeeded.
-fn say<R: Print>(rt: &R, what: &str, said: Option<Said<'_>>) -> bool {
-    match said {
-        Some(Said::Number(number)) => println!(rt; "{what}: {number}").is_ok(),
-        Some(Said::Text(text)) => println!(rt; "{what}: {text}").is_ok(),
-        None => println!(rt; "{what}: out of memory").is_ok(),
-    }
-}
-
-/// Prints these lines.
-pub fn say_all<R: Print>(rt: &R, lines: &[(&str, Option<Said<'_>>)]) -> bool {
-    for (what, said) in lines {
-        if !say(rt, what, *said) {
-            return false;
+/// Prints a line for each of these words, with its result.
+pub fn say_all<R: Print>(rt: &R, words: &[&str], results: &[Said<'_>]) -> Done {
+    for (word, said) in words.iter().zip(results) {
+        match said {
+            Said::Number(number) => println!(rt; "{word}: {number}"),
+            Said::Text(text) => println!(rt; "{word}: {text}"),
+            Said::OutOfMemory => println!(rt; "{word}: out of memory"),
         }
+        .ok()?;
     }
-    true
+    Some(())
 }
 
-/// Prints the results of a call and of a second one.
-pub fn say_both<R: Print>(rt: &R, first: Option<Said<'_>>, again: Option<Said<'_>>) -> bool {
-    say_all(rt, &[("answer", first), ("again", again)])
-}
-
-/// Prints the state before a call, its result, the state after it, and the result of a second call.
-pub fn say_four<R: Print>(
-    rt: &R,
-    before: Option<Said<'_>>,
-    first: Option<Said<'_>>,
-    after: Option<Said<'_>>,
-    again: Option<Said<'_>>,
-) -> bool {
-    say_all(
-        rt,
-        &[
-            ("before", before),
-            ("answer", first),
-            ("after", after),
-            ("again", again),
-        ],
-    )
-}
+/// The words for the state before a call, its result, the state after it, the result of a second call, and the state at the end.
+pub const WORDS: [&str; 5] = ["before", "answer", "after", "again", "end"];
 
 /// Makes a call between the marks and then once more, and prints both results.
 macro_rules! say_twice {
-    ($rt:expr, $alloc:expr, $call:expr) => {{
-        let first = $crate::marks::marked!($alloc, $call);
+    ($rt:expr, $call:expr) => {{
+        let first = $crate::marks::marked!($rt.alloc(), $call);
         let again = $call;
-        $crate::said::say_both($rt, first, again)
+        $crate::said::say_all($rt, &["answer", "again"], &[first, again])
     }};
 }
 

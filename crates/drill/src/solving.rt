@@ -1,67 +1,26 @@
 //! Solving tiers, and building a game.
-ghost use Rattle.std.specs.Prelude.{◌≤◌};
-ghost use Rattle.gm_table.specs.Tables.{AreHeld};
-
 use crate::marks::marked;
-use crate::said::{Counted, Said, number_of, say_all};
-use crate::words::named;
+use crate::said::{Counted, Done, Said, number_of, say_all};
 use gm_build::build::{Built, build as build_game};
-use gm_build::build_error::BuildError;
 use gm_game::game::Game;
 use gm_game::limits::TIER_SIZE;
 use gm_game::position::{Solved, Value};
-use gm_solver::alone::solve_alone;
 use gm_solver::gate::NoGate;
 use gm_solver::plan::Plan;
 use gm_solver::source::Counter;
-use gm_solver::tier::{Report, solve_passes, solve_tier};
+use gm_solver::tier::Report;
 use gm_table::table::Table;
 use gm_table::tables::Tables;
 use gm_tactix::tactix::TacTix;
+use gm_testing::crews::{Way, solve_by};
+use gm_testing::hosts::{Host, Shared};
 use gm_tierdb::encode::encode;
 use gm_tierdb::mem_store::MemStore;
 use gm_tierdb::store::Store;
-use std::alloc::Global;
-use std::fs::Files;
-use std::sync::Wait;
-use std::thread::Threads;
-
-/// A way to solve a tier: by one thread without locks, or by workers that take pieces of a level or one pass for each shard.
-#[derive(Clone, Copy)]
-pub enum Way {
-    Alone,
-    Pieces,
-    Passes,
-}
-
-// The names of the ways.
-const WAYS: [(&str, Way); 3] = [
-    ("alone", Way::Alone),
-    ("pieces", Way::Pieces),
-    ("passes", Way::Passes),
-];
-
-// Solves the first tier of a game by one thread.
-fn solved_alone<G: Game>(alloc: Global, tables: &Tables<G>) -> Option<(Table<G>, Report)>
-    requires held { AreHeld G.rules tables.now 0 }
-    requires small { G.rules.tier_size 0 ≤ TIER_SIZE }
-{
-    match solve_alone(alloc, 0, tables) {
-        Ok((table, deliveries)) => {
-            let report = Report {
-                deliveries,
-                by_hand: 0,
-            };
-            Some((table, report))
-        }
-        Err(_) => None,
-    }
-}
 
 // Solves the first tier of a game in a way. Returns `None` if memory was refused.
-fn solved<G: Game + Send + Sync, R: Threads + Wait + Sync>(
+fn solved<G: Shared, R: Host>(
     rt: &R,
-    alloc: Global,
     way: Way,
     plan: Plan,
     tables: &Tables<G>,
@@ -69,11 +28,7 @@ fn solved<G: Game + Send + Sync, R: Threads + Wait + Sync>(
     if !tables.has_children(0) || G::tier_size(0) > TIER_SIZE {
         return None;
     }
-    match way {
-        Way::Alone => solved_alone(alloc, tables),
-        Way::Pieces => { solve_tier(rt, alloc, 0, tables, plan, &NoGate, &Counter::new()).ok() }
-        Way::Passes => { solve_passes(rt, alloc, 0, tables, plan, &NoGate, &Counter::new()).ok() }
-    }
+    solve_by(rt, 0, tables, way, plan, &NoGate, &Counter::new()).ok()
 }
 
 // Returns the letter of a record's value, and its remoteness.
@@ -90,88 +45,64 @@ fn letters(record: Option<Solved>) -> (char, u32) {
     (letter, remoteness)
 }
 
-// Prints the records of a table, and ends the line.
-fn say_records<G: Game, R: Print>(rt: &R, table: &Table<G>) -> bool {
+// Prints the number of deliveries and the records of a solved tier, as a line.
+fn say_solved<G: Game, R: Host + Print>(
+    rt: &R,
+    what: &str,
+    answer: &Option<(Table<G>, Report)>,
+) -> Done {
+    let Some((table, report)) = answer else {
+        return say_all(rt, &[what], &[Said::OutOfMemory]);
+    };
+    let deliveries = report.deliveries;
+    print!(rt; "{what}: {deliveries} deliveries:").ok()?;
     for index in 0..table.size() {
         let (letter, remoteness) = letters(table.at(index));
-        if print!(rt; " {letter}{remoteness}").is_err() {
-            return false;
-        }
+        print!(rt; " {letter}{remoteness}").ok()?;
     }
-    println!(rt; "").is_ok()
-}
-
-// Prints the number of deliveries and the records of a solved tier, as a line.
-fn say_solved<G: Game, R: Print>(rt: &R, what: &str, answer: &Option<(Table<G>, Report)>) -> bool {
-    match answer {
-        Some((table, report)) => {
-            let deliveries = report.deliveries;
-            print!(rt; "{what}: {deliveries} deliveries:").is_ok() && say_records(rt, table)
-        }
-        None => say_all(rt, &[(what, None)]),
-    }
-}
-
-// Prints a tier that was solved twice.
-fn say_solves<G: Game, R: Print>(
-    rt: &R,
-    first: &Option<(Table<G>, Report)>,
-    again: &Option<(Table<G>, Report)>,
-) -> bool {
-    say_solved(rt, "answer", first) && say_solved(rt, "again", again)
+    println!(rt; "").ok()
 }
 
 /// Solves the first tier of a game in a way, twice.
-pub fn solve<G: Game + Send + Sync, R: Print + Threads + Wait + Sync>(
-    rt: &R,
-    alloc: Global,
-    way: Way,
-    plan: Plan,
-) -> bool {
-    let tables: Tables<G> = Tables::new(alloc);
-    let first = marked!(alloc, solved(rt, alloc, way, plan, &tables));
-    let again = solved(rt, alloc, way, plan, &tables);
-    let said = say_solves(rt, &first, &again);
+pub fn solve<G: Shared, R: Host + Print>(rt: &R, way: Way, plan: Plan) -> Done {
+    let tables: Tables<G> = Tables::new(rt.alloc());
+    let first = marked!(rt.alloc(), solved(rt, way, plan, &tables));
+    let again = solved(rt, way, plan, &tables);
+    let said = match say_solved(rt, "answer", &first) {
+        Some(()) => say_solved(rt, "again", &again),
+        None => None,
+    };
     drop((first, again, tables));
     said
 }
 
 /// Prints the number of deliveries that solved a tier, the number of those that the coordinator made, and the digest that ends its
 /// file.
-pub(crate) fn say_digest<G: Game, R: Print>(
+pub(crate) fn say_digest<G: Game, R: Host + Print>(
     rt: &R,
-    alloc: Global,
     answer: &Option<(Table<G>, Report)>,
-) -> bool {
-    let Some((table, report)) = answer else {
-        return false;
-    };
-    let Ok(file) = encode(alloc, table) else {
-        return false;
-    };
-    let Ok(digest) = hex::encode(alloc, file.last_chunk::<32>().unwrap_or(&[0; 32])) else {
-        return false;
-    };
-    let Report {
-        deliveries,
-        by_hand,
-    } = *report;
-    println!(rt; "{deliveries} deliveries, {by_hand} by hand, digest {digest}").is_ok()
+) -> Done {
+    let (table, report) = answer.as_ref()?;
+    let file = encode(rt.alloc(), table).ok()?;
+    let digest = file.last_chunk::<32>().unwrap_or(&[0; 32]);
+    let digest = hex::encode(rt.alloc(), digest).ok()?;
+    let (deliveries, by_hand) = (report.deliveries, report.by_hand);
+    println!(rt; "{deliveries} deliveries, {by_hand} by hand, digest {digest}").ok()
 }
 
 /// Solves the first tier of a game in the way of this name, with four workers and four shards, and prints the digest that ends its
 /// file.
-pub fn solve_and_say<G: Game + Send + Sync, R: Print + Threads + Wait + Sync>(
-    rt: &R,
-    alloc: Global,
-    way: &str,
-) -> bool {
-    let (Some(way), Some(plan)) = (named(&WAYS, way), Plan::new(4, 4, 64)) else {
-        return false;
+pub fn solve_and_say<G: Shared, R: Host + Print>(rt: &R, way: &str) -> Done {
+    let way = match way {
+        "alone" => Way::Alone,
+        "pieces" => Way::Pieces,
+        "passes" => Way::Passes,
+        _ => return None,
     };
-    let tables: Tables<G> = Tables::new(alloc);
-    let answer = solved(rt, alloc, way, plan, &tables);
-    let said = say_digest(rt, alloc, &answer);
+    let plan = Plan::new(4, 4, 64)?;
+    let tables: Tables<G> = Tables::new(rt.alloc());
+    let answer = solved(rt, way, plan, &tables);
+    let said = say_digest(rt, &answer);
     drop((answer, tables));
     said
 }
@@ -183,31 +114,18 @@ impl<G: Game> Counted for Built<G> {
     }
 }
 
-// Builds Tac Tix on 2 by 2 into a store. Returns the number of tiers, or `None` if memory was refused.
-fn built<R: Threads + Wait + Files + Sync>(
-    rt: &R,
-    alloc: Global,
-    plan: Plan,
-    store: &mut MemStore,
-) -> Option<Said<'static>> {
+// Builds Tac Tix on 2 by 2 into a store. Returns the number of tiers.
+fn built<R: Host>(rt: &R, plan: Plan, store: &mut MemStore) -> Said<'static> {
     if store.failures() == u64::MAX {
-        return None;
+        return Said::OutOfMemory;
     }
-    let built: Result<Built<TacTix<2, false>>, BuildError> = build_game(
-        rt,
-        alloc,
-        store,
-        plan,
-        &NoGate,
-        &Counter::new(),
-    );
-    number_of(built)
+    let (alloc, source) = (rt.alloc(), Counter::new());
+    number_of::<Built<TacTix<2, false>>, _>(build_game(rt, alloc, store, plan, &NoGate, &source))
 }
 
 // Tests whether a store has the text of a tier, by a store that has the right ones. Returns `None` if it has another text.
-fn has_text<R: Files>(
+fn has_text<R: Host>(
     rt: &R,
-    alloc: Global,
     tier: u64,
     store: &mut MemStore,
     right: &mut MemStore,
@@ -215,6 +133,7 @@ fn has_text<R: Files>(
     if store.failures() == u64::MAX || right.failures() == u64::MAX {
         return None;
     }
+    let alloc = rt.alloc();
     let texts = (store.read(rt, alloc, tier), right.read(rt, alloc, tier));
     let has_text = match &texts {
         (Ok(None), Ok(Some(_))) => Some(false),
@@ -230,54 +149,28 @@ const TEXTS: [&str; 6] = ["-----", "=----", "==---", "===--", "====-", "====="];
 
 // Returns a line with a sign for each of five tiers, child tiers first: the right text, or no text. The line is `x` if a text is
 // wrong, or follows a tier without one.
-fn texts<R: Files>(
-    rt: &R,
-    alloc: Global,
-    store: &mut MemStore,
-    right: &mut MemStore,
-) -> Option<Said<'static>> {
+fn texts<R: Host>(rt: &R, store: &mut MemStore, right: &mut MemStore) -> Said<'static> {
     let mut count: u64 = 0;
     for tier in 0..5 {
-        match has_text(rt, alloc, tier, store, right) {
+        match has_text(rt, tier, store, right) {
             Some(true) if count == tier => count = tier + 1,
             Some(false) => {}
-            _ => return Some(Said::Text("x")),
+            _ => return Said::Text("x"),
         }
     }
-    let text = TEXTS.get(count as usize)?;
-    Some(Said::Text(text))
+    Said::Text(TEXTS.get(count as usize).map_or("x", |text| *text))
 }
 
-// Builds Tac Tix on 2 by 2 into an empty store, and once more. After a refusal the earlier tiers have their texts, and the second
-// build finishes the game.
-fn say_builds<R: Print + Threads + Wait + Files + Sync>(
-    rt: &R,
-    alloc: Global,
-    plan: Plan,
-    store: &mut MemStore,
-    right: &mut MemStore,
-) -> bool {
-    let _tiers = built(rt, alloc, plan, right);
-    let first = marked!(alloc, built(rt, alloc, plan, store));
-    let after = texts(rt, alloc, store, right);
-    let again = built(rt, alloc, plan, store);
-    let end = texts(rt, alloc, store, right);
-    say_all(
-        rt,
-        &[
-            ("answer", first),
-            ("texts", after),
-            ("again", again),
-            ("end", end),
-        ],
-    )
-}
-
-/// Builds Tac Tix on 2 by 2 over a store in memory, and compares it with one that is built without refusals.
-pub fn build<R: Print + Threads + Wait + Files + Sync>(rt: &R, alloc: Global, plan: Plan) -> bool {
-    let mut store = MemStore::new(alloc);
-    let mut right = MemStore::new(alloc);
-    let said = say_builds(rt, alloc, plan, &mut store, &mut right);
+/// Builds Tac Tix on 2 by 2 over an empty store in memory, and once more, and compares it with one that is built without refusals.
+/// After a refusal the earlier tiers have their texts, and the second build finishes the game.
+pub fn build<R: Host + Print>(rt: &R, plan: Plan) -> Done {
+    let (mut store, mut right) = (MemStore::new(rt.alloc()), MemStore::new(rt.alloc()));
+    let _tiers = built(rt, plan, &mut right);
+    let first = marked!(rt.alloc(), built(rt, plan, &mut store));
+    let after = texts(rt, &mut store, &mut right);
+    let again = built(rt, plan, &mut store);
+    let end = texts(rt, &mut store, &mut right);
     drop((store, right));
-    said
+    let words = ["answer", "texts", "again", "end"];
+    say_all(rt, &words, &[first, after, again, end])
 }

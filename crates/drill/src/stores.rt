@@ -1,13 +1,12 @@
 //! Stores. After a refused write the entry is the old one.
 use crate::marks::marked;
-use crate::said::{Said, say_four};
+use crate::said::{Done, Said, WORDS, say_all};
+use gm_testing::hosts::Host;
 use gm_tierdb::flaky::Flaky;
 use gm_tierdb::folder_store::FolderStore;
 use gm_tierdb::mem_store::MemStore;
 use gm_tierdb::store::Store;
 use gm_tierdb::store_error::StoreError;
-use std::alloc::Global;
-use std::fs::Files;
 
 // The tier that gets first the old text and then the new one.
 const TIER: u64 = 7;
@@ -15,13 +14,6 @@ const TIER: u64 = 7;
 const OLD: &[u8] = b"an old text";
 
 const NEW: &[u8] = b"a new text";
-
-/// A call on a store.
-#[derive(Clone, Copy)]
-pub enum Call {
-    Write,
-    Read,
-}
 
 /// The place of a store's texts: in memory, in memory through a `Flaky` that doesn't fail, or in the folder in which the drill
 /// runs.
@@ -32,27 +24,35 @@ pub enum Place {
     Folder,
 }
 
-// Returns the result of a write, or `None` if memory was refused.
-fn written(answer: Result<(), StoreError>) -> Option<Said<'static>> {
+/// A call on a store: a write of a text, a read that returns the number of bytes, or one that returns which text was read.
+#[derive(Clone, Copy)]
+pub enum StoreCall {
+    WriteOld,
+    WriteNew,
+    Read,
+    Look,
+}
+
+// Returns the result of a write.
+fn written(answer: Result<(), StoreError>) -> Said<'static> {
     match answer {
-        Ok(()) => Some(Said::Text("written")),
-        Err(StoreError::Failed) => Some(Said::Text("failed")),
-        Err(StoreError::OutOfMemory) => None,
+        Ok(()) => Said::Text("written"),
+        Err(StoreError::Failed) => Said::Text("failed"),
+        Err(StoreError::OutOfMemory) => Said::OutOfMemory,
     }
 }
 
-// Returns the result of a read as the number of bytes, or `None` if memory was refused.
-fn number_of(answer: Result<Option<Vec<u8>>, StoreError>) -> Option<Said<'static>> {
+// Returns the result of a read as the number of bytes.
+fn number_of(answer: Result<Option<Vec<u8>>, StoreError>) -> Said<'static> {
     match answer {
-        Ok(Some(text)) => Some(Said::Number(text.len() as u64)),
-        Ok(None) => Some(Said::Text("none")),
-        Err(StoreError::Failed) => Some(Said::Text("failed")),
-        Err(StoreError::OutOfMemory) => None,
+        Ok(Some(text)) => Said::Number(text.len() as u64),
+        Ok(None) => Said::Text("none"),
+        Err(error) => written(Err(error)),
     }
 }
 
 // Returns which text was read.
-fn which(answer: Result<Option<Vec<u8>>, StoreError>) -> Option<Said<'static>> {
+fn which(answer: Result<Option<Vec<u8>>, StoreError>) -> Said<'static> {
     let word = match &answer {
         Ok(Some(text)) if text.as_slice() == OLD => "old",
         Ok(Some(text)) if text.as_slice() == NEW => "new",
@@ -61,64 +61,42 @@ fn which(answer: Result<Option<Vec<u8>>, StoreError>) -> Option<Said<'static>> {
         Err(_) => "failed",
     };
     drop(answer);
-    Some(Said::Text(word))
+    Said::Text(word)
 }
 
-// An action on a store.
-#[derive(Clone, Copy)]
-enum Deed {
-    WriteOld,
-    Look,
-    Call(Call),
-}
-
-// Does this with a store, and returns the result.
-fn answered<S: Store, R: Files>(
-    rt: &R,
-    alloc: Global,
-    deed: Deed,
-    store: &mut S,
-) -> Option<Said<'static>> {
+// Makes a call on a store, and returns the result.
+fn answered<S: Store, R: Host>(rt: &R, call: StoreCall, store: &mut S) -> Said<'static> {
     if store.failures() == u64::MAX {
-        return Some(Said::Text("failed"));
+        return Said::Text("failed");
     }
-    match deed {
-        Deed::WriteOld => written(store.write(rt, TIER, OLD)),
-        Deed::Look => which(store.read(rt, alloc, TIER)),
-        Deed::Call(Call::Write) => written(store.write(rt, TIER, NEW)),
-        Deed::Call(Call::Read) => number_of(store.read(rt, alloc, TIER)),
+    match call {
+        StoreCall::WriteOld => written(store.write(rt, TIER, OLD)),
+        StoreCall::WriteNew => written(store.write(rt, TIER, NEW)),
+        StoreCall::Read => number_of(store.read(rt, rt.alloc(), TIER)),
+        StoreCall::Look => which(store.read(rt, rt.alloc(), TIER)),
     }
 }
 
 // Makes a call on a store that has the old text.
-fn call_on_old<R: Print + Files, S: Store>(
-    rt: &R,
-    alloc: Global,
-    call: Call,
-    store: &mut S,
-) -> bool {
-    let _written = answered(rt, alloc, Deed::WriteOld, store);
-    let before = answered(rt, alloc, Deed::Look, store);
-    let first = marked!(alloc, answered(rt, alloc, Deed::Call(call), store));
-    let after = answered(rt, alloc, Deed::Look, store);
-    let again = answered(rt, alloc, Deed::Call(call), store);
-    say_four(rt, before, first, after, again)
+fn call_on_old<R: Host + Print, S: Store>(rt: &R, call: StoreCall, mut store: S) -> Done {
+    let _written = answered(rt, StoreCall::WriteOld, &mut store);
+    let before = answered(rt, StoreCall::Look, &mut store);
+    let first = marked!(rt.alloc(), answered(rt, call, &mut store));
+    let after = answered(rt, StoreCall::Look, &mut store);
+    let again = answered(rt, call, &mut store);
+    drop(store);
+    say_all(rt, &WORDS, &[before, first, after, again])
 }
 
-/// Makes a call on a store.
-pub fn call_on<R: Print + Files>(rt: &R, alloc: Global, call: Call, place: Place) -> bool {
+/// Makes a call on a store with the old text.
+pub fn call_on<R: Host + Print>(rt: &R, call: StoreCall, place: Place) -> Done {
+    let memory = MemStore::new(rt.alloc());
     match place {
-        Place::Memory => call_on_old(rt, alloc, call, &mut MemStore::new(alloc)),
-        Place::Through => {
-            let mut store = Flaky::new(MemStore::new(alloc), u64::MAX, u64::MAX);
-            call_on_old(rt, alloc, call, &mut store)
-        }
+        Place::Memory => call_on_old(rt, call, memory),
+        Place::Through => call_on_old(rt, call, Flaky::new(memory, u64::MAX, u64::MAX)),
         Place::Folder => {
-            let Ok(folder) = String::from_str(alloc, ".") else {
-                return false;
-            };
-            let mut store = FolderStore::new(alloc, folder);
-            call_on_old(rt, alloc, call, &mut store)
+            let folder = String::from_str(rt.alloc(), ".").ok()?;
+            call_on_old(rt, call, FolderStore::new(rt.alloc(), folder))
         }
     }
 }

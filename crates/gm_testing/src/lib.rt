@@ -3,5 +3,5 @@
 
 pub mod by_hand;
 pub mod crews;
-pub mod holding;
+pub mod hosts;
 pub mod sources;

@@ -1,11 +1,11 @@
-//! One source with every habit and one gate that waits or counts, so that the tests of a game are one instance of the solver.
+//! One source with every habit, and one gate that waits or counts, so that the tests of a game are one instance of the solver.
 use gm_game::position::{Phase, Place};
 use gm_solver::gate::Gate;
 use gm_solver::source::{Counter, Source};
 use std::sync::atomic::{AtomicUsize, Ordering};
 use std::sync::{Mutex, Wait};
 
-/// What a source answers when it is asked during a level, one answer after another.
+/// What a source returns when it is asked during a level, one result after another.
 #[derive(Clone, Copy)]
 pub enum Habit {
     /// Each number once, as the library's own source does.
@@ -30,6 +30,7 @@ pub struct TestSource {
     levels: AtomicUsize,
     told: AtomicUsize,
     asks: AtomicUsize,
+    // The pieces of this level, the calls during it, and which of two workers asked.
     pieces: AtomicUsize,
     asked: AtomicUsize,
     asked_by: Mutex<[bool; 2]>,
@@ -92,7 +93,7 @@ impl Source for TestSource {
     }
 }
 
-// Marks one of two workers, and answers whether it was not marked before.
+// Marks one of two workers, and returns whether it was not marked before.
 fn is_first<R: Wait>(rt: &R, marks: &Mutex<[bool; 2]>, worker: usize) -> bool {
     let mut marks = marks.lock(rt);
     if worker >= 2 || marks[worker] {
@@ -102,65 +103,73 @@ fn is_first<R: Wait>(rt: &R, marks: &Mutex<[bool; 2]>, worker: usize) -> bool {
     true
 }
 
-/// Holds each of two workers at its first delivery of one level of wins and losses, until the other has arrived there too, for at most a million turns.
-#[derive(Drop)]
-pub struct Meeting {
-    arrived: Mutex<[bool; 2]>,
-    gave_up: Mutex<bool>,
-    level: u32,
+/// What a gate does.
+#[derive(Clone, Copy)]
+pub enum Kind {
+    /// Nothing.
+    Open,
+    /// Holds each of two workers at its first delivery of this level of wins and losses, until the other has arrived there too.
+    Meeting(u32),
+    /// Takes and frees a mutex this many times before each delivery.
+    Turnstile(u32),
+    /// Lets a worker deliver while no other one does.
+    Seat,
 }
 
-impl Meeting {
-    // Waits for both workers, and answers whether they arrived.
-    fn wait<R: Wait>(&self, rt: &R) -> bool {
-        for _ in 0..1_000_000 {
-            if *self.arrived.lock(rt) == [true; 2] {
-                return true;
-            }
-        }
-        false
-    }
-
-    // Waits until both workers have come to a delivery.
-    fn come<R: Wait>(&self, rt: &R, worker: usize, place: Place) {
-        let is_here = place.phase == Phase::WinLose && place.level == self.level;
-        if is_here && is_first(rt, &self.arrived, worker) && !self.wait(rt) {
-            *self.gave_up.lock(rt) = true;
-        }
-    }
-}
-
-/// Counts the calls before and after deliveries, and takes and frees a mutex a number of times before each.
+/// A gate of a kind. It counts its calls before and after deliveries, and the workers that gave up waiting after a million turns.
+/// `EACH` is that of the trait.
 #[derive(Drop)]
-pub struct Turnstile {
+pub struct TestGate<const EACH: bool> {
+    kind: Kind,
     before: AtomicUsize,
     after: AtomicUsize,
-    turns: u32,
-    lock: Mutex<u32>,
-}
-
-/// One seat: it is taken before a delivery and freed after it, so that a worker waits while another one delivers, for at most a million turns.
-#[derive(Drop)]
-pub struct Seat {
-    taken: Mutex<bool>,
-    seated: AtomicUsize,
     gave_up: AtomicUsize,
+    // The workers that have arrived; of a seat, whether it is taken.
+    marks: Mutex<[bool; 2]>,
 }
 
-impl Seat {
-    // Takes the seat if it is free, and answers whether it was.
-    fn try_take<R: Wait>(&self, rt: &R) -> bool {
-        let mut taken = self.taken.lock(rt);
-        let is_free = !*taken;
-        *taken = true;
-        is_free
+impl<const EACH: bool> TestGate<EACH> {
+    /// Returns a gate that nothing has passed.
+    pub fn of(kind: Kind) -> Self {
+        TestGate {
+            kind,
+            before: AtomicUsize::new(0),
+            after: AtomicUsize::new(0),
+            gave_up: AtomicUsize::new(0),
+            marks: Mutex::new([false; 2]),
+        }
     }
 
-    // Waits for the seat, and takes it.
-    fn take<R: Wait>(&self, rt: &R) {
+    /// Returns how often it was called before deliveries and after them.
+    pub fn passed(&self) -> (usize, usize) {
+        (
+            self.before.load(Ordering::SeqCst),
+            self.after.load(Ordering::SeqCst),
+        )
+    }
+
+    /// Returns how many workers gave up waiting.
+    pub fn gave_up(&self) -> usize {
+        self.gave_up.load(Ordering::SeqCst)
+    }
+
+    /// Returns whether both workers arrived.
+    pub fn met<R: Wait>(&self, rt: &R) -> bool {
+        *self.marks.lock(rt) == [true; 2]
+    }
+
+    // Returns whether a worker may go on: both have arrived, or the seat was free. Then it takes the seat.
+    fn opens<R: Wait>(&self, rt: &R) -> bool {
+        match self.kind {
+            Kind::Seat => is_first(rt, &self.marks, 0),
+            _ => self.met(rt),
+        }
+    }
+
+    // Waits until a worker may go on.
+    fn wait<R: Wait>(&self, rt: &R) {
         for _ in 0..1_000_000 {
-            if self.try_take(rt) {
-                self.seated.fetch_add(1, Ordering::SeqCst);
+            if self.opens(rt) {
                 return;
             }
         }
@@ -168,129 +177,32 @@ impl Seat {
     }
 }
 
-/// A gate that does nothing, or one of those above.
-#[derive(Drop)]
-pub enum TestGate {
-    Open,
-    Meeting(Meeting),
-    Turnstile(Turnstile),
-    Seat(Seat),
-}
-
-impl TestGate {
-    /// Returns a meeting at this level.
-    pub fn meeting(level: u32) -> Self {
-        TestGate::Meeting(Meeting {
-            level,
-            arrived: Mutex::new([false; 2]),
-            gave_up: Mutex::new(false),
-        })
-    }
-
-    /// Returns a turnstile that takes its mutex this many times before a delivery.
-    pub fn turnstile(turns: u32) -> Self {
-        TestGate::Turnstile(Turnstile {
-            before: AtomicUsize::new(0),
-            after: AtomicUsize::new(0),
-            turns,
-            lock: Mutex::new(0),
-        })
-    }
-
-    /// Returns a free seat.
-    pub fn seat() -> Self {
-        TestGate::Seat(Seat {
-            taken: Mutex::new(false),
-            seated: AtomicUsize::new(0),
-            gave_up: AtomicUsize::new(0),
-        })
-    }
-
-    /// Returns how often a seat was taken, and how often a worker gave up waiting for it.
-    pub fn seated(&self) -> (usize, usize) {
-        match self {
-            TestGate::Seat(seat) => (
-                seat.seated.load(Ordering::SeqCst),
-                seat.gave_up.load(Ordering::SeqCst),
-            ),
-            _ => (0, 0),
-        }
-    }
-
-    /// Returns whether both workers arrived at a meeting, and none gave up.
-    pub fn met<R: Wait>(&self, rt: &R) -> bool {
-        match self {
-            TestGate::Meeting(meeting) => {
-                *meeting.arrived.lock(rt) == [true; 2] && !*meeting.gave_up.lock(rt)
-            }
-            _ => false,
-        }
-    }
-
-    /// Returns how often a turnstile was called before deliveries and after them.
-    pub fn passed(&self) -> (usize, usize) {
-        match self {
-            TestGate::Turnstile(turnstile) => (
-                turnstile.before.load(Ordering::SeqCst),
-                turnstile.after.load(Ordering::SeqCst),
-            ),
-            _ => (0, 0),
-        }
-    }
-}
-
-impl Gate for TestGate {
-    const EACH: bool = true;
+impl<const EACH: bool> Gate for TestGate<EACH> {
+    const EACH: bool = EACH;
 
     fn before<R: Wait>(&self, rt: &R, worker: usize, place: Place) {
-        match self {
-            TestGate::Open => {}
-            TestGate::Seat(seat) => seat.take(rt),
-            TestGate::Meeting(meeting) => meeting.come(rt, worker, place),
-            TestGate::Turnstile(turnstile) => {
-                turnstile.before.fetch_add(1, Ordering::SeqCst);
-                for turn in 0..turnstile.turns {
-                    *turnstile.lock.lock(rt) = turn;
+        self.before.fetch_add(1, Ordering::SeqCst);
+        match self.kind {
+            Kind::Open => {}
+            Kind::Seat => self.wait(rt),
+            Kind::Meeting(level) => {
+                let is_here = place.phase == Phase::WinLose && place.level == level;
+                if is_here && is_first(rt, &self.marks, worker) {
+                    self.wait(rt);
+                }
+            }
+            Kind::Turnstile(turns) => {
+                for _ in 0..turns {
+                    drop(self.marks.lock(rt));
                 }
             }
         }
     }
 
     fn after<R: Wait>(&self, rt: &R, _worker: usize, _place: Place) {
-        match self {
-            TestGate::Turnstile(turnstile) => {
-                turnstile.after.fetch_add(1, Ordering::SeqCst);
-            }
-            TestGate::Seat(seat) => *seat.taken.lock(rt) = false,
-            TestGate::Open | TestGate::Meeting(_) => {}
+        self.after.fetch_add(1, Ordering::SeqCst);
+        if let Kind::Seat = self.kind {
+            self.marks.lock(rt)[0] = false;
         }
-    }
-}
-
-/// A gate for workers that deliver many pairs while they hold a lock once: a turnstile that takes no mutex.
-#[derive(Drop)]
-pub struct Together(TestGate);
-
-impl Together {
-    /// Returns a gate that nothing has passed.
-    pub fn new() -> Self {
-        Together(TestGate::turnstile(0))
-    }
-
-    /// Returns how often it was called before deliveries and after them.
-    pub fn passed(&self) -> (usize, usize) {
-        self.0.passed()
-    }
-}
-
-impl Gate for Together {
-    const EACH: bool = false;
-
-    fn before<R: Wait>(&self, rt: &R, worker: usize, place: Place) {
-        self.0.before(rt, worker, place);
-    }
-
-    fn after<R: Wait>(&self, rt: &R, worker: usize, place: Place) {
-        self.0.after(rt, worker, place);
     }
 }

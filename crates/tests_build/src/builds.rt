@@ -1,4 +1,3 @@
-//! Builds of whole games over stores, also over stores that fail; progress; questions about positions without a table.
+//! Builds of whole games over stores, also over stores that fail, and their progress.
 mod progresses;
-mod questions;
 mod stores;

@@ -1,8 +1,14 @@
 //! Expectations of tests. A call is far cheaper to prove than `assert!` or `assert_eq!` written out.
 ghost use Rattle.std.specs.Prelude.{◌≡◌, Ok, IsTrue};
 
+use gm_testing::hosts::Host;
 use std::fmt::Debug;
 use std::process::Abort;
+
+/// A runtime of a test that starts threads or uses a store.
+pub(crate) trait Runtime: Host + Abort {}
+
+impl<R: Host + Abort> Runtime for R {}
 
 /// Fails if a value is not the wanted one.
 pub(crate) fn expect_eq<T: Debug + PartialEq + Drop>(rt: &impl Abort, found: T, wanted: T) {

@@ -1,10 +1,9 @@
 //! Progress on standard error: docs/PROGRAM.md.
-use crate::expect::expect_eq;
+use crate::expect::{Runtime, expect_eq};
 use gm_build::progress::Progress;
 use gm_game::position::{Phase, Place};
 use gm_solver::observer::Observer;
 use std::io::{self, ErrorKind, Write};
-use std::process::Abort;
 use std::sync::Wait;
 use std::sync::atomic::{AtomicU64, Ordering};
 use std::time::{Clock, Duration};
@@ -52,48 +51,50 @@ impl Write for Lines {
     }
 }
 
-// Delivers eight pairs, each at the next level of wins and losses.
-fn deliver<R: Wait, C: Clock + Sync, E: Write + Send>(rt: &R, progress: &Progress<'_, C, E>) {
-    progress.begin(rt, 3);
-    progress.read(rt, 7);
-    progress.solve(rt, 7);
-    for level in 0..8 {
-        let place = Place {
-            tier: 7,
-            phase: Phase::WinLose,
-            level,
-        };
-        progress.level(rt, place);
-        progress.delivered(rt, 1);
-    }
+// What is reported of a tier.
+#[derive(Clone, Copy)]
+enum Work {
+    // The delivery of eight pairs, each at the next level of wins and losses.
+    Deliver,
+    // The settling of 2,000 indexes in four blocks.
+    Settle,
 }
 
-// Reports the progress of eight pairs to an output.
-fn tell<R: Wait>(rt: &R, clock: &Tenths, errors: &mut Lines) {
+// Reports the work on tier 7, the first of three.
+fn report<R: Wait>(rt: &R, clock: &Tenths, errors: &mut Lines, work: Work) {
     let progress = Progress::new(clock, errors);
-    deliver(rt, &progress);
+    progress.begin(rt, 3);
+    progress.read(rt, 7);
+    match work {
+        Work::Deliver => {
+            progress.solve(rt, 7);
+            for level in 0..8 {
+                let (tier, phase) = (7, Phase::WinLose);
+                progress.level(rt, Place { tier, phase, level });
+                progress.delivered(rt, 1);
+            }
+        }
+        Work::Settle => {
+            progress.settle(rt, 7, 2000);
+            for _ in 0..4 {
+                progress.settled(500);
+            }
+        }
+    }
     drop(progress);
 }
 
-// Checks the report with such a clock to an output that accepts this many calls, and the number of calls.
-fn check_told<R: Wait + AllocGlobal + Abort>(
-    rt: &R,
-    works: bool,
-    takes: u64,
-    calls: u64,
-    text: &[u8],
-) {
-    let clock = Tenths {
-        works,
-        read: AtomicU64::new(0),
-    };
+// Checks the report with a clock that works or not, to an output that accepts this many calls, and the number of calls.
+fn check_told<R: Runtime>(rt: &R, work: Work, works: bool, takes: u64, wanted: (u64, &[u8])) {
+    let read = AtomicU64::new(0);
+    let clock = Tenths { works, read };
     let mut errors = Lines {
         text: Vec::new(rt.alloc()),
         calls: 0,
         takes,
     };
-    tell(rt, &clock, &mut errors);
-    expect_eq(rt, (errors.calls, errors.text.as_slice()), (calls, text));
+    report(rt, &clock, &mut errors, work);
+    expect_eq(rt, (errors.calls, errors.text.as_slice()), wanted);
     drop(errors);
 }
 
@@ -110,23 +111,15 @@ const ALL: &[u8] = b"tier 7 (1 of 3): check, 0 delivered\n\
 // Checks that a line is one call, that no call follows a failure, and that nothing is reported without a clock.
 #[test]
 fn lines_are_told_a_quarter_of_a_second_apart(rt: HostRuntime) {
-    check_told(&rt, true, 100, 4, ALL);
-    check_told(&rt, true, 0, 1, b"");
-    check_told(&rt, true, 1, 2, CHECK);
-    check_told(&rt, true, 2, 3, TWO);
-    check_told(&rt, false, 100, 0, b"");
-}
-
-// Settles a tier of 2,000 indexes in four blocks.
-fn settle<R: Wait>(rt: &R, clock: &Tenths, errors: &mut Lines) {
-    let progress = Progress::new(clock, errors);
-    progress.begin(rt, 3);
-    progress.read(rt, 7);
-    progress.settle(rt, 7, 2000);
-    for _ in 0..4 {
-        progress.settled(500);
+    for (works, takes, calls, text) in [
+        (true, 100, 4, ALL),
+        (true, 0, 1, b""),
+        (true, 1, 2, CHECK),
+        (true, 2, 3, TWO),
+        (false, 100, 0, b""),
+    ] {
+        check_told(&rt, Work::Deliver, works, takes, (calls, text));
     }
-    drop(progress);
 }
 
 const SETTLED: &[u8] = b"tier 7 (1 of 3): check, 0 delivered\n\
@@ -134,16 +127,5 @@ const SETTLED: &[u8] = b"tier 7 (1 of 3): check, 0 delivered\n\
 
 #[test]
 fn a_settled_tier_tells_its_share(rt: HostRuntime) {
-    let clock = Tenths {
-        works: true,
-        read: AtomicU64::new(0),
-    };
-    let mut errors = Lines {
-        text: Vec::new(rt.alloc()),
-        calls: 0,
-        takes: 100,
-    };
-    settle(&rt, &clock, &mut errors);
-    expect_eq(&rt, (errors.calls, errors.text.as_slice()), (2, SETTLED));
-    drop(errors);
+    check_told(&rt, Work::Settle, true, 100, (2, SETTLED));
 }

@@ -1,5 +1,5 @@
 //! Builds with two workers, two shards and pieces of one note, over a store in memory that may fail at one of its calls.
-use crate::expect::{expect_eq, must};
+use crate::expect::{Runtime, expect_eq, must};
 use gm_build::build::{Built, build_from};
 use gm_build::build_error::BuildError;
 use gm_build::work::Work;
@@ -7,74 +7,73 @@ use gm_game::game::Game;
 use gm_solver::observer::NoObserver;
 use gm_solver::plan::Plan;
 use gm_tactix::tactix::TacTix;
-use gm_testing::sources::{TestGate, TestSource};
+use gm_testing::hosts::Shared;
+use gm_testing::sources::{Kind, TestGate, TestSource};
 use gm_tierdb::flaky::Flaky;
 use gm_tierdb::mem_store::MemStore;
 use gm_tierdb::store::Store;
 use gm_toys::chain::Chain;
 use gm_toys::countdown::Countdown;
 use gm_toys::stairs::Stairs;
-use std::fs::Files;
-use std::process::Abort;
-use std::sync::Wait;
-use std::thread::Threads;
 
-// The numbers of tiers that a build solved and reused, of deliveries, and of deliveries by hand.
-type Took = Result<(usize, usize, u64, u64), BuildError>;
+type Ten = Countdown<10>;
 
-// Returns the work of a build that migrated no tier.
-fn took<G: Game>(rt: &impl Abort, built: Built<G>) -> (usize, usize, u64, u64) {
-    let work = built.work;
-    drop(built);
-    expect_eq(rt, work.migrated, 0);
-    (work.solved, work.reused, work.deliveries, work.by_hand)
+// Tac Tix of four counters. It has one tier for each number of counters on the board.
+type Square = TacTix<2, false>;
+
+type Took = Result<Work, BuildError>;
+
+// Returns the work of a build that migrated no tier and made no delivery by hand: the numbers of tiers that it solved and reused,
+// and of deliveries.
+fn work(solved: usize, reused: usize, deliveries: u64) -> Took {
+    Ok(Work {
+        solved,
+        reused,
+        migrated: 0,
+        deliveries,
+        by_hand: 0,
+    })
 }
 
 // Builds the tiers of a game that one tier reaches, with this gate and source.
-fn built_by<
-    G: Game + Send + Sync,
-    R: Threads + Wait + Files + Sync + AllocGlobal + Abort,
-    S: Store,
->(rt: &R, first: u64, store: &mut S, plan: Plan, gate: &TestGate, source: &TestSource) -> Took {
-    assert!(rt; store.failures() < u64::MAX);
-    match build_from::<G, R, _, _, _, _>(
-        rt,
-        rt.alloc(),
-        first,
-        store,
-        plan,
-        gate,
-        source,
-        &NoObserver,
-    ) {
-        Ok(built) => Ok(took(rt, built)),
-        Err(error) => Err(error),
-    }
-}
-
-// Builds such tiers with a gate that does nothing and a source that hands out each piece once.
-fn built<G: Game + Send + Sync, R: Threads + Wait + Files + Sync + AllocGlobal + Abort, S: Store>(
+fn built_by<G: Shared, R: Runtime, S: Store>(
     rt: &R,
     first: u64,
     store: &mut S,
+    plan: Option<Plan>,
+    gate: &TestGate<true>,
+    source: &TestSource,
 ) -> Took {
-    let plan = Plan::new(2, 2, 1).expect(rt, "a plan");
-    let source = TestSource::counter();
-    built_by::<G, R, S>(rt, first, store, plan, &TestGate::Open, &source)
+    let (alloc, plan) = (rt.alloc(), plan.expect(rt, "a plan"));
+    assert!(rt; store.failures() < u64::MAX);
+    let built: Built<G> = build_from(rt, alloc, first, store, plan, gate, source, &NoObserver)?;
+    let work = built.work;
+    drop(built);
+    Ok(work)
+}
+
+// Builds such tiers with a gate that does nothing and a source that hands out each piece once.
+fn built<G: Shared, R: Runtime, S: Store>(rt: &R, first: u64, store: &mut S) -> Took {
+    let (gate, source) = (TestGate::of(Kind::Open), TestSource::counter());
+    built_by::<G, R, S>(rt, first, store, Plan::new(2, 2, 1), &gate, &source)
 }
 
 // Builds a game once for each of these results, over an empty store that fails at one call.
-fn builds<G: Game + Send + Sync, R: Threads + Wait + Files + Sync + AllocGlobal + Abort>(
-    rt: &R,
-    call: u64,
-    answers: &[Took],
-) -> Flaky<MemStore> {
+fn builds<G: Shared, R: Runtime>(rt: &R, call: u64, results: &[Took]) -> Flaky<MemStore> {
     let mut store = Flaky::new(MemStore::new(rt.alloc()), call, call);
-    for answer in answers {
+    for result in results {
         let took = built::<G, R, _>(rt, G::initial().tier, &mut store);
-        expect_eq(rt, took, *answer);
+        expect_eq(rt, (call, took), (call, *result));
     }
     store
+}
+
+// Checks that a tier has this text in a store, or no text.
+fn check_text<R: Runtime, S: Store>(rt: &R, store: &mut S, tier: u64, text: Option<&[u8]>) {
+    assert!(rt; store.failures() < u64::MAX);
+    let found = must(rt, store.read(rt, rt.alloc(), tier));
+    expect_eq(rt, found.as_ref().map(|found| found.as_slice()), text);
+    drop(found);
 }
 
 // The number of no call.
@@ -82,39 +81,27 @@ const NEVER: u64 = 0;
 
 const FAILED: Took = Err(BuildError::StoreFailed { tier: 0 });
 
-// The file of Countdown from 10 (docs/FORMATS.md, `file_of_countdown`).
-const FILE: [u8; 116] = [
-    0x47, 0x4d, 0x54, 0x49, 0x45, 0x52, 0x30, 0x32, 0x63, 0x6f, 0x75, 0x6e, 0x74, 0x64, 0x6f, 0x77,
-    0x6e, 0x00, 0x00, 0x00, 0x00, 0x00, 0x00, 0x00, 0x00, 0x00, 0x00, 0x00, 0x00, 0x00, 0x00, 0x00,
-    0x0b, 0x00, 0x00, 0x00, 0x00, 0x00, 0x00, 0x00, 0x00, 0x00, 0x10, 0x00, 0x01, 0x00, 0x40, 0x00,
-    0x01, 0x00, 0x40, 0x00, 0x02, 0x00, 0x10, 0x00, 0x03, 0x00, 0x40, 0x00, 0x03, 0x00, 0x40, 0x00,
-    0x04, 0x00, 0x10, 0x00, 0x05, 0x00, 0x40, 0x00, 0x05, 0x00, 0x40, 0x00, 0x06, 0x00, 0x10, 0x00,
-    0x07, 0x00, 0x40, 0x00, 0x2e, 0xf8, 0x81, 0x3d, 0x47, 0x8f, 0xdc, 0xe4, 0xab, 0xd4, 0x0b, 0xf6,
-    0x24, 0x82, 0x9f, 0x9a, 0x01, 0xbd, 0x2c, 0x77, 0x00, 0xa0, 0xac, 0x79, 0x69, 0x57, 0x2a, 0x95,
-    0x4a, 0xe3, 0x9b, 0xd4,
-];
+// The file of Countdown from 10: docs/FORMATS.md, `file_of_countdown`.
+const FILE: &[u8] = b"GMTIER02countdown\0\0\0\0\0\0\0\0\0\0\0\0\0\0\0\x0b\0\0\0\0\0\0\0\
+    \0\0\x10\0\x01\0\x40\0\x01\0\x40\0\x02\0\x10\0\x03\0\x40\0\x03\0\x40\0\x04\0\x10\0\x05\0\x40\0\
+    \x05\0\x40\0\x06\0\x10\0\x07\0\x40\0\x2e\xf8\x81\x3d\x47\x8f\xdc\xe4\xab\xd4\x0b\xf6\
+    \x24\x82\x9f\x9a\x01\xbd\x2c\x77\x00\xa0\xac\x79\x69\x57\x2a\x95\x4a\xe3\x9b\xd4";
+
+// The file of Countdown from 10 in version 1: docs/FORMATS.md, `old_file_of_countdown`.
+const OLD_FILE: &[u8] = b"GMTIER01countdown\0\0\0\0\0\0\0\0\0\0\0\0\0\0\0\x0b\0\0\0\0\0\0\0\
+    \0\x10\x01\x40\x01\x40\x02\x10\x03\x40\x03\x40\x04\x10\x05\x40\x05\x40\x06\x10\x07\x40\
+    \xb9\xdf\x1f\xd1\x0f\x8b\x71\x5f\xfd\xae\xaf\xac\xde\x68\x86\xf7\
+    \x91\xd7\x0c\xb2\xb7\xc0\x03\x1d\x4f\xcd\xeb\x40\xa4\x4c\xa2\xae";
 
 // Checks that Countdown is built after the store fails to read or to write.
 #[test]
 fn a_failing_store_is_built_later(rt: HostRuntime) {
     for call in [1, 2] {
-        let mut store = builds::<Countdown<10>, _>(&rt, call, &[FAILED, Ok((1, 0, 19, 0))]);
-        assert!(rt; store.failures() < u64::MAX);
-        let text = must(&rt, store.read(&rt, rt.alloc(), 0)).expect(&rt, "it has a text");
-        expect_eq(&rt, text.as_slice(), FILE.as_slice());
-        drop((store, text));
+        let mut store = builds::<Ten, _>(&rt, call, &[FAILED, work(1, 0, 19)]);
+        check_text(&rt, &mut store, 0, Some(FILE));
+        drop(store);
     }
 }
-
-// The file of Countdown from 10 in version 1 (docs/FORMATS.md, `old_file_of_countdown`).
-const OLD_FILE: [u8; 94] = [
-    0x47, 0x4d, 0x54, 0x49, 0x45, 0x52, 0x30, 0x31, 0x63, 0x6f, 0x75, 0x6e, 0x74, 0x64, 0x6f, 0x77,
-    0x6e, 0x00, 0x00, 0x00, 0x00, 0x00, 0x00, 0x00, 0x00, 0x00, 0x00, 0x00, 0x00, 0x00, 0x00, 0x00,
-    0x0b, 0x00, 0x00, 0x00, 0x00, 0x00, 0x00, 0x00, 0x00, 0x10, 0x01, 0x40, 0x01, 0x40, 0x02, 0x10,
-    0x03, 0x40, 0x03, 0x40, 0x04, 0x10, 0x05, 0x40, 0x05, 0x40, 0x06, 0x10, 0x07, 0x40, 0xb9, 0xdf,
-    0x1f, 0xd1, 0x0f, 0x8b, 0x71, 0x5f, 0xfd, 0xae, 0xaf, 0xac, 0xde, 0x68, 0x86, 0xf7, 0x91, 0xd7,
-    0x0c, 0xb2, 0xb7, 0xc0, 0x03, 0x1d, 0x4f, 0xcd, 0xeb, 0x40, 0xa4, 0x4c, 0xa2, 0xae,
-];
 
 // Checks that a file of version 1 in a store in memory is migrated without solving a tier, and that the store then has the file of
 // today.
@@ -122,75 +109,42 @@ const OLD_FILE: [u8; 94] = [
 fn an_old_file_in_memory_is_migrated(rt: HostRuntime) {
     let mut store = MemStore::new(rt.alloc());
     assert!(rt; store.failures() < u64::MAX);
-    must(&rt, store.write(&rt, 0, OLD_FILE.as_slice()));
-    assert!(rt; store.failures() < u64::MAX);
-    let plan = Plan::new(2, 2, 1).expect(&rt, "a plan");
-    let built = build_from::<Countdown<10>, _, _, _, _, _>(
-        &rt,
-        rt.alloc(),
-        0,
-        &mut store,
-        plan,
-        &TestGate::Open,
-        &TestSource::counter(),
-        &NoObserver,
-    );
-    let built = must(&rt, built);
-    let migrated = Work {
-        solved: 0,
-        reused: 0,
-        migrated: 1,
-        deliveries: 0,
-        by_hand: 0,
-    };
-    expect_eq(&rt, built.work, migrated);
-    drop(built);
-    assert!(rt; store.failures() < u64::MAX);
-    let text = must(&rt, store.read(&rt, rt.alloc(), 0)).expect(&rt, "it has a text");
-    expect_eq(&rt, text.as_slice(), FILE.as_slice());
-    drop((store, text));
+    must(&rt, store.write(&rt, 0, OLD_FILE));
+    let took = must(&rt, built::<Ten, _, _>(&rt, 0, &mut store));
+    let migrated = (took.migrated, took.solved, took.reused, took.deliveries);
+    expect_eq(&rt, (migrated, took.by_hand), ((1, 0, 0, 0), 0));
+    check_text(&rt, &mut store, 0, Some(FILE));
+    drop(store);
 }
 
-// Tac Tix of four counters. It has one tier for each number of counters on the board.
-type Square = TacTix<2, false>;
-
-// The deliveries that remain for a build after this many tiers. The tiers take 0, 1, 3, 3 and 2, as many as their canonical
-// positions have canonical children.
+// The numbers of calls of a build of five tiers that fails at one of these, and of the deliveries that remain: each tier is read and
+// then written, and the tiers take 0, 1, 3, 3 and 2 deliveries, as many as their canonical positions have canonical children.
 const LEFT: [u64; 5] = [9, 9, 8, 5, 2];
 
-const SOLVED: Took = Ok((5, 0, 9, 0));
-
-const REUSED: Took = Ok((0, 5, 0, 0));
+// Returns the results of a build whose store fails at a call, and of the next one, which goes on after the finished tiers.
+fn around_failure(call: usize) -> [Took; 2] {
+    let done = call.saturating_sub(1) / 2;
+    let left = LEFT.get(done).copied().unwrap_or(0);
+    let failed = BuildError::StoreFailed { tier: done as u64 };
+    [Err(failed), work(5 - done.min(5), done, left)]
+}
 
 // Checks that a build that fails at one of its calls later goes on after the finished tiers, and that then all texts are right.
-// Each of the five tiers is read and then written, which makes ten calls.
 #[test]
 fn a_build_goes_on_where_the_store_failed(rt: HostRuntime) {
     for call in 1..11 {
-        let done = (call - 1) / 2;
-        let tier = done as u64;
-        let failed = Err(BuildError::StoreFailed { tier });
-        let later = Ok((5 - done, done, LEFT[done], 0));
-        drop(builds::<Square, _>(&rt, call as u64, &[failed, later, REUSED]));
+        let [failed, later] = around_failure(call);
+        drop(builds::<Square, _>(&rt, call as u64, &[failed, later, work(0, 5, 0)]));
     }
 }
 
-// Returns the text of a tier in a store in memory.
-fn text_of<R: Files + AllocGlobal + Abort>(rt: &R, store: &mut MemStore, tier: u64) -> Vec<u8> {
-    assert!(rt; store.failures() < u64::MAX);
-    must(rt, store.read(rt, rt.alloc(), tier)).expect(rt, "it has a text")
-}
-
 // Checks that two stores in memory have the same texts of the five tiers.
-fn have_same_texts<R: Files + AllocGlobal + Abort>(
-    rt: &R,
-    one: &mut MemStore,
-    other: &mut MemStore,
-) {
+fn have_same_texts<R: Runtime>(rt: &R, one: &mut MemStore, other: &mut MemStore) {
     for tier in 0..5 {
-        let texts = (text_of(rt, one, tier), text_of(rt, other, tier));
-        expect_eq(rt, texts.0.as_slice(), texts.1.as_slice());
-        drop(texts);
+        assert!(rt; other.failures() < u64::MAX);
+        let text = must(rt, other.read(rt, rt.alloc(), tier)).expect(rt, "it has a text");
+        check_text(rt, one, tier, Some(text.as_slice()));
+        drop(text);
     }
 }
 
@@ -199,14 +153,12 @@ fn have_same_texts<R: Files + AllocGlobal + Abort>(
 #[test]
 fn a_build_goes_on_over_the_inner_store(rt: HostRuntime) {
     let mut right = MemStore::new(rt.alloc());
-    let built_right = built::<Square, _, _>(&rt, 4, &mut right);
-    expect_eq(&rt, built_right, SOLVED);
+    let solved = built::<Square, _, _>(&rt, 4, &mut right);
+    expect_eq(&rt, solved, work(5, 0, 9));
     for call in 1..11 {
-        let done = (call - 1) / 2;
-        let failed = Err(BuildError::StoreFailed { tier: done as u64 });
+        let [failed, later] = around_failure(call);
         let mut inner = builds::<Square, _>(&rt, call as u64, &[failed]).into_inner();
-        let later = built::<Square, _, _>(&rt, 4, &mut inner);
-        expect_eq(&rt, later, Ok((5 - done, done, LEFT[done], 0)));
+        expect_eq(&rt, built::<Square, _, _>(&rt, 4, &mut inner), later);
         have_same_texts(&rt, &mut inner, &mut right);
         drop(inner);
     }
@@ -216,8 +168,9 @@ fn a_build_goes_on_over_the_inner_store(rt: HostRuntime) {
 // Checks that a build makes ten calls, and a second build over its texts five, since reused texts are read and not written.
 #[test]
 fn a_build_reads_and_writes_each_tier_once(rt: HostRuntime) {
-    drop(builds::<Square, _>(&rt, 11, &[SOLVED, FAILED, REUSED]));
-    drop(builds::<Square, _>(&rt, 16, &[SOLVED, REUSED, FAILED]));
+    let (solved, reused) = (work(5, 0, 9), work(0, 5, 0));
+    drop(builds::<Square, _>(&rt, 11, &[solved, FAILED, reused]));
+    drop(builds::<Square, _>(&rt, 16, &[solved, reused, FAILED]));
 }
 
 // Builds the stairs from tier 1, and then all of them. Each step but the first takes one delivery.
@@ -225,11 +178,10 @@ fn a_build_reads_and_writes_each_tier_once(rt: HostRuntime) {
 fn what_a_tier_rests_on_is_built(rt: HostRuntime) {
     let mut store = Flaky::new(MemStore::new(rt.alloc()), NEVER, NEVER);
     let low = built::<Stairs<3>, _, _>(&rt, 1, &mut store);
-    expect_eq(&rt, low, Ok((2, 0, 1, 0)));
-    assert!(rt; store.failures() < u64::MAX);
-    expect_eq(&rt, store.read(&rt, rt.alloc(), 2), Ok(None));
+    expect_eq(&rt, low, work(2, 0, 1));
+    check_text(&rt, &mut store, 2, None);
     let all = built::<Stairs<3>, _, _>(&rt, 3, &mut store);
-    expect_eq(&rt, all, Ok((2, 2, 2, 0)));
+    expect_eq(&rt, all, work(2, 2, 2));
     drop(store);
 }
 
@@ -246,23 +198,25 @@ fn games_without_an_order_are_not_built(rt: HostRuntime) {
 fn a_game_that_is_too_far_is_not_built(rt: HostRuntime) {
     let far = Err(BuildError::TooFar { tier: 0 });
     let mut store = builds::<Chain<1048576>, _>(&rt, NEVER, &[far]);
-    assert!(rt; store.failures() < u64::MAX);
-    expect_eq(&rt, store.read(&rt, rt.alloc(), 0), Ok(None));
+    check_text(&rt, &mut store, 0, None);
     drop(store);
 }
 
-// Builds a game by a plan over an empty store. Returns the work, the number of levels for which the source was asked, and the
-// number of passes through the gate.
-fn asked<G: Game + Send + Sync, R: Threads + Wait + Files + Sync + AllocGlobal + Abort>(
+// Builds a game by a plan over an empty store, and checks the work, whether the source was asked at some level, and the number of
+// passes through the gate.
+fn check_asked<G: Shared, R: Runtime>(
     rt: &R,
     plan: Option<Plan>,
-) -> (Took, usize, usize) {
+    wanted: Took,
+    is_asked: bool,
+    passed: usize,
+) {
     let mut store = Flaky::new(MemStore::new(rt.alloc()), NEVER, NEVER);
-    let (gate, source) = (TestGate::turnstile(0), TestSource::counter());
-    let plan = plan.expect(rt, "a plan");
+    let (gate, source) = (TestGate::of(Kind::Turnstile(0)), TestSource::counter());
     let took = built_by::<G, R, _>(rt, G::initial().tier, &mut store, plan, &gate, &source);
     drop(store);
-    (took, source.asked().0, gate.passed().0)
+    let found = (took, source.asked().0 > 0, gate.passed().0);
+    expect_eq(rt, found, (wanted, is_asked, passed));
 }
 
 // Checks which plans use workers. By a plan of numbers workers solve each tier: the levels of Tac Tix are those of wins and losses
@@ -270,16 +224,9 @@ fn asked<G: Game + Send + Sync, R: Threads + Wait + Files + Sync + AllocGlobal +
 // asked. They do solve the tier of Countdown, in which each move stays.
 #[test]
 fn gate_and_source_are_asked_where_workers_deliver(rt: HostRuntime) {
-    let (took, levels, passed) = asked::<Square, _>(&rt, Plan::new(2, 2, 1));
-    expect_eq(&rt, (took, levels > 0, passed), (SOLVED, true, 9));
-    let fastest = asked::<Square, _>(&rt, Plan::fastest(2, 2, 1));
-    expect_eq(&rt, fastest, (SOLVED, 0, 0));
-    let (took, _levels, passed) = asked::<Countdown<10>, _>(&rt, Plan::new(1, 1, 64));
-    expect_eq(&rt, (took, passed), (Ok((1, 0, 19, 0)), 19));
-    let (took, levels, passed) = asked::<Countdown<10>, _>(&rt, Plan::fastest(2, 2, 1));
-    expect_eq(
-        &rt,
-        (took, levels > 0, passed),
-        (Ok((1, 0, 19, 0)), true, 19),
-    );
+    let (numbers, fastest) = (Plan::new(2, 2, 1), Plan::fastest(2, 2, 1));
+    check_asked::<Square, _>(&rt, numbers, work(5, 0, 9), true, 9);
+    check_asked::<Square, _>(&rt, fastest, work(5, 0, 9), false, 0);
+    check_asked::<Ten, _>(&rt, Plan::new(1, 1, 64), work(1, 0, 19), true, 19);
+    check_asked::<Ten, _>(&rt, fastest, work(1, 0, 19), true, 19);
 }

@@ -6,8 +6,8 @@ ghost use Rattle.gm_frontier.specs.Levels.{place_at, AreTiles};
 ghost use Rattle.gm_frontier.specs.Tallies.{IsTile};
 ghost use Rattle.gm_shard.specs.Steps.{place_of};
 
-use crate::expect::{expect, expect_eq, must};
-use crate::solver::records::{Known, hold, record};
+use crate::expect::{Runtime, expect, expect_eq, must};
+use crate::solver::records::{Known, below_the_last_stair, record};
 use crate::solver::shards::closes;
 use gm_frontier::expected::Expected;
 use gm_frontier::level::Level;
@@ -20,7 +20,6 @@ use gm_table::tables::Tables;
 use gm_testing::by_hand::{begin_whole, fresh_run};
 use gm_toys::countdown::Countdown;
 use gm_toys::stairs::Stairs;
-use std::alloc::Global;
 use std::process::Abort;
 
 type Ten = Countdown<10>;
@@ -36,51 +35,39 @@ fn level_of(tier: u64, level: u32) -> Place
     }
 }
 
-// The required level of one note: the note, its pairs, and their counts into the first tiles of six.
-#[derive(Clone, Copy)]
-struct Wanted<'a> {
+// The required level of one note: the indexes of the note and of a parent of each of its pairs, and the counts of these into the
+// first tiles of six.
+struct Wanted {
     position: Position,
     known: Known,
-    pairs: &'a [(u64, u64)],
+    pairs: &'static [(u64, u64)],
     counts: (u64, u64),
 }
 
-// Checks the pairs of a level of one note: the index of the note, and that of a parent.
-fn check_pairs<G: Game>(rt: &impl Abort, level: &Level<G>, pairs: &[(u64, u64)]) {
-    let mut count = 0usize;
-    for (note, parent) in level.pairs(0, 1, 0, TIER_SIZE) {
-        let pair = (note.position().index, parent);
-        expect_eq(rt, pairs.get(count).copied(), Some(pair));
-        count = count.saturating_add(1);
-    }
-    expect_eq(rt, count, pairs.len());
-}
-
 // Checks a level of one note that is not the last one of its phase.
-fn check_level<G: Game>(
-    rt: &impl Abort,
-    alloc: Global,
-    level: &Level<G>,
-    tables: &Tables<G>,
-    wanted: &Wanted<'_>,
-)
+fn check_level<G: Game>(rt: &impl Runtime, level: &Level<G>, tables: &Tables<G>, wanted: &Wanted)
     requires { AreHeld G.rules tables.now level.now.place.tier }
 {
     assert!(rt; level.len() == 1);
     let note = level.note(0);
     let found = (note.position(), Some(note.solved()));
     expect_eq(rt, found, (wanted.position, record(wanted.known)));
-    check_pairs(rt, level, wanted.pairs);
+    let mut count = 0usize;
+    for (note, parent) in level.pairs(0, 1, 0, TIER_SIZE) {
+        let pair = (note.position().index, parent);
+        expect_eq(rt, Some(pair), wanted.pairs.get(count).copied());
+        count = count.saturating_add(1);
+    }
+    expect_eq(rt, count, wanted.pairs.len());
     expect(rt, level.last(tables).is_none());
-    let tally = must(rt, level.tally(alloc, 0, 1, 6));
+    let tally = must(rt, level.tally(rt.alloc(), 0, 1, 6));
     expect_eq(rt, (tally.count(0), tally.count(1)), wanted.counts);
     drop(tally);
 }
 
 // Returns the level at the place of a shard of a whole tier, from the run of its fresh notes.
 fn level_here<'a, G: Game>(
-    rt: &impl Abort,
-    alloc: Global,
+    rt: &impl Runtime,
     shard: &Shard<G>,
     runs: &'a [Run<G>],
     tables: &'a Tables<G>,
@@ -91,36 +78,25 @@ fn level_here<'a, G: Game>(
     let tier = shard.tier();
     let size = G::tier_size(tier);
     assert!(rt; shard.range() == (0, size) && size <= TIER_SIZE && tables.has_children(tier));
-    must(rt, Level::gather(alloc, shard.place(), runs, tables))
+    must(rt, Level::gather(rt.alloc(), shard.place(), runs, tables))
 }
 
-// Checks the current level of a shard of a whole tier.
-fn check_here<G: Game>(
-    rt: &impl Abort,
-    alloc: Global,
-    shard: &Shard<G>,
-    tables: &Tables<G>,
-    wanted: &Wanted<'_>,
-) {
-    let runs = must(rt, fresh_run(alloc, shard));
-    let level = level_here(rt, alloc, shard, runs.as_slice(), tables);
-    check_level(rt, alloc, &level, tables, wanted);
-    drop(level);
-    drop(runs);
-}
+const FIRST: Wanted = Wanted {
+    position: Position { tier: 0, index: 0 },
+    known: (Value::Lose, 0),
+    pairs: &[(0, 1), (0, 2)],
+    counts: (2, 0),
+};
 
 #[test]
 fn tally_of_a_piece(rt: HostRuntime) {
     let tables: Tables<Ten> = Tables::new(rt.alloc());
     let shard = must(&rt, begin_whole::<Ten>(rt.alloc(), 0));
-    let wanted = Wanted {
-        position: Position { tier: 0, index: 0 },
-        known: (Value::Lose, 0),
-        pairs: &[(0, 1), (0, 2)],
-        counts: (2, 0),
-    };
-    check_here(&rt, rt.alloc(), &shard, &tables, &wanted);
-    drop((shard, tables));
+    let runs = must(&rt, fresh_run(rt.alloc(), &shard));
+    let level = level_here(&rt, &shard, runs.as_slice(), &tables);
+    check_level(&rt, &level, &tables, &FIRST);
+    drop(level);
+    drop((runs, shard, tables));
 }
 
 // Delivers the pairs of a shard's current level, adds them to its count, and closes it.
@@ -139,56 +115,35 @@ fn close_level<G: Game>(
     closes(rt, shard, expected, Ok(()));
 }
 
-// Checks a level of a child tier. The tables of Stairs from 3 are held. Its tiers 0 to 3 are lost, won, lost and won, and the level
-// of tier 2 is checked from tier 3.
-#[test]
-fn level_of_a_child_tier(rt: HostRuntime) {
-    let mut tables: Tables<Stairs<3>> = Tables::new(rt.alloc());
-    hold(&rt, rt.alloc(), &mut tables, 0, &[(Value::Lose, 0)]);
-    hold(&rt, rt.alloc(), &mut tables, 1, &[(Value::Win, 1)]);
-    hold(&rt, rt.alloc(), &mut tables, 2, &[(Value::Lose, 2)]);
-    let wanted = Wanted {
-        position: Position { tier: 2, index: 0 },
-        known: (Value::Lose, 2),
-        pairs: &[(0, 0)],
-        counts: (1, 0),
-    };
-    let mut shard = must(&rt, begin_whole::<Stairs<3>>(rt.alloc(), 3));
-    let mut expected = Expected::start(3, 0, 1);
-    for _ in 0..2 {
-        let runs = must(&rt, fresh_run(rt.alloc(), &shard));
-        let level = level_here(&rt, rt.alloc(), &shard, runs.as_slice(), &tables);
-        close_level(&rt, &mut shard, &level, &mut expected);
-        drop(level);
-        drop(runs);
-    }
-    check_here(&rt, rt.alloc(), &shard, &tables, &wanted);
-    drop((shard, expected, tables));
-}
+// The level of tier 2, seen from tier 3.
+const OF_CHILD_TIER: Wanted = Wanted {
+    position: Position { tier: 2, index: 0 },
+    known: (Value::Lose, 2),
+    pairs: &[(0, 0)],
+    counts: (1, 0),
+};
 
 // Checks that the tier of 3 has the levels 0 to 3 of wins and losses, each at its place, and that the phase ends with the next one.
 #[test]
 fn levels_of_the_last_stair(rt: HostRuntime) {
-    let mut tables: Tables<Stairs<3>> = Tables::new(rt.alloc());
-    hold(&rt, rt.alloc(), &mut tables, 0, &[(Value::Lose, 0)]);
-    hold(&rt, rt.alloc(), &mut tables, 1, &[(Value::Win, 1)]);
-    hold(&rt, rt.alloc(), &mut tables, 2, &[(Value::Lose, 2)]);
+    let tables = below_the_last_stair(&rt);
     let mut shard = must(&rt, begin_whole::<Stairs<3>>(rt.alloc(), 3));
     let mut expected = Expected::start(3, 0, 1);
-    let mut pairs = 0;
     for number in 0..5 {
         let runs = must(&rt, fresh_run(rt.alloc(), &shard));
-        let level = level_here(&rt, rt.alloc(), &shard, runs.as_slice(), &tables);
+        let level = level_here(&rt, &shard, runs.as_slice(), &tables);
         expect_eq(&rt, level.place(), level_of(3, number));
         expect_eq(&rt, level.last(&tables).is_some(), number == 4);
+        if number == 2 {
+            check_level(&rt, &level, &tables, &OF_CHILD_TIER);
+        }
         if number < 4 {
             close_level(&rt, &mut shard, &level, &mut expected);
         }
-        pairs = expected.number();
         drop(level);
         drop(runs);
     }
-    expect_eq(&rt, pairs, 1);
+    expect_eq(&rt, expected.number(), 1);
     drop((shard, expected, tables));
 }
 
@@ -205,8 +160,7 @@ fn level_of_an_empty_tier(rt: HostRuntime) {
 
 // Adds a level of tier 0 to two counts into a tile of this width: by a walk of its pairs, and by the tallies of pieces of one note.
 fn add_level<G: Game>(
-    rt: &impl Abort,
-    alloc: Global,
+    rt: &impl Runtime,
     level: &Level<G>,
     tile: (u64, u64),
     width: u64,
@@ -223,26 +177,26 @@ fn add_level<G: Game>(
     expect(rt, lo == tile.0);
     expect(rt, hi == tile.1);
     walked.add(level);
-    let tallies = must(rt, level.tallies(alloc, 1, width));
+    let tallies = must(rt, level.tallies(rt.alloc(), 1, width));
     tallied.add_counted(level, tallies.as_slice());
     drop(tallies);
 }
 
 // Checks the number of pairs of all levels of Countdown into a tile of this width, by a walk and by tallies.
-fn check_count(rt: &impl Abort, alloc: Global, lo: u64, hi: u64, width: u64, number: u64)
+fn check_count(rt: &impl Runtime, lo: u64, hi: u64, width: u64, number: u64)
     requires width { 0 < width }
     requires tile { IsTile 11 width lo hi }
 {
     let tile = (lo, hi);
-    let tables: Tables<Ten> = Tables::new(alloc);
-    let mut shard = must(rt, begin_whole::<Ten>(alloc, 0));
+    let tables: Tables<Ten> = Tables::new(rt.alloc());
+    let mut shard = must(rt, begin_whole::<Ten>(rt.alloc(), 0));
     let mut whole = Expected::start(0, 0, 11);
     let mut walked = Expected::start(0, lo, hi);
     let mut tallied = Expected::start(0, lo, hi);
     for _ in 0..8 {
-        let runs = must(rt, fresh_run(alloc, &shard));
-        let level = level_here(rt, alloc, &shard, runs.as_slice(), &tables);
-        add_level(rt, alloc, &level, tile, width, &mut walked, &mut tallied);
+        let runs = must(rt, fresh_run(rt.alloc(), &shard));
+        let level = level_here(rt, &shard, runs.as_slice(), &tables);
+        add_level(rt, &level, tile, width, &mut walked, &mut tallied);
         close_level(rt, &mut shard, &level, &mut whole);
         drop(level);
         drop(runs);
@@ -254,7 +208,7 @@ fn check_count(rt: &impl Abort, alloc: Global, lo: u64, hi: u64, width: u64, num
 
 #[test]
 fn counts_of_countdown(rt: HostRuntime) {
-    check_count(&rt, rt.alloc(), 0, 11, 11, 19);
-    check_count(&rt, rt.alloc(), 0, 6, 6, 9);
-    check_count(&rt, rt.alloc(), 6, 11, 6, 10);
+    check_count(&rt, 0, 11, 11, 19);
+    check_count(&rt, 0, 6, 6, 9);
+    check_count(&rt, 6, 11, 6, 10);
 }

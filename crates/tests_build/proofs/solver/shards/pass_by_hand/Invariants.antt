@@ -1,6 +1,6 @@
 use Rattle.gm_shard.specs.State.{pairs_in}
 use Rattle.gm_locks.specs.Spots.{spot_of}
-use Rattle.tests_build.proofs.solver.passes.pass_by_hand.Given as goal
+use Rattle.tests_build.proofs.solver.shards.pass_by_hand.Given as goal
 
 abbrev pub ghosts-pass_named-L-Ledger : goal.ghosts-pass_named-L-Ledger
 ghosts-pass_named-L-Ledger g a = record { name = a.blank.name; parts = a.blank.parts }

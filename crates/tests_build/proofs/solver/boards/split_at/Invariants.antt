@@ -1,5 +1,5 @@
 use Rattle.gm_locks.specs.Spots.{spot_of}
-use Rattle.tests_build.proofs.solver.desks.by_hand.Given as goal
+use Rattle.tests_build.proofs.solver.boards.split_at.Given as goal
 
 abbrev pub ghosts-named-A-Ledger : goal.ghosts-named-A-Ledger
 ghosts-named-A-Ledger g a = record { name = a.blanks.a.name; parts = a.blanks.a.parts }
