@@ -4,8 +4,6 @@ use Rattle.std.specs.List.{Contains, list_any}
 use Rattle.gm_game.proofs.Lists.{any_in, any_from}
 use Rattle.gm_game.specs.Rules.{Rules}
 use Rattle.gm_command.specs.declared.requests.PositionSearch.{PositionSearch}
-use Rattle.gm_command.specs.declared.requests.TableRequest.{TableRequest}
-use Rattle.gm_command.specs.declared.requests.TableRequest.TheVariants.{Find, Counts, Longest, Ask}
 use Rattle.gamesman.specs.declared.fault.Fault.{Fault}
 use Rattle.gamesman.specs.declared.fault.Fault.TheVariants.{NoSuchGame, NoSuchPosition, NoSuchPositionInLine, NoSuchTier, NoSuchIndex, NotLegal, NotCanonical}
 use Rattle.gamesman.specs.declared.fault.Fault.TheVariants.{OutOfMemory, NotBuilt, AnotherGames, InputFailed, OutputFailed, OutputClosed, TooMuchInput}
@@ -15,7 +13,7 @@ use Rattle.gamesman.specs.Refusals.{IsUnbuilt}
 use Rattle.gamesman.specs.Told.{IsMemoryFault, IsNoTier, IsNoPlace, IsUnknown, IsPut, IsTold}
 use Rattle.gamesman.specs.Games.{GameSpec}
 use Rattle.gamesman.specs.Finds.{IsFoundOf, IsFoundSoFar, IsLeft, limit_by_tier, AreFoundWith}
-use Rattle.gamesman.specs.Searches.{IsUnsearched, first_of, tier_asked, IsCountsOf, IsLongestOf, IsSearched}
+use Rattle.gamesman.specs.Searches.{IsUnsearched, first_of}
 use Rattle.gamesman.proofs.Cut.{kept, cut_off, unbuilt_cut}
 
 module _ (IsText : List ℕ → Type 0) (o : Option (List ℕ)) where
@@ -165,11 +163,3 @@ pub find_unsearched : (limit : Option ℕ) (g : GameSpec) (asked : PositionSearc
 find_unsearched (Some limit) g asked o fault is =
     record { written = left_from (IsFoundSoFar g asked) o fault (unsearched_cut (λ text. ⊥) o g.rules asked.tier fault is); refused = inr is }
 find_unsearched None g asked o fault is = unsearched_told (IsFoundOf g asked) o g.rules asked.tier fault is
-
--- the answer to a question about all tables of a game if there is no table
-pub unsearched : (g : GameSpec) (asked : TableRequest) (input o : Option (List ℕ)) (fault : Fault) → IsUnsearched g.rules (tier_asked asked) fault →
-    IsSearched g asked input o o (Err fault)
-unsearched g (Find positions) input o fault is = find_unsearched (limit_by_tier positions.form positions.choice) g positions o fault is
-unsearched g (Counts asked) input o fault is = unsearched_told (IsCountsOf g.rules asked) o g.rules None fault is
-unsearched g (Longest reached limit) input o fault is = unsearched_told (IsLongestOf g.rules g.shown g.move_shown reached limit) o g.rules None fault is
-unsearched g (Ask asked) input o fault is = inl (is, kept o)

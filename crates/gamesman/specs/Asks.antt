@@ -36,7 +36,7 @@ module _ (r : Rules) (shown : Position → List ℕ) (move_shown : Position → 
     pub tiers : List ℕ
     pub order : IsTierOrder r tiers
     pub ready : Appends before between (ready_text asked.ready)
-    pub served : IsServed (IsAnswer r shown move_shown asked.asked tiers) input left between after
+    pub served : IsServed (IsAnswer r shown move_shown asked.answer tiers) input left between after
 
   -- the service ended by this error, after the line that reports that the tables are ready
   pub record IsAskBroken (error : AskError) (input before after : Option (List ℕ)) : Type 0 where
@@ -45,7 +45,7 @@ module _ (r : Rules) (shown : Position → List ℕ) (move_shown : Position → 
     pub tiers : List ℕ
     pub order : IsTierOrder r tiers
     pub ready : Appends before between (ready_text asked.ready)
-    pub broken : IsBroken (IsAnswer r shown move_shown asked.asked tiers) error input left between after
+    pub broken : IsBroken (IsAnswer r shown move_shown asked.answer tiers) error input left between after
 
   -- the service answered all lines, or ended earlier: before it began, in its first line, or by an error
   abbrev pub IsAskedBy : (Fault → Type 0) → Option (List ℕ) → Option (List ℕ) → Option (List ℕ) → Result ℕ Fault → Type 0

@@ -8,12 +8,12 @@ use Rattle.gm_play.specs.Dialogue.{without_return}
 use Rattle.gm_play.specs.PlayTexts.{IsReadAs}
 use Rattle.gm_play.specs.Sessions.{AppendsPart}
 use Rattle.gm_json.specs.Asking.{kept_bytes, lines_of, AreEnded}
-use Rattle.gm_command.specs.declared.requests.Filter.{Filter}
-use Rattle.gm_command.specs.declared.requests.Filter.TheVariants.{Value, Moves}
+use Rattle.gm_command.specs.declared.requests.Question.{Question}
 use Rattle.gamesman.specs.declared.fault.Fault.{Fault}
 use Rattle.gamesman.specs.declared.fault.Fault.TheVariants.{NoSuchPositionInLine, OutOfMemory, InputFailed, OutputFailed, OutputClosed}
 use Rattle.gamesman.specs.Refusals.{IsUnbuilt}
-use Rattle.gamesman.specs.Texts.{IsQueryLine, IsMovesText}
+use Rattle.gamesman.specs.Games.{GameSpec}
+use Rattle.gamesman.specs.Texts.{IsTextFor}
 
 -- the greatest number of a line
 abbrev pub last_number : ℕ
@@ -92,11 +92,6 @@ module _ (IsText : List ℕ → List ℕ → Type 0) where
     AreLinesAnswered input before after (Ok status) = (status ≡ 0) × AreAllAnswered input before after
     AreLinesAnswered input before after (Err fault) = IsLeftOff input before after fault
 
--- the text for the position with this text: its value as a line, or its moves
-abbrev pub IsFilterText : Rules → (Position → List ℕ) → (Position → ℕ → List ℕ) → Filter → List ℕ → List ℕ → Type 0
-IsFilterText r shown move_shown Value text out = IsQueryLine r shown move_shown text out
-IsFilterText r shown move_shown (Moves distinct json) text out = IsMovesText r shown move_shown text distinct json out
-
 -- no position in a tier of the game has this text
 abbrev pub IsOfNone : Rules → (Position → List ℕ) → (Position → ℕ → List ℕ) → List ℕ → Type 0
 IsOfNone r shown move_shown text = (p : Position) → IsReadAs r shown move_shown text p → IsReached r p.tier → ⊥
@@ -106,9 +101,8 @@ abbrev pub IsNotBegun : Rules → Option (List ℕ) → Option (List ℕ) → Re
 IsNotBegun r before after (Ok status) = ⊥
 IsNotBegun r before after (Err fault) = IsUnbuilt r r.initial.tier fault × Keeps before after
 
--- each position of the input is answered, up to a fault
-abbrev pub IsFiltered : Rules → (Position → List ℕ) → (Position → ℕ → List ℕ) → Filter → Option (List ℕ) → Option (List ℕ) → Option (List ℕ) → Result ℕ Fault
-    → Type 0
-IsFiltered r shown move_shown asked input before after result =
-    IsNotBegun r before after result
-    ⊎ AreLinesAnswered (IsFilterText r shown move_shown asked) (IsOfNone r shown move_shown) input before after result
+-- this question about each position of the input is answered, up to a fault
+abbrev pub IsFiltered : GameSpec → Question → Option (List ℕ) → Option (List ℕ) → Option (List ℕ) → Result ℕ Fault → Type 0
+IsFiltered g question input before after result =
+    IsNotBegun g.rules before after result
+    ⊎ AreLinesAnswered (IsTextFor g question) (IsOfNone g.rules g.shown g.move_shown) input before after result

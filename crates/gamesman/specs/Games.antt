@@ -1,6 +1,5 @@
 -- The games by their names: the rules, the texts and the drawings of each.
-use Rattle.std.specs.Prelude.{ℕ, Bool, true, false, List, codes, Option, None, Some, nat_eq, if◌then◌else◌}
-use Rattle.std.specs.Cmp.Lexicographic.{pointwise}
+use Rattle.std.specs.Prelude.{ℕ, Bool, true, false, List, codes}
 use Rattle.gm_game.specs.declared.position.Position.{Position}
 use Rattle.gm_game.specs.Rules.{Rules}
 use Rattle.gm_ways.specs.WayTexts.{way_text, way_move_text}
@@ -26,6 +25,9 @@ use Rattle.gm_squares.specs.Chess.{ending, chess_rules, board_text as men_text, 
 use Rattle.gm_squares.specs.FoxHounds.{fox_and_hounds, foxhounds_rules, board_text as chase_text, step_text as chase_move_text}
 use Rattle.gm_tactix.specs.Board.{side_of, tactix_rules}
 use Rattle.gm_tactix.specs.Texts.{position_text as tactix_text, move_text as tactix_move_text}
+use Rattle.gm_command.specs.declared.names.GameName.{GameName}
+use Rattle.gm_command.specs.declared.names.GameName.TheVariants.{Countdown, Wheel, TacTix1, TacTix2, TacTix3, TacTix4, TacTix5, TacTix1Misere, TacTix2Misere, TacTix3Misere, TacTix4Misere, TacTix5Misere}
+use Rattle.gm_command.specs.declared.names.GameName.TheVariants.{TicTacToe, ThreeMens, Achi, MuTorere, Dao, Hare, PongHauKi, Shisima, Takeaway, Tapatan, Dodgem, Krk, Kqk, FoxHounds}
 use Rattle.gm_draw.specs.Pictures.{PictureSpec}
 use Rattle.gm_draw.specs.Games.{chess_picture, countdown_picture, dao_picture, dodgem_picture, foxhounds_picture, hare_picture, mutorere_picture, nine_picture, pong_picture, shisima_picture, tactix_picture, takeaway_picture, tapatan_picture, wheel_picture}
 
@@ -159,62 +161,31 @@ tactix_spec n misere = record {
   picture = tactix_picture (side_of n) misere;
 }
 
--- tests whether two texts are the same
-abbrev pub is_same : List ℕ → List ℕ → Bool
-is_same name text = pointwise nat_eq name text
-
--- Tac Tix by the misère rule
-abbrev pub misere_named : List ℕ → Option GameSpec
-misere_named name =
-    if is_same name (codes "tactix-1-misere") then Some (tactix_spec 1 true)
-    else (if is_same name (codes "tactix-2-misere") then Some (tactix_spec 2 true)
-    else (if is_same name (codes "tactix-3-misere") then Some (tactix_spec 3 true)
-    else (if is_same name (codes "tactix-4-misere") then Some (tactix_spec 4 true)
-    else (if is_same name (codes "tactix-5-misere") then Some (tactix_spec 5 true)
-    else None))))
-
--- Tac Tix
-abbrev pub tactix_named : List ℕ → Option GameSpec
-tactix_named name =
-    if is_same name (codes "tactix-1") then Some (tactix_spec 1 false)
-    else (if is_same name (codes "tactix-2") then Some (tactix_spec 2 false)
-    else (if is_same name (codes "tactix-3") then Some (tactix_spec 3 false)
-    else (if is_same name (codes "tactix-4") then Some (tactix_spec 4 false)
-    else (if is_same name (codes "tactix-5") then Some (tactix_spec 5 false)
-    else misere_named name))))
-
--- the games on the board of chess, or Tac Tix
-abbrev pub chess_named : List ℕ → Option GameSpec
-chess_named name =
-    if is_same name (codes "krk") then Some (chess_spec false)
-    else (if is_same name (codes "kqk") then Some (chess_spec true)
-    else (if is_same name (codes "foxhounds") then Some foxhounds_spec
-    else tactix_named name))
-
--- the games in which men move from point to point, or a game of `chess_named`
-abbrev pub moving_named : List ℕ → Option GameSpec
-moving_named name =
-    if is_same name (codes "mutorere") then Some mutorere_spec
-    else (if is_same name (codes "dao") then Some dao_spec
-    else (if is_same name (codes "hare") then Some hare_spec
-    else (if is_same name (codes "ponghauki") then Some pong_spec
-    else (if is_same name (codes "shisima") then Some shisima_spec
-    else (if is_same name (codes "tapatan") then Some tapatan_spec
-    else (if is_same name (codes "dodgem") then Some dodgem_spec
-    else chess_named name))))))
-
--- a game of three in a row, or a game of `moving_named`
-abbrev pub lines_named : List ℕ → Option GameSpec
-lines_named name =
-    if is_same name (codes "tictactoe") then Some (nine_spec 9)
-    else (if is_same name (codes "threemens") then Some (nine_spec 6)
-    else (if is_same name (codes "achi") then Some (nine_spec 8)
-    else moving_named name))
-
--- the game of this name, if there is one
-abbrev pub game_named : List ℕ → Option GameSpec
-game_named name =
-    if is_same name (codes "countdown") then Some countdown_spec
-    else (if is_same name (codes "wheel") then Some wheel_spec
-    else (if is_same name (codes "takeaway") then Some takeaway_spec
-    else lines_named name))
+-- each game by its name
+abbrev pub spec_of : GameName → GameSpec
+spec_of Countdown = countdown_spec
+spec_of Wheel = wheel_spec
+spec_of TacTix1 = tactix_spec 1 false
+spec_of TacTix2 = tactix_spec 2 false
+spec_of TacTix3 = tactix_spec 3 false
+spec_of TacTix4 = tactix_spec 4 false
+spec_of TacTix5 = tactix_spec 5 false
+spec_of TacTix1Misere = tactix_spec 1 true
+spec_of TacTix2Misere = tactix_spec 2 true
+spec_of TacTix3Misere = tactix_spec 3 true
+spec_of TacTix4Misere = tactix_spec 4 true
+spec_of TacTix5Misere = tactix_spec 5 true
+spec_of TicTacToe = nine_spec 9
+spec_of ThreeMens = nine_spec 6
+spec_of Achi = nine_spec 8
+spec_of MuTorere = mutorere_spec
+spec_of Dao = dao_spec
+spec_of Hare = hare_spec
+spec_of PongHauKi = pong_spec
+spec_of Shisima = shisima_spec
+spec_of Takeaway = takeaway_spec
+spec_of Tapatan = tapatan_spec
+spec_of Dodgem = dodgem_spec
+spec_of Krk = chess_spec false
+spec_of Kqk = chess_spec true
+spec_of FoxHounds = foxhounds_spec

@@ -9,14 +9,9 @@ use Rattle.gm_play.specs.PlaceTexts.{IsPositionText}
 use Rattle.gm_analyse.specs.Bars.{IsCountsText}
 use Rattle.gm_analyse.specs.Longest.{IsLongestText}
 use Rattle.gm_command.specs.declared.requests.CountsRequest.{CountsRequest}
-use Rattle.gm_command.specs.declared.requests.TableRequest.{TableRequest}
-use Rattle.gm_command.specs.declared.requests.TableRequest.TheVariants.{Find, Counts, Longest, Ask}
 use Rattle.gamesman.specs.declared.fault.Fault.{Fault}
-use Rattle.gamesman.specs.Games.{GameSpec}
-use Rattle.gamesman.specs.Finds.{AreFoundBy}
 use Rattle.gamesman.specs.Refusals.{IsUnbuilt}
 use Rattle.gamesman.specs.Told.{IsNoPlace, IsUnknown, IsTold}
-use Rattle.gamesman.specs.Asks.{IsAskedBy}
 
 -- the canonical position at this index of a tier of the game, with its true value
 abbrev pub IsAtText : Rules → (Position → List ℕ) → ℕ → ℕ → List ℕ → Type 0
@@ -38,13 +33,6 @@ IsCountsOf r asked out = (tiers : List ℕ) × IsTierOrder r tiers × IsCountsTe
 abbrev pub IsLongestOf : Rules → (Position → List ℕ) → (Position → ℕ → List ℕ) → Bool → ℕ → List ℕ → Type 0
 IsLongestOf r shown move_shown reached limit out = (tiers : List ℕ) × IsTierOrder r tiers × IsLongestText r shown move_shown reached limit tiers out
 
--- the one tier that a question is limited to; no tier if it is about all of them
-abbrev pub tier_asked : TableRequest → Option ℕ
-tier_asked (Find positions) = positions.tier
-tier_asked (Counts asked) = None
-tier_asked (Longest reached limit) = None
-tier_asked (Ask asked) = None
-
 -- the tier whose tables a question needs, with all that it reaches: the initial one if no tier is named
 abbrev pub first_of : Rules → Option ℕ → ℕ
 first_of r None = r.initial.tier
@@ -58,11 +46,3 @@ IsUnnamed r (Some tier) fault = IsUnknown r tier fault
 -- the reason why there is no table
 abbrev pub IsUnsearched : Rules → Option ℕ → Fault → Type 0
 IsUnsearched r tier fault = IsUnnamed r tier fault ⊎ IsUnbuilt r (first_of r tier) fault
-
--- a question about all tables of a game is answered
-abbrev pub IsSearched : GameSpec → TableRequest → Option (List ℕ) → Option (List ℕ) → Option (List ℕ) → Result ℕ Fault → Type 0
-IsSearched g (Counts asked) input before after result = IsTold (IsCountsOf g.rules asked) (IsUnsearched g.rules None) before after result
-IsSearched g (Longest reached limit) input before after result = IsTold (IsLongestOf g.rules g.shown g.move_shown reached limit) (IsUnsearched g.rules None)
-    before after result
-IsSearched g (Find positions) input before after result = AreFoundBy g positions (IsUnsearched g.rules positions.tier) before after result
-IsSearched g (Ask asked) input before after result = IsAskedBy g.rules g.shown g.move_shown asked (IsUnsearched g.rules None) input before after result

@@ -6,6 +6,8 @@ use Rattle.std.specs.BTreeMap.{get}
 use Rattle.gm_tierdb.specs.StoreTexts.{Texts, AreSame, Sets}
 use Rattle.gm_tierdb.specs.declared.store_error.StoreError.{StoreError}
 use Rattle.gm_tierdb.specs.declared.store_error.StoreError.TheVariants.{OutOfMemory, Failed}
+use Rattle.gm_command.specs.declared.requests.TableLocation.{TableLocation}
+use Rattle.gm_command.specs.declared.requests.TableLocation.TheVariants.{Memory as AtMemory, Folder as AtFolder, ReadOnly as AtReadOnly}
 use Rattle.gamesman.specs.declared.shelf.Shelf.{Shelf}
 use Rattle.gamesman.specs.declared.shelf.Shelf.TheVariants.{Folder, ReadOnly, Memory}
 
@@ -20,6 +22,12 @@ abbrev pub kept_in : Shelf → Option (List ℕ × Bool)
 kept_in (Folder s) = Some (string_bytes s.folder, false)
 kept_in (ReadOnly s) = Some (string_bytes s.inner.folder, true)
 kept_in (Memory s) = None
+
+-- the same for a place of tables
+abbrev pub kept_at : TableLocation → Option (List ℕ × Bool)
+kept_at AtMemory = None
+kept_at (AtFolder folder) = Some (folder.now, false)
+kept_at (AtReadOnly folder) = Some (folder.now, true)
 
 -- the texts that are kept in memory; nothing if they are kept in a folder
 abbrev pub texts_in : Shelf → Texts

@@ -27,10 +27,10 @@ pub fn analyse<
     R: Threads + Wait + Clock + Files + Sync + AllocGlobal,
     O: Write,
     E: Write + Send,
->(rt: &R, options: BuildOptions<'_, E>, output: &mut O) -> Result<u8, Fault>
+>(rt: &R, options: BuildOptions<'_>, output: &mut O, errors: &mut E) -> Result<u8, Fault>
     ensures { IsAnalysedBy G.Game.rules (O.contents output.old) (O.contents output.new) result }
 {
-    let built = options.build::<G, R>(rt)?;
+    let built = options.build::<G, R, E>(rt, errors)?;
     let lines = lines_of(rt.alloc(), &built);
     drop(built);
     let lines = lines?;

@@ -6,8 +6,9 @@ ghost use Rattle.gamesman.specs.Answers.{IsEnginePagedBy};
 ghost use Rattle.gamesman.specs.Engines.{IsEngineFault, IsEnginePaged, IsEnginePagedAt, IsEveryGame, games_page};
 
 use crate::every_game::push_games;
-use crate::explore::{position_of, put};
+use crate::explore::position_of;
 use crate::fault::Fault;
+use crate::output::put;
 use crate::run::DONE;
 use crate::tables::BuildOptions;
 use gm_command::requests::EnginePageRequest;
@@ -56,8 +57,9 @@ pub fn engine_page<
 >(
     rt: &R,
     asked: EnginePageRequest<'_>,
-    options: BuildOptions<'_, E>,
+    options: BuildOptions<'_>,
     output: &mut O,
+    errors: &mut E,
 ) -> Result<u8, Fault>
     ensures { IsEnginePaged (game_spec G.Game.rules G.shown G.move_shown G.picture)
         asked.entry (O.contents output.old) (O.contents output.new) result }
@@ -65,7 +67,15 @@ pub fn engine_page<
     let position = position_of::<G>(asked.position)?;
     let text = read_engine(rt, asked.engine)?;
     let limit = asked.limit.max(1);
-    let written = page_with::<G, R, O, E>(rt, position, limit, text.as_slice(), options, output);
+    let written = page_with::<G, R, O, E>(
+        rt,
+        position,
+        limit,
+        text.as_slice(),
+        options,
+        output,
+        errors,
+    );
     drop(text);
     written
 }
@@ -81,8 +91,9 @@ fn page_with<
     position: Position,
     limit: usize,
     text: &[u8],
-    options: BuildOptions<'_, E>,
+    options: BuildOptions<'_>,
     output: &mut O,
+    errors: &mut E,
 ) -> Result<u8, Fault>
     requires legal { G.Game.rules.is_legal position ≡ true }
     requires limit { 1 ≤ limit }
@@ -90,7 +101,9 @@ fn page_with<
         (G.shown position) limit (O.contents output.old) (O.contents output.new) result }
 {
     match engine_in(text) {
-        Some(digits) => build_page::<G, R, O, E>(rt, position, limit, digits, options, output),
+        Some(digits) => build_page::<G, R, O, E>(
+            rt, position, limit, digits, options, output, errors,
+        ),
         None => Err(Fault::NotAnEngine),
     }
 }
@@ -106,8 +119,9 @@ fn build_page<
     position: Position,
     limit: usize,
     digits: &[u8],
-    options: BuildOptions<'_, E>,
+    options: BuildOptions<'_>,
     output: &mut O,
+    errors: &mut E,
 ) -> Result<u8, Fault>
     requires legal { G.Game.rules.is_legal position ≡ true }
     requires digits { AreDigits digits.now }
@@ -115,7 +129,7 @@ fn build_page<
     ensures { IsEnginePagedBy (game_spec G.Game.rules G.shown G.move_shown G.picture)
         (G.shown position) limit (O.contents output.old) (O.contents output.new) result }
 {
-    let built = options.build_from::<G, R>(rt, position.tier)?;
+    let built = options.build_from::<G, R, E>(rt, position.tier, errors)?;
     let known = Known {
         tables: &built.tables,
         position,

@@ -1,23 +1,24 @@
 //! Questions about a position: the values of its moves, and best play from it.
-ghost use Rattle.std.specs.Prelude.{◌≡◌, true, None, Ok, IfOk, IfErr, OnErr, IfSome};
+ghost use Rattle.std.specs.Prelude.{◌≡◌, ◌++◌, true, None, Ok, codes, IfOk, IfErr, OnErr, IfSome};
 ghost use Rattle.gm_play.specs.PlayTexts.{IsReadAs, IsNoPosition};
 ghost use Rattle.gm_json.specs.Moves.{IsMovesJson};
 ghost use Rattle.gamesman.specs.Games.{game_spec};
 ghost use Rattle.gamesman.specs.Outputs.{IsLine};
-ghost use Rattle.gamesman.specs.Texts.{IsMovesText};
-ghost use Rattle.gamesman.specs.Answers.{IsAnsweredBy, IsExplored, IsTextFor};
+ghost use Rattle.gamesman.specs.Texts.{IsQueryLine, IsMovesText, IsTextFor};
+ghost use Rattle.gamesman.specs.Answers.{IsAnsweredBy, IsExplored};
 
 use crate::fault::Fault;
-pub use crate::output::put;
+use crate::output::put;
 use crate::run::DONE;
 use crate::tables::BuildOptions;
-use gm_command::requests::{PositionRequest, Question};
+use gm_command::requests::Question;
 use gm_draw::diagram::diagram_text;
 use gm_draw::pictured::Pictured;
 use gm_draw::show::show_text;
 use gm_game::game::laws;
 use gm_game::position::Position;
 use gm_game::shown::Shown;
+use gm_game::text::value_text;
 use gm_json::line::line_json;
 use gm_json::moves::moves_json;
 use gm_page::page::page_text;
@@ -39,20 +40,22 @@ pub fn explore<
     E: Write + Send,
 >(
     rt: &R,
-    asked: PositionRequest<'_>,
-    options: BuildOptions<'_, E>,
+    position: Option<&str>,
+    question: Question,
+    options: BuildOptions<'_>,
     output: &mut O,
+    errors: &mut E,
 ) -> Result<u8, Fault>
     ensures { IsExplored (game_spec G.Game.rules G.shown G.move_shown G.picture)
-        asked.entry (O.contents output.old) (O.contents output.new) result }
+        position.entry question (O.contents output.old) (O.contents output.new) result }
 {
-    let position = position_of::<G>(asked.position)?;
-    let built = options.build_from::<G, R>(rt, position.tier)?;
+    let p = position_of::<G>(position)?;
+    let built = options.build_from::<G, R, E>(rt, p.tier, errors)?;
     let known = Known {
         tables: &built.tables,
-        position,
+        position: p,
     };
-    let written = write_answer(rt.alloc(), &known, asked.question, output);
+    let written = write_answer(rt.alloc(), &known, question, output);
     drop(built);
     written
 }
@@ -104,7 +107,8 @@ fn read_position<G: Shown>(text: &str) -> Result<Position, Fault>
     }
 }
 
-fn text_for<G: Pictured>(
+/// Returns the answer to a question about a position.
+pub fn text_for<G: Pictured>(
     alloc: Global,
     known: &Known<'_, G>,
     question: Question,
@@ -113,6 +117,7 @@ fn text_for<G: Pictured>(
         question (G.shown known.now.position) v.items) }
 {
     match question {
+        Question::Value => value_line(alloc, known),
         Question::Moves { distinct, json } => moves_for(alloc, known, distinct, json),
         Question::Why => why_text(alloc, known),
         Question::Line { limit, json: true } => line_json(alloc, known, limit),
@@ -123,8 +128,8 @@ fn text_for<G: Pictured>(
     }
 }
 
-/// Returns the moves of a position, as a line of JSON or as rows.
-pub fn moves_for<G: Shown>(
+// Returns the moves of a position, as a line of JSON or as rows.
+fn moves_for<G: Shown>(
     alloc: Global,
     known: &Known<'_, G>,
     distinct: bool,
@@ -148,6 +153,22 @@ fn moves_line<G: Shown>(
     ensures { IfOk result (λ v. IsLine (IsMovesJson G.Game.rules G.shown G.move_shown distinct (G.shown known.now.position)) v.items) }
 {
     let mut line = moves_json(alloc, known, distinct)?;
+    line.extend_from_slice(b"\n")?;
+    Ok(line)
+}
+
+// Returns the value of a position as a line.
+fn value_line<G: Shown>(alloc: Global, known: &Known<'_, G>) -> Result<Vec<u8>, AllocError>
+    ensures { IfOk result (λ v. IsQueryLine G.Game.rules G.shown G.move_shown (G.shown known.now.position) v.items) }
+{
+    line_of(alloc, value_text(known.value()).as_slice())
+}
+
+fn line_of(alloc: Global, text: &[u8]) -> Result<Vec<u8>, AllocError>
+    ensures { IfOk result (λ v. v.items ≡ text.now ++ codes "\n") }
+{
+    let mut line = Vec::new(alloc);
+    line.extend_from_slice(text)?;
     line.extend_from_slice(b"\n")?;
     Ok(line)
 }

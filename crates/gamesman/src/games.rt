@@ -1,7 +1,7 @@
 //! The games by their names.
 ghost use Rattle.std.specs.Prelude.{◌≡◌};
-ghost use Rattle.gamesman.specs.Games.{game_spec, game_named, lines_named, moving_named, chess_named, tactix_named, misere_named};
-ghost use Rattle.gamesman.specs.Answers.{IsAnswered, IsAnsweredFor};
+ghost use Rattle.gamesman.specs.Games.{game_spec, spec_of};
+ghost use Rattle.gamesman.specs.Answers.{IsAnswered};
 
 use crate::analyse::analyse;
 use crate::check::check;
@@ -12,12 +12,11 @@ use crate::filter::filter;
 use crate::located::{at_place, locate};
 use crate::naming::write_naming;
 use crate::play::play;
-use crate::query::query;
-use crate::search::search;
+use crate::search::{counts, find, longest, serve};
 use crate::solve::solve;
 use crate::tables::BuildOptions;
-use gm_command::defaults::{PIECE, SHARDS, WORKERS};
-use gm_command::requests::{GameRequest, TableLocation, Telling};
+use gm_command::names::GameName;
+use gm_command::requests::GameCommand;
 pub use gm_dao::dao::Dao;
 pub use gm_dodgem::dodgem::Dodgem;
 use gm_draw::pictured::Pictured;
@@ -25,7 +24,6 @@ pub use gm_hare::hare::Hare;
 pub use gm_morris::games::{Achi, ThreeMens, TicTacToe};
 pub use gm_mutorere::mutorere::MuTorere;
 pub use gm_pong::pong::Pong;
-use gm_solver::plan::Plan;
 pub use gm_squares::chess::{Kqk, Krk};
 pub use gm_squares::foxhounds::FoxHounds;
 pub use gm_tactix::tactix::TacTix;
@@ -40,200 +38,110 @@ use std::sync::Wait;
 use std::thread::Threads;
 use std::time::Clock;
 
-/// The streams that a line reads from and writes to.
-#[derive(Drop)]
-pub struct Streams<'a, I, O, E> {
-    pub input: &'a mut I,
-    pub output: &'a mut O,
-    pub errors: &'a mut E,
-    /// How progress is reported on standard error. It is `Terminal` only if standard error is a terminal.
-    pub telling: Telling,
-}
-
-// Returns the options for a command that has no options for a plan: the place of the tables and the way to make them.
-fn options_of<'a, E>(
-    kept: TableLocation<'a>,
-    errors: &'a mut E,
-    telling: Telling,
-) -> BuildOptions<'a, E> {
-    BuildOptions {
-        kept,
-        plan: Plan::fastest(WORKERS, SHARDS, PIECE).unwrap(),
-        errors,
-        telling,
-    }
-}
-
-// Answers a request about a game.
+// Answers a command about a game.
 fn answer<
     G: Pictured + Send + Sync,
     R: Threads + Wait + Clock + Files + Sync + AllocGlobal,
     I: Read,
     O: Write,
     E: Write + Send,
->(rt: &R, asked: GameRequest<'_>, streams: Streams<'_, I, O, E>) -> Result<u8, Fault>
+>(
+    rt: &R,
+    command: GameCommand<'_>,
+    options: BuildOptions<'_>,
+    input: &mut I,
+    output: &mut O,
+    errors: &mut E,
+) -> Result<u8, Fault>
     ensures answered { IsAnswered (game_spec G.Game.rules G.shown G.move_shown G.picture)
-        asked.entry (I.remaining streams.entry.input.now) (O.contents streams.entry.output.now) (O.contents streams.exit.1.0.now) result }
-    ensures naming { asked.entry ≡ GameRequest.Naming → streams.exit.1.0.now ≡ streams.entry.output.now }
+        command.entry (I.remaining input.old) (O.contents output.old) (O.contents output.new) result }
+    ensures naming { command.entry ≡ GameCommand.Naming → output.new ≡ output.old }
 {
-    let Streams {
-        input,
-        output,
-        errors,
-        telling,
-    } = streams;
-    match asked {
-        GameRequest::Solve(asked) => solve::<G, R, O, E>(rt, asked, output, errors, telling),
-        GameRequest::Query { position, kept } => {
-            query::<G, R, O, E>(rt, position, options_of(kept, errors, telling), output)
+    match command {
+        GameCommand::Solve => solve::<G, R, O, E>(rt, options, output, errors),
+        GameCommand::Explore { position, question } => {
+            explore::<G, R, O, E>(rt, position, question, options, output, errors)
         }
-        GameRequest::Filter { asked, kept } => {
-            filter::<G, R, I, O, E>(rt, asked, options_of(kept, errors, telling), input, output)
+        GameCommand::Filter { question } => {
+            filter::<G, R, I, O, E>(rt, question, options, input, output, errors)
         }
-        GameRequest::At { tier, index, kept } => {
-            at_place::<G, R, O, E>(rt, tier, index, options_of(kept, errors, telling), output)
+        GameCommand::EnginePage(request) => {
+            engine_page::<G, R, O, E>(rt, request, options, output, errors)
         }
-        GameRequest::Locate { position } => locate::<G, O>(rt.alloc(), position, output),
-        GameRequest::Explore { asked, kept } => {
-            explore::<G, R, O, E>(rt, asked, options_of(kept, errors, telling), output)
+        GameCommand::At { tier, index } => {
+            at_place::<G, R, O, E>(rt, tier, index, options, output, errors)
         }
-        GameRequest::EnginePage { asked, kept } => {
-            engine_page::<G, R, O, E>(rt, asked, options_of(kept, errors, telling), output)
+        GameCommand::Locate { position } => locate::<G, O>(rt.alloc(), position, output),
+        GameCommand::Find(search) => find::<G, R, O, E>(rt, search, options, output, errors),
+        GameCommand::Counts(request) => counts::<G, R, O, E>(rt, request, options, output, errors),
+        GameCommand::Longest { reached, limit } => {
+            longest::<G, R, O, E>(rt, reached, limit, options, output, errors)
         }
-        GameRequest::Search { asked, kept } => {
-            search::<G, R, I, O, E>(rt, asked, options_of(kept, errors, telling), input, output)
+        GameCommand::Ask(request) => {
+            serve::<G, R, I, O, E>(rt, request, options, input, output, errors)
         }
-        GameRequest::Analyse { kept } => analyse::<G, R, O, E>(
+        GameCommand::Analyse => analyse::<G, R, O, E>(rt, options, output, errors),
+        GameCommand::Check { folder } => check::<G, R, O, E>(
             rt,
-            options_of(kept, errors, telling),
+            folder,
             output,
+            errors,
+            options.progress,
         ),
-        GameRequest::Check { folder } => check::<G, R, O, E>(rt, folder, output, errors, telling),
-        GameRequest::Play { asked, kept } => {
-            play::<G, R, I, O, E>(rt, asked, options_of(kept, errors, telling), input, output)
+        GameCommand::Play(request) => {
+            play::<G, R, I, O, E>(rt, request, options, input, output, errors)
         }
-        GameRequest::Naming => write_naming::<G, E>(errors),
+        GameCommand::Naming => write_naming::<G, E>(errors),
     }
 }
 
-// Answers a request about Tac Tix by the misère rule.
-fn answer_misere<
-    R: Threads + Wait + Clock + Files + Sync + AllocGlobal,
-    I: Read,
-    O: Write,
-    E: Write + Send,
->(rt: &R, game: &str, asked: GameRequest<'_>, streams: Streams<'_, I, O, E>) -> Result<u8, Fault>
-    ensures answered { IsAnsweredFor (misere_named game.now) asked.entry (I.remaining streams.entry.input.now) (O.contents streams.entry.output.now)
-        (O.contents streams.exit.1.0.now) result }
-    ensures naming { asked.entry ≡ GameRequest.Naming → streams.exit.1.0.now ≡ streams.entry.output.now }
-{
-    match game {
-        "tactix-1-misere" => answer::<TacTix<1, true>, R, I, O, E>(rt, asked, streams),
-        "tactix-2-misere" => answer::<TacTix<2, true>, R, I, O, E>(rt, asked, streams),
-        "tactix-3-misere" => answer::<TacTix<3, true>, R, I, O, E>(rt, asked, streams),
-        "tactix-4-misere" => answer::<TacTix<4, true>, R, I, O, E>(rt, asked, streams),
-        "tactix-5-misere" => answer::<TacTix<5, true>, R, I, O, E>(rt, asked, streams),
-        _ => Err(Fault::NoSuchGame),
-    }
-}
-
-// Answers a request about Tac Tix.
-fn answer_tactix<
-    R: Threads + Wait + Clock + Files + Sync + AllocGlobal,
-    I: Read,
-    O: Write,
-    E: Write + Send,
->(rt: &R, game: &str, asked: GameRequest<'_>, streams: Streams<'_, I, O, E>) -> Result<u8, Fault>
-    ensures answered { IsAnsweredFor (tactix_named game.now) asked.entry (I.remaining streams.entry.input.now) (O.contents streams.entry.output.now)
-        (O.contents streams.exit.1.0.now) result }
-    ensures naming { asked.entry ≡ GameRequest.Naming → streams.exit.1.0.now ≡ streams.entry.output.now }
-{
-    match game {
-        "tactix-1" => answer::<TacTix<1, false>, R, I, O, E>(rt, asked, streams),
-        "tactix-2" => answer::<TacTix<2, false>, R, I, O, E>(rt, asked, streams),
-        "tactix-3" => answer::<TacTix<3, false>, R, I, O, E>(rt, asked, streams),
-        "tactix-4" => answer::<TacTix<4, false>, R, I, O, E>(rt, asked, streams),
-        "tactix-5" => answer::<TacTix<5, false>, R, I, O, E>(rt, asked, streams),
-        _ => answer_misere(rt, game, asked, streams),
-    }
-}
-
-// Answers a request about a game on the board of chess, or about Tac Tix.
-fn answer_chess<
-    R: Threads + Wait + Clock + Files + Sync + AllocGlobal,
-    I: Read,
-    O: Write,
-    E: Write + Send,
->(rt: &R, game: &str, asked: GameRequest<'_>, streams: Streams<'_, I, O, E>) -> Result<u8, Fault>
-    ensures answered { IsAnsweredFor (chess_named game.now) asked.entry (I.remaining streams.entry.input.now) (O.contents streams.entry.output.now)
-        (O.contents streams.exit.1.0.now) result }
-    ensures naming { asked.entry ≡ GameRequest.Naming → streams.exit.1.0.now ≡ streams.entry.output.now }
-{
-    match game {
-        "krk" => answer::<Krk, R, I, O, E>(rt, asked, streams),
-        "kqk" => answer::<Kqk, R, I, O, E>(rt, asked, streams),
-        "foxhounds" => answer::<FoxHounds, R, I, O, E>(rt, asked, streams),
-        _ => answer_tactix(rt, game, asked, streams),
-    }
-}
-
-// Answers a request about a game in which men move from point to point, or about a game of `answer_chess`.
-fn answer_moving<
-    R: Threads + Wait + Clock + Files + Sync + AllocGlobal,
-    I: Read,
-    O: Write,
-    E: Write + Send,
->(rt: &R, game: &str, asked: GameRequest<'_>, streams: Streams<'_, I, O, E>) -> Result<u8, Fault>
-    ensures answered { IsAnsweredFor (moving_named game.now) asked.entry (I.remaining streams.entry.input.now) (O.contents streams.entry.output.now)
-        (O.contents streams.exit.1.0.now) result }
-    ensures naming { asked.entry ≡ GameRequest.Naming → streams.exit.1.0.now ≡ streams.entry.output.now }
-{
-    match game {
-        "mutorere" => answer::<MuTorere, R, I, O, E>(rt, asked, streams),
-        "dao" => answer::<Dao, R, I, O, E>(rt, asked, streams),
-        "hare" => answer::<Hare, R, I, O, E>(rt, asked, streams),
-        "ponghauki" => answer::<Pong, R, I, O, E>(rt, asked, streams),
-        "shisima" => answer::<Shisima, R, I, O, E>(rt, asked, streams),
-        "tapatan" => answer::<Tapatan, R, I, O, E>(rt, asked, streams),
-        "dodgem" => answer::<Dodgem, R, I, O, E>(rt, asked, streams),
-        _ => answer_chess(rt, game, asked, streams),
-    }
-}
-
-// Answers a request about a game of three in a row, or about a game of `answer_moving`.
-fn answer_lines<
-    R: Threads + Wait + Clock + Files + Sync + AllocGlobal,
-    I: Read,
-    O: Write,
-    E: Write + Send,
->(rt: &R, game: &str, asked: GameRequest<'_>, streams: Streams<'_, I, O, E>) -> Result<u8, Fault>
-    ensures answered { IsAnsweredFor (lines_named game.now) asked.entry (I.remaining streams.entry.input.now) (O.contents streams.entry.output.now)
-        (O.contents streams.exit.1.0.now) result }
-    ensures naming { asked.entry ≡ GameRequest.Naming → streams.exit.1.0.now ≡ streams.entry.output.now }
-{
-    match game {
-        "tictactoe" => answer::<TicTacToe, R, I, O, E>(rt, asked, streams),
-        "threemens" => answer::<ThreeMens, R, I, O, E>(rt, asked, streams),
-        "achi" => answer::<Achi, R, I, O, E>(rt, asked, streams),
-        _ => answer_moving(rt, game, asked, streams),
-    }
-}
-
-/// Answers a request about the game of this name. The names are tried family by family, each family by its own function.
+/// Answers a command about the game of this name.
 pub fn answer_for<
     R: Threads + Wait + Clock + Files + Sync + AllocGlobal,
     I: Read,
     O: Write,
     E: Write + Send,
->(rt: &R, game: &str, asked: GameRequest<'_>, streams: Streams<'_, I, O, E>) -> Result<u8, Fault>
-    ensures answered { IsAnsweredFor (game_named game.now) asked.entry (I.remaining streams.entry.input.now) (O.contents streams.entry.output.now)
-        (O.contents streams.exit.1.0.now) result }
-    ensures naming { asked.entry ≡ GameRequest.Naming → streams.exit.1.0.now ≡ streams.entry.output.now }
+>(
+    rt: &R,
+    game: GameName,
+    command: GameCommand<'_>,
+    options: BuildOptions<'_>,
+    input: &mut I,
+    output: &mut O,
+    errors: &mut E,
+) -> Result<u8, Fault>
+    ensures answered { IsAnswered (spec_of game) command.entry (I.remaining input.old) (O.contents output.old) (O.contents output.new) result }
+    ensures naming { command.entry ≡ GameCommand.Naming → output.new ≡ output.old }
 {
+    macro_rules! answer_of {
+        ($game:ty) => { answer::<$game, R, I, O, E>(rt, command, options, input, output, errors) };
+    }
     match game {
-        "countdown" => answer::<Countdown<10>, R, I, O, E>(rt, asked, streams),
-        "wheel" => answer::<Wheel, R, I, O, E>(rt, asked, streams),
-        "takeaway" => answer::<Takeaway, R, I, O, E>(rt, asked, streams),
-        _ => answer_lines(rt, game, asked, streams),
+        GameName::Countdown => answer_of!(Countdown<10>),
+        GameName::Wheel => answer_of!(Wheel),
+        GameName::TacTix1 => answer_of!(TacTix<1, false>),
+        GameName::TacTix2 => answer_of!(TacTix<2, false>),
+        GameName::TacTix3 => answer_of!(TacTix<3, false>),
+        GameName::TacTix4 => answer_of!(TacTix<4, false>),
+        GameName::TacTix5 => answer_of!(TacTix<5, false>),
+        GameName::TacTix1Misere => answer_of!(TacTix<1, true>),
+        GameName::TacTix2Misere => answer_of!(TacTix<2, true>),
+        GameName::TacTix3Misere => answer_of!(TacTix<3, true>),
+        GameName::TacTix4Misere => answer_of!(TacTix<4, true>),
+        GameName::TacTix5Misere => answer_of!(TacTix<5, true>),
+        GameName::TicTacToe => answer_of!(TicTacToe),
+        GameName::ThreeMens => answer_of!(ThreeMens),
+        GameName::Achi => answer_of!(Achi),
+        GameName::MuTorere => answer_of!(MuTorere),
+        GameName::Dao => answer_of!(Dao),
+        GameName::Hare => answer_of!(Hare),
+        GameName::PongHauKi => answer_of!(Pong),
+        GameName::Shisima => answer_of!(Shisima),
+        GameName::Takeaway => answer_of!(Takeaway),
+        GameName::Tapatan => answer_of!(Tapatan),
+        GameName::Dodgem => answer_of!(Dodgem),
+        GameName::Krk => answer_of!(Krk),
+        GameName::Kqk => answer_of!(Kqk),
+        GameName::FoxHounds => answer_of!(FoxHounds),
     }
 }

@@ -29,12 +29,19 @@ pub fn at_place<
     R: Threads + Wait + Clock + Files + Sync + AllocGlobal,
     O: Write,
     E: Write + Send,
->(rt: &R, tier: u64, index: u64, options: BuildOptions<'_, E>, output: &mut O) -> Result<u8, Fault>
+>(
+    rt: &R,
+    tier: u64,
+    index: u64,
+    options: BuildOptions<'_>,
+    output: &mut O,
+    errors: &mut E,
+) -> Result<u8, Fault>
     ensures { IsPlaced G.Game.rules G.shown tier index (O.contents output.old) (O.contents output.new) result }
 {
     known_tier::<G>(rt.alloc(), tier)?;
     let p = position_at::<G>(tier, index)?;
-    let built = options.build_from::<G, R>(rt, tier)?;
+    let built = options.build_from::<G, R, E>(rt, tier, errors)?;
     let known = Known {
         tables: &built.tables,
         position: p,

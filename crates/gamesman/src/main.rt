@@ -17,7 +17,6 @@ mod located;
 mod naming;
 mod output;
 mod play;
-mod query;
 mod reasons;
 mod run;
 mod search;

@@ -42,14 +42,15 @@ pub fn play<
 >(
     rt: &R,
     asked: PlayRequest<'_>,
-    options: BuildOptions<'_, E>,
+    options: BuildOptions<'_>,
     input: &mut I,
     output: &mut O,
+    errors: &mut E,
 ) -> Result<u8, Fault>
     ensures { IsPlayed G.Game.rules G.shown G.move_shown G.picture asked.entry (I.remaining input.old) (O.contents output.old) (O.contents output.new) result }
 {
     let start = position_of::<G>(asked.position)?;
-    let built = options.build_from::<G, R>(rt, start.tier)?;
+    let built = options.build_from::<G, R, E>(rt, start.tier, errors)?;
     let played = play_from(&built, start, asked, input, output);
     drop(built);
     played

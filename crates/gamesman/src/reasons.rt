@@ -2,10 +2,11 @@
 ghost use Rattle.std.specs.Prelude.{◌≡◌};
 
 use crate::fault::Fault;
-use crate::games::{Streams, answer_for};
+use crate::games::answer_for;
+use crate::tables::BuildOptions;
 use gm_build::build_error::BuildError;
-use gm_command::names::nearest_name;
-use gm_command::requests::{GameRequest, Request, Telling};
+use gm_command::names::{game_named, nearest_name};
+use gm_command::requests::{GameCommand, Request, TableLocation};
 use std::alloc::Global;
 use std::fs::{self, Files};
 use std::io::{self, ErrorKind, Read, Write};
@@ -19,12 +20,13 @@ pub fn advise<
     I: Read,
     O: Write,
     E: Write + Send,
->(rt: &R, asked: Request<'_>, fault: &Fault, input: &mut I, output: &mut O, errors: &mut E)
+>(rt: &R, request: Request<'_>, fault: &Fault, input: &mut I, output: &mut O, errors: &mut E)
     ensures { output.new ≡ output.old }
 {
-    let Request::Of { game, asked, .. } = asked else {
+    let Request::Game(request) = request else {
         return;
     };
+    let game = request.game;
     let _ = match fault {
         Fault::NoSuchGame => advise_on_game(rt.alloc(), game, errors),
         Fault::NoSuchTier { .. } => writeln!(
@@ -34,39 +36,28 @@ pub fn advise<
         Fault::AnotherGames { .. } => {
             errors.write_all(b"  tip: give each game a folder of its own\n")
         }
-        Fault::NotBuilt(BuildError::StoreFailed { .. }) => match kept_in(asked) {
-            Some((folder, read_only)) => advise_on_folder(rt, game, folder, read_only, errors),
-            None => Ok(()),
+        Fault::NotBuilt(BuildError::StoreFailed { .. }) => match request.tables {
+            TableLocation::Memory => Ok(()),
+            TableLocation::Folder(folder) => advise_on_folder(rt, game, folder, false, errors),
+            TableLocation::ReadOnly(folder) => advise_on_folder(rt, game, folder, true, errors),
         },
         Fault::NoSuchPosition | Fault::NoSuchPositionInLine { .. } => {
-            let streams = Streams {
-                input,
-                output,
-                errors,
-                telling: Telling::Quiet,
-            };
-            let _ = answer_for(rt, game, GameRequest::Naming, streams);
+            if let Some(game) = game_named(game) {
+                let options = BuildOptions::of(request, false);
+                let _ = answer_for(
+                    rt,
+                    game,
+                    GameCommand::Naming,
+                    options,
+                    input,
+                    output,
+                    errors,
+                );
+            }
             Ok(())
         }
         _ => Ok(()),
     };
-}
-
-// Returns the folder that a command names, and whether it is only read.
-fn kept_in(asked: GameRequest<'_>) -> Option<(&str, bool)> {
-    match asked {
-        GameRequest::Solve(asked) => Some((asked.folder, false)),
-        GameRequest::Check { folder } => Some((folder, true)),
-        GameRequest::Query { kept, .. }
-        | GameRequest::Filter { kept, .. }
-        | GameRequest::At { kept, .. }
-        | GameRequest::Explore { kept, .. }
-        | GameRequest::EnginePage { kept, .. }
-        | GameRequest::Search { kept, .. }
-        | GameRequest::Analyse { kept }
-        | GameRequest::Play { kept, .. } => Some((kept.folder?, kept.read_only)),
-        GameRequest::Locate { .. } | GameRequest::Naming => None,
-    }
 }
 
 // Writes how to list the names of the games, and the name that was probably meant, if one is near.

@@ -6,13 +6,15 @@ ghost use Rattle.gamesman.specs.Answers.{IsDone, IsRun};
 
 use crate::engine::page_of_games;
 use crate::fault::Fault;
-use crate::games::{Streams, answer_for};
+use crate::games::answer_for;
 use crate::output::{put, put_all};
 use crate::reasons::advise;
+use crate::tables::BuildOptions;
 use gm_build::whole_line::{FaultLine, write_line};
-use gm_command::asked::{Help, ReadError, read_words, what_is_wrong};
 use gm_command::manual::{Manual, manual_text};
-use gm_command::requests::{Reading, Request, Telling};
+use gm_command::names::{LISTED, LISTED_LATER, game_named};
+use gm_command::reading::{Help, ReadError, read_words, what_is_wrong};
+use gm_command::requests::{Reading, Request};
 use std::alloc::{AllocError, Global};
 use std::fs::Files;
 use std::io::{Read, Write};
@@ -29,27 +31,19 @@ pub const REFUSED: u8 = 1;
 /// The status of a line that the program doesn't know.
 pub const BAD_LINE: u8 = 2;
 
-// The names of the games that `list` prints, each in its own line, and after them the names that only `list --all` prints. The
-// contract of `list` ties both to gm_command.
-const LISTED: &[u8] =
-    b"countdown\nwheel\ntactix-1\ntactix-2\ntactix-3\ntactix-4\ntactix-5\ntactix-1-misere\ntactix-2-misere\n\
-tactix-3-misere\ntactix-4-misere\ntactix-5-misere\ntictactoe\nthreemens\nachi\nmutorere\ndao\nhare\n";
-
-const LISTED_LATER: &[u8] = b"ponghauki\nshisima\ntakeaway\ntapatan\ndodgem\nkrk\nkqk\nfoxhounds\n";
-
 fn list<O: Write>(all: bool, output: &mut O) -> Result<u8, Fault>
     ensures { IsPut (listed all) (O.contents output.old) (O.contents output.new) result }
 {
-    put(output, LISTED)?;
+    put(output, LISTED.as_bytes())?;
     if all {
-        return put_all(output, LISTED_LATER);
+        return put_all(output, LISTED_LATER.as_bytes());
     }
     Ok(DONE)
 }
 
 // Writes a text about the program, with one call.
-fn write_manual<O: Write>(alloc: Global, asked: Manual, output: &mut O) -> Result<u8, Fault> {
-    let text = manual_text(alloc, asked)?;
+fn write_manual<O: Write>(alloc: Global, manual: Manual, output: &mut O) -> Result<u8, Fault> {
+    let text = manual_text(alloc, manual)?;
     put(output, text.as_slice())?;
     Ok(DONE)
 }
@@ -65,14 +59,27 @@ fn answer<
     I: Read,
     O: Write,
     E: Write + Send,
->(rt: &R, asked: Request<'_>, streams: Streams<'_, I, O, E>) -> Result<u8, Fault>
-    ensures { IsDone asked.entry (I.remaining streams.entry.input.now) (O.contents streams.entry.output.now) (O.contents streams.exit.1.0.now) result }
+>(
+    rt: &R,
+    request: Request<'_>,
+    terminal: bool,
+    input: &mut I,
+    output: &mut O,
+    errors: &mut E,
+) -> Result<u8, Fault>
+    ensures { IsDone request.entry (I.remaining input.old) (O.contents output.old) (O.contents output.new) result }
 {
-    match asked {
-        Request::List { all } => list(all, streams.output),
-        Request::Of { game, asked, .. } => answer_for(rt, game, asked, streams),
-        Request::AllGames { engine } => page_of_games(rt, engine, streams.output),
-        Request::Manual(asked) => write_manual(rt.alloc(), asked, streams.output),
+    match request {
+        Request::List { all } => list(all, output),
+        Request::Game(request) => match game_named(request.game) {
+            Some(game) => {
+                let options = BuildOptions::of(request, terminal);
+                answer_for(rt, game, request.command, options, input, output, errors)
+            }
+            None => Err(Fault::NoSuchGame),
+        },
+        Request::AllGames { engine } => page_of_games(rt, engine, output),
+        Request::Manual(manual) => write_manual(rt.alloc(), manual, output),
     }
 }
 
@@ -100,39 +107,21 @@ pub fn explain<E: Write>(alloc: Global, words: &[&str], errors: &mut E) {
     }
 }
 
-// Returns how the progress of a build is reported. The line that is overwritten again and again is only for a terminal.
-fn telling_of(asked: Request<'_>, terminal: bool) -> Telling {
-    match asked {
-        Request::Of {
-            telling: Telling::Terminal,
-            ..
-        } if !terminal => Telling::Quiet,
-        Request::Of { telling, .. } => telling,
-        Request::List { .. } | Request::AllGames { .. } | Request::Manual(_) => Telling::Quiet,
-    }
-}
-
 /// Answers a request, and returns the exit status. A refusal is reported with its reason, and at a terminal also with advice.
-pub fn run_asked<
+pub fn run_request<
     R: Threads + Wait + Clock + Files + Sync + AllocGlobal,
     I: Read,
     O: Write,
     E: Write + Send,
->(rt: &R, asked: Request<'_>, terminal: bool, input: &mut I, output: &mut O, errors: &mut E) -> u8
-    ensures { IsRun asked.entry (I.remaining input.old) (O.contents output.old) (O.contents output.new) result }
+>(rt: &R, request: Request<'_>, terminal: bool, input: &mut I, output: &mut O, errors: &mut E) -> u8
+    ensures { IsRun request.entry (I.remaining input.old) (O.contents output.old) (O.contents output.new) result }
 {
-    let streams = Streams {
-        input: &mut *input,
-        output: &mut *output,
-        errors: &mut *errors,
-        telling: telling_of(asked, terminal),
-    };
-    match answer(rt, asked, streams) {
+    match answer(rt, request, terminal, input, output, errors) {
         Ok(status) => status,
         Err(fault) => {
             let status = refused(&fault, errors);
             if terminal {
-                advise(rt, asked, &fault, input, output, errors);
+                advise(rt, request, &fault, input, output, errors);
             }
             status
         }
@@ -148,7 +137,7 @@ pub fn run_words<
     E: Write + Send,
 >(rt: &R, words: &[&str], terminal: bool, input: &mut I, output: &mut O, errors: &mut E) -> u8 {
     match read_words(rt.alloc(), words) {
-        Ok(Reading::Request(asked)) => run_asked(rt, asked, terminal, input, output, errors),
+        Ok(Reading::Request(request)) => run_request(rt, request, terminal, input, output, errors),
         Ok(Reading::Help(text)) => match write_help(text, output) {
             Ok(status) => status,
             Err(fault) => refused(&fault, errors),

@@ -1,7 +1,7 @@
 //! Searches over all tables of a game, and the service that answers positions.
 ghost use Rattle.std.specs.Prelude.{◌≡◌, None, IfOk, OnOk, OnErr, IfErr, is_some};
 ghost use Rattle.std.specs.Io.KnownBytes.{Appends};
-ghost use Rattle.gm_tiers.specs.Orders.{IsTierOrder, IsOrderFrom};
+ghost use Rattle.gm_tiers.specs.Orders.{IsTierOrder};
 ghost use Rattle.gm_tiers.specs.Reach.{IsReached};
 ghost use Rattle.gm_build.specs.Work.{HoldsExactly};
 ghost use Rattle.gm_play.specs.Sessions.{AppendsPart};
@@ -10,8 +10,9 @@ ghost use Rattle.gm_analyse.specs.Longest.{IsLongestText};
 ghost use Rattle.gamesman.specs.Games.{game_spec};
 ghost use Rattle.gamesman.specs.Outputs.{IsOutputFault};
 ghost use Rattle.gamesman.specs.Told.{IsMemoryFault, IsUnknown, IsTold};
+ghost use Rattle.gamesman.specs.Finds.{AreFoundBy};
 ghost use Rattle.gamesman.specs.Asks.{ready_text, IsAskedBy};
-ghost use Rattle.gamesman.specs.Searches.{tier_asked, first_of, IsUnnamed, IsUnsearched, IsCountsOf, IsLongestOf, IsSearched};
+ghost use Rattle.gamesman.specs.Searches.{first_of, IsUnnamed, IsUnsearched, IsCountsOf, IsLongestOf};
 
 use crate::fault::Fault;
 use crate::found::write_found;
@@ -21,7 +22,7 @@ use crate::tables::BuildOptions;
 use gm_analyse::bars::counts_text;
 use gm_analyse::longest_rows::longest_text;
 use gm_build::build::Built;
-use gm_command::requests::{AskRequest, CountsRequest, TableRequest};
+use gm_command::requests::{AskRequest, CountsRequest, PositionSearch};
 use gm_draw::pictured::Pictured;
 use gm_find::reached::Reached;
 use gm_game::shown::Shown;
@@ -36,55 +37,100 @@ use std::sync::Wait;
 use std::thread::Threads;
 use std::time::Clock;
 
-/// Answers a question about all tables of a game.
-pub fn search<
+/// Writes the positions that a search finds.
+pub fn find<
     G: Pictured + Send + Sync,
+    R: Threads + Wait + Clock + Files + Sync + AllocGlobal,
+    O: Write,
+    E: Write + Send,
+>(
+    rt: &R,
+    search: PositionSearch,
+    options: BuildOptions<'_>,
+    output: &mut O,
+    errors: &mut E,
+) -> Result<u8, Fault>
+    ensures { AreFoundBy (game_spec G.Game.rules G.shown G.move_shown G.picture)
+        search (IsUnsearched G.Game.rules search.tier) (O.contents output.old) (O.contents output.new) result }
+{
+    let alloc = rt.alloc();
+    let first = first_tier::<G>(alloc, search.tier)?;
+    let built = options.build_from::<G, R, E>(rt, first, errors)?;
+    let written = write_found(alloc, &built, search, output);
+    drop(built);
+    written
+}
+
+/// Writes the counts of all tiers.
+pub fn counts<
+    G: Shown + Send + Sync,
+    R: Threads + Wait + Clock + Files + Sync + AllocGlobal,
+    O: Write,
+    E: Write + Send,
+>(
+    rt: &R,
+    request: CountsRequest,
+    options: BuildOptions<'_>,
+    output: &mut O,
+    errors: &mut E,
+) -> Result<u8, Fault>
+    ensures { IsTold (IsCountsOf G.Game.rules request) (IsUnsearched G.Game.rules None) (O.contents output.old) (O.contents output.new) result }
+{
+    let built = options.build::<G, R, E>(rt, errors)?;
+    let written = write_counts(rt.alloc(), &built, request, output);
+    drop(built);
+    written
+}
+
+/// Writes the rows of the longest wins and the longest losses.
+pub fn longest<
+    G: Shown + Send + Sync,
+    R: Threads + Wait + Clock + Files + Sync + AllocGlobal,
+    O: Write,
+    E: Write + Send,
+>(
+    rt: &R,
+    reached: bool,
+    limit: usize,
+    options: BuildOptions<'_>,
+    output: &mut O,
+    errors: &mut E,
+) -> Result<u8, Fault>
+    ensures { IsTold (IsLongestOf G.Game.rules G.shown G.move_shown reached limit) (IsUnsearched G.Game.rules None)
+        (O.contents output.old) (O.contents output.new) result }
+{
+    let built = options.build::<G, R, E>(rt, errors)?;
+    let written = write_longest(rt.alloc(), &built, reached, limit, output);
+    drop(built);
+    written
+}
+
+/// Answers each position of the input.
+pub fn serve<
+    G: Shown + Send + Sync,
     R: Threads + Wait + Clock + Files + Sync + AllocGlobal,
     I: Read,
     O: Write,
     E: Write + Send,
 >(
     rt: &R,
-    asked: TableRequest,
-    options: BuildOptions<'_, E>,
+    request: AskRequest,
+    options: BuildOptions<'_>,
     input: &mut I,
     output: &mut O,
+    errors: &mut E,
 ) -> Result<u8, Fault>
-    ensures { IsSearched (game_spec G.Game.rules G.shown G.move_shown G.picture)
-        asked (I.remaining input.old) (O.contents output.old) (O.contents output.new) result }
+    ensures { IsAskedBy G.Game.rules G.shown G.move_shown request (IsUnsearched G.Game.rules None)
+        (I.remaining input.old) (O.contents output.old) (O.contents output.new) result }
 {
-    let alloc = rt.alloc();
-    let first = first_tier::<G>(alloc, asked)?;
-    let built = options.build_from::<G, R>(rt, first)?;
-    let answered = answer(alloc, &built, asked, input, output);
+    let built = options.build::<G, R, E>(rt, errors)?;
+    let served = serve_from(rt.alloc(), &built, request, input, output);
     drop(built);
-    answered
+    served
 }
 
-fn answer<G: Pictured, I: Read, O: Write>(
-    alloc: Global,
-    built: &Built<G>,
-    asked: TableRequest,
-    input: &mut I,
-    output: &mut O,
-) -> Result<u8, Fault>
-    requires order { IsOrderFrom G.Game.rules (first_of G.Game.rules (tier_asked asked)) built.now.order }
-    requires held { HoldsExactly built.now.tables built.now.order }
-    ensures { IsSearched (game_spec G.Game.rules G.shown G.move_shown G.picture)
-        asked (I.remaining input.old) (O.contents output.old) (O.contents output.new) result }
-{
-    match asked {
-        TableRequest::Find(positions) => write_found(alloc, built, positions, output),
-        TableRequest::Counts(asked) => write_counts(alloc, built, asked, output),
-        TableRequest::Longest { reached, limit } => write_longest(
-            alloc, built, reached, limit, output,
-        ),
-        TableRequest::Ask(asked) => serve(alloc, built, asked, input, output),
-    }
-}
-
-// Answers each position of the input.
-fn serve<G: Shown, I: Read, O: Write>(
+// Answers each position of the input from these tables.
+fn serve_from<G: Shown, I: Read, O: Write>(
     alloc: Global,
     built: &Built<G>,
     asked: AskRequest,
@@ -101,7 +147,7 @@ fn serve<G: Shown, I: Read, O: Write>(
         tables: &built.tables,
     };
     let tiers = built.order.tiers();
-    ask(alloc, &tables, tiers, asked.asked, input, output)?;
+    ask(alloc, &tables, tiers, asked.answer, input, output)?;
     Ok(DONE)
 }
 
@@ -117,23 +163,13 @@ fn write_ready<O: Write>(asked: bool, output: &mut O) -> Result<(), Fault>
     Ok(())
 }
 
-// Returns the one tier that a question is limited to. `None` means all tiers.
-fn tier_of(asked: TableRequest) -> Option<u64>
-    ensures { result ≡ tier_asked asked }
-{
-    match asked {
-        TableRequest::Find(positions) => positions.tier,
-        TableRequest::Counts(_) | TableRequest::Longest { .. } | TableRequest::Ask(_) => None,
-    }
-}
-
-// Returns the tier whose tables a question needs: the named one, if it is one of the game, or the initial one if none is named.
-fn first_tier<G: Shown>(alloc: Global, asked: TableRequest) -> Result<u64, Fault>
-    ensures first { IfOk result (λ tier. tier ≡ first_of G.Game.rules (tier_asked asked)) }
+// Returns the tier whose tables a search needs: the named one, if it is one of the game, or the initial one if none is named.
+fn first_tier<G: Shown>(alloc: Global, named: Option<u64>) -> Result<u64, Fault>
+    ensures first { IfOk result (λ tier. tier ≡ first_of G.Game.rules named) }
     ensures reached { IfOk result (IsReached G.Game.rules) }
-    ensures refused { IfErr result (IsUnnamed G.Game.rules (tier_asked asked)) }
+    ensures refused { IfErr result (IsUnnamed G.Game.rules named) }
 {
-    match tier_of(asked) {
+    match named {
         None => Ok(G::initial().tier),
         Some(tier) => {
             known_tier::<G>(alloc, tier)?;
@@ -211,12 +247,12 @@ fn write_longest<G: Shown, O: Write>(
     ensures { IsTold (IsLongestOf G.Game.rules G.shown G.move_shown reached limit) (IsUnsearched G.Game.rules None)
         (O.contents output.old) (O.contents output.new) result }
 {
-    let text = longest(alloc, built, reached, limit)?;
+    let text = longest_of(alloc, built, reached, limit)?;
     put_all(output, text.as_slice())
 }
 
 // Returns the rows of the longest wins and the longest losses.
-fn longest<G: Shown>(
+fn longest_of<G: Shown>(
     alloc: Global,
     built: &Built<G>,
     reached: bool,

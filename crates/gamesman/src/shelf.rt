@@ -1,7 +1,7 @@
 //! The store that the program builds over.
-ghost use Rattle.std.specs.Prelude.{◌≡◌, ◌+◌, ◌<◌, false, None, IfOk, option_map};
+ghost use Rattle.std.specs.Prelude.{◌≡◌, ◌+◌, ◌<◌, false, None, IfOk, string_bytes};
 ghost use Rattle.gm_tierdb.specs.StoreTexts.{failures_of};
-ghost use Rattle.gamesman.specs.Shelves.{failed_in, kept_in, IsShelfWrite};
+ghost use Rattle.gamesman.specs.Shelves.{failed_in, kept_in, kept_at, IsShelfWrite};
 
 use gm_command::requests::TableLocation;
 use gm_game::limits::NAME;
@@ -22,21 +22,26 @@ pub enum Shelf {
     Memory(MemStore),
 }
 
+// Makes the store of a folder.
+fn folder_at(alloc: Global, folder: &str) -> Result<FolderStore, AllocError>
+    ensures failed { IfOk result (λ s. s.broken ≡ 0) }
+    ensures folder { IfOk result (λ s. string_bytes s.folder ≡ folder.now) }
+{
+    Ok(FolderStore::new(alloc, String::from_str(alloc, folder)?))
+}
+
 impl Shelf {
-    /// Makes the store for a line. It is the folder that the line names, which is only read on request, or memory if the line names
-    /// none. No call of it has failed.
-    pub fn at(alloc: Global, kept: TableLocation<'_>) -> Result<Shelf, AllocError>
+    /// Makes the store at this place. No call of it has failed.
+    pub fn at(alloc: Global, tables: TableLocation<'_>) -> Result<Shelf, AllocError>
         ensures failed { IfOk result (λ s. failed_in s ≡ 0) }
-        ensures kept { IfOk result (λ s. kept_in s ≡ option_map (λ folder. (folder.now, kept.entry.read_only)) kept.entry.folder) }
+        ensures kept { IfOk result (λ s. kept_in s ≡ kept_at tables.entry) }
     {
-        let Some(folder) = kept.folder else {
-            return Ok(Shelf::Memory(MemStore::new(alloc)));
-        };
-        let folder = FolderStore::new(alloc, String::from_str(alloc, folder)?);
-        if kept.read_only {
-            Ok(Shelf::ReadOnly(ReadOnly::new(folder)))
-        } else {
-            Ok(Shelf::Folder(folder))
+        match tables {
+            TableLocation::Memory => Ok(Shelf::Memory(MemStore::new(alloc))),
+            TableLocation::Folder(folder) => Ok(Shelf::Folder(folder_at(alloc, folder)?)),
+            TableLocation::ReadOnly(folder) => {
+                Ok(Shelf::ReadOnly(ReadOnly::new(folder_at(alloc, folder)?)))
+            }
         }
     }
 

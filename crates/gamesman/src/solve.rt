@@ -1,13 +1,11 @@
 //! Solving a game into a folder.
-ghost use Rattle.std.specs.Prelude.{◌≡◌, ◌++◌, IfOk, OnOk, IfErr};
-ghost use Rattle.gamesman.specs.Refusals.{IsUnbuilt};
-ghost use Rattle.gamesman.specs.Solving.{part, report_text, IsReport, IsSolvedBy};
+ghost use Rattle.std.specs.Prelude.{◌≡◌, ◌++◌, IfOk, OnOk};
+ghost use Rattle.gamesman.specs.Solving.{part, report_text, IsSolvedBy};
 
 use crate::fault::Fault;
 use crate::output::put_all;
 use crate::tables::BuildOptions;
 use gm_build::build::Built;
-use gm_command::requests::{SolveRequest, TableLocation, Telling};
 use gm_game::game::Game;
 use gm_game::shown::Line;
 use gm_game::text::push_decimal;
@@ -18,48 +16,20 @@ use std::sync::Wait;
 use std::thread::Threads;
 use std::time::Clock;
 
-/// Builds a game into a folder, and prints the work that it took.
+/// Builds a game, and prints the work that it took.
 pub fn solve<
     G: Game + Send + Sync,
     R: Threads + Wait + Clock + Files + Sync + AllocGlobal,
     O: Write,
     E: Write + Send,
->(
-    rt: &R,
-    asked: SolveRequest<'_>,
-    output: &mut O,
-    errors: &mut E,
-    telling: Telling,
-) -> Result<u8, Fault>
+>(rt: &R, options: BuildOptions<'_>, output: &mut O, errors: &mut E) -> Result<u8, Fault>
     ensures { IsSolvedBy G.rules (O.contents output.old) (O.contents output.new) result }
 {
-    let line = report_of::<G, R, E>(rt, asked, errors, telling)?;
-    put_all(output, line.as_slice())
-}
-
-// Builds a game into a folder, and returns the line that reports the work.
-fn report_of<
-    G: Game + Send + Sync,
-    R: Threads + Wait + Clock + Files + Sync + AllocGlobal,
-    E: Write + Send,
->(rt: &R, asked: SolveRequest<'_>, errors: &mut E, telling: Telling) -> Result<Vec<u8>, Fault>
-    ensures report { IfOk result (λ v. IsReport G.rules v.items) }
-    ensures unbuilt { IfErr result (IsUnbuilt G.rules G.rules.initial.tier) }
-{
-    let SolveRequest { folder, plan } = asked;
-    let options = BuildOptions {
-        kept: TableLocation {
-            folder: Some(folder),
-            read_only: false,
-        },
-        plan,
-        errors,
-        telling,
-    };
-    let built = options.build::<G, R>(rt)?;
+    let built = options.build::<G, R, E>(rt, errors)?;
     let line = line_of(rt.alloc(), &built);
     drop(built);
-    Ok(line?)
+    let line = line?;
+    put_all(output, line.as_slice())
 }
 
 // Returns the work of a build as a line.

@@ -12,7 +12,7 @@ use crate::shelf::Shelf;
 use crate::teller::Teller;
 use gm_build::build::{Built, build_from};
 use gm_build::build_error::BuildError;
-use gm_command::requests::{TableLocation, Telling};
+use gm_command::requests::{GameRequest, TableLocation, Telling};
 use gm_game::game::Game;
 use gm_solver::gate::NoGate;
 use gm_solver::plan::Plan;
@@ -25,55 +25,71 @@ use std::sync::Wait;
 use std::thread::Threads;
 use std::time::Clock;
 
-/// The options of a build: the place of the tables of a game, and how they are made.
-#[derive(Drop)]
-pub struct BuildOptions<'a, E> {
-    pub kept: TableLocation<'a>,
+/// The options of a build: the place of the tables of a game, how they are made, and how that is reported.
+#[derive(Clone, Copy)]
+pub struct BuildOptions<'a> {
+    pub tables: TableLocation<'a>,
     pub plan: Plan,
-    /// Standard error.
-    pub errors: &'a mut E,
-    /// How progress is reported.
-    pub telling: Telling,
+    /// How progress is reported. It is `Terminal` only if standard error is a terminal.
+    pub progress: Telling,
 }
 
-impl<E: Write + Send> BuildOptions<'_, E> {
-    /// Builds a whole game.
-    pub fn build<G: Game + Send + Sync, R: Threads + Wait + Clock + Files + Sync + AllocGlobal>(
-        self,
-        rt: &R,
-    ) -> Result<Built<G>, Fault>
+// Returns how progress is reported. The line that is overwritten again and again is only for a terminal.
+fn progress_at(terminal: bool, requested: Telling) -> Telling {
+    match requested {
+        Telling::Terminal if !terminal => Telling::Quiet,
+        progress => progress,
+    }
+}
+
+impl<'a> BuildOptions<'a> {
+    /// Returns the options of a request, given whether standard error is a terminal.
+    pub fn of(request: GameRequest<'a>, terminal: bool) -> Self {
+        BuildOptions {
+            tables: request.tables,
+            plan: request.plan,
+            progress: progress_at(terminal, request.progress),
+        }
+    }
+
+    /// Builds a whole game. Progress is reported on standard error.
+    pub fn build<
+        G: Game + Send + Sync,
+        R: Threads + Wait + Clock + Files + Sync + AllocGlobal,
+        E: Write + Send,
+    >(self, rt: &R, errors: &mut E) -> Result<Built<G>, Fault>
         ensures order { IfOk result (λ built. IsTierOrder G.rules built.order) }
         ensures held { IfOk result (λ built. HoldsExactly built.tables built.order) }
         ensures work { IfOk result (λ built. IsSomeWork G.rules built.order built.work) }
         ensures unbuilt { IfErr result (IsUnbuilt G.rules G.rules.initial.tier) }
     {
-        self.build_from::<G, R>(rt, G::initial().tier)
+        self.build_from::<G, R, E>(rt, G::initial().tier, errors)
     }
 
-    /// Builds the tiers that one tier reaches: all tiers on which its values depend.
+    /// Builds the tiers that one tier reaches: all tiers on which its values depend. Progress is reported on standard error.
     pub fn build_from<
         G: Game + Send + Sync,
         R: Threads + Wait + Clock + Files + Sync + AllocGlobal,
-    >(self, rt: &R, first: u64) -> Result<Built<G>, Fault>
+        E: Write + Send,
+    >(self, rt: &R, first: u64, errors: &mut E) -> Result<Built<G>, Fault>
         ensures order { IfOk result (λ built. IsOrderFrom G.rules first built.order) }
         ensures held { IfOk result (λ built. HoldsExactly built.tables built.order) }
         ensures work { IfOk result (λ built. IsSomeWork G.rules built.order built.work) }
         ensures unbuilt { IfErr result (IsUnbuilt G.rules first) }
     {
         let BuildOptions {
-            kept,
+            tables,
             plan,
-            errors,
-            telling,
+            progress,
         } = self;
         let order = TierOrder::<G>::from_tier(rt.alloc(), first)?;
-        let mut shelf = Shelf::at(rt.alloc(), kept)?;
+        let mut shelf = Shelf::at(rt.alloc(), tables)?;
         let anothers = first_anothers::<G, R>(rt, &mut shelf, order.tiers())?;
         if let Some(tier) = anothers {
             return Err(Fault::AnotherGames { tier });
         }
         let tiers = order.tiers();
-        let built = build_over(rt, &mut shelf, first, tiers, plan, errors, telling);
+        let built = build_over(rt, &mut shelf, first, tiers, plan, progress, errors);
         let met_another = shelf.met_another();
         drop((order, shelf));
         match built {
@@ -112,8 +128,8 @@ fn build_over<
     first: u64,
     tiers: &[u64],
     plan: Plan,
+    progress: Telling,
     errors: &mut E,
-    telling: Telling,
 ) -> Result<Built<G>, BuildError>
     requires { failed_in shelf.old ≡ 0 }
     ensures order { IfOk result (λ built. IsOrderFrom G.rules first built.order) }
@@ -122,7 +138,7 @@ fn build_over<
     ensures error { IfErr result (IsBuildError G.rules first) }
 {
     let alloc = rt.alloc();
-    let teller: Teller<'_, G, R, E> = Teller::new(rt, errors, telling, tiers);
+    let teller: Teller<'_, G, R, E> = Teller::new(rt, errors, progress, tiers);
     let built = build_from(
         rt,
         alloc,

@@ -1,6 +1,6 @@
 -- What an error of a tier says of the build.
 use Rattle.std.proofs.Common.{◌≡◌, ℕ, ◌+◌, inl, inr, Result, Ok, Err, IfErr, refl, sym, ap, subst, ◌∙◌, arith}
-use Rattle.std.specs.Result.{IsErrAnd, IsErrOf}
+use Rattle.std.specs.Result.{IsErrOf}
 use Rattle.gm_build.proofs.Lower.{Rules, TIERS, IsReachedFrom, Texts, of_tier_error, IsBuildError, StopsAt, IsStopped}
 use Rattle.gm_tiers.specs.declared.tier_error.TierError.{TierError}
 use Rattle.gm_tiers.specs.declared.tier_error.TierError.TheVariants.{OutOfMemory as NoMemory, TooManyTiers as TooMany, TierTooLarge as TooLarge}
@@ -25,11 +25,6 @@ stopped_by r first start now tier (StoreFailed t) stops is = subst (StopsAt r fi
 stopped_by r first start now tier TooManyTiers stops is = absurd is
 stopped_by r first start now tier (TierTooLarge t) stops is = absurd is
 
--- an error that is passed on is what it was
-pub passed : {T : Type 0} → (m : Result T BuildError) (Q : BuildError → Type 0) (e : BuildError) → IsErrAnd m (λ y. y ≡ e) → Q e → IfErr m Q
-passed (Ok x) Q e h q = tt
-passed (Err y) Q e h q = subst Q (sym h) q
-
 -- what an error of the order says of the build
 pub order_error : {T : Type 0} → (r : Rules) (first : ℕ) (m : Result T TierError) → (IsErrOf m TooMany → HasTooMany r first)
     → (IsErrOf m TooMany → AreMoreThan r first TIERS)
@@ -44,18 +39,8 @@ order_stopped r first now NoMemory = inl (λ tier. refl)
 order_stopped r first now TooMany = λ tier. refl
 order_stopped r first now (TooLarge tier) = λ t. refl
 
--- how many failures an error counts for
-order_counts : (T : Type 0) (n : ℕ) (e : TierError) → n ≡ n + failures_in {T = T} (Err (of_tier_error e))
-order_counts T n NoMemory = omega arith
-order_counts T n TooMany = omega arith
-order_counts T n (TooLarge tier) = omega arith
-
-pub order_count : (T : Type 0) (n : ℕ) (m : Result T BuildError) (e : TierError) → IsErrAnd m (λ y. y ≡ of_tier_error e) → n ≡ n + failures_in m
-order_count T n (Ok x) e h = absurd h
-order_count T n (Err y) e h = order_counts T n e ∙ ap (λ (x : BuildError). n + failures_in {T = T} (Err x)) (sym h)
-
-pub tier_count : (T : Type 0) (start old new : ℕ) (m : Result T BuildError) (e : BuildError) → IsErrAnd m (λ y. y ≡ e)
-    → new ≡ old + failures_in {T = T} (Err e) → old ≡ start → new ≡ start + failures_in m
-tier_count T start old new (Ok x) e h count is = absurd h
-tier_count T start old new (Err y) e h count is =
-    count ∙ ap (λ (n : ℕ). n + failures_in {T = T} (Err e)) is ∙ ap (λ (k : ℕ). start + k) (ap (λ (x : BuildError). failures_in {T = T} (Err x)) (sym h))
+-- it is no failure of the store
+pub order_count : (T : Type 0) (n : ℕ) (e : TierError) → n ≡ n + failures_in {T = T} (Err (of_tier_error e))
+order_count T n NoMemory = omega arith
+order_count T n TooMany = omega arith
+order_count T n (TooLarge tier) = omega arith

@@ -1,8 +1,9 @@
 -- What a build has done with the first tiers of the order.
-use Rattle.std.proofs.Common.{◌≡◌, ℕ, ◌+◌, ◌*◌, ◌≤◌, ◌↔◌, List, [], ◌∷◌, ◌++◌, length, refl, arith, length-append}
+use Rattle.std.proofs.Common.{◌≡◌, ℕ, ◌+◌, ◌*◌, ◌≤◌, ◌↔◌, List, [], ◌∷◌, ◌++◌, length, take, refl, subst, ◌∙◌, arith, length-append}
 use Rattle.gm_build.proofs.Lower.{Contains, MOVES, TIERS, TIER_SIZE, Rules, IsGame, contains_none, TableData, Texts, AreSameBut, HasText, HasOldText}
 use Rattle.gm_build.proofs.Lower.{HaveTexts, KeepsOthers, IsWorkOn, IsSomeWork, HoldsExactly, HoldsToo, IsDoneBy, IsStep, IsStepWork, no_work, with_tier}
 use Rattle.gm_build.proofs.Lower.{TierOutcome, Reused, Migrated, Solved, Work}
+use Rattle.std.proofs.lemmas.List.{take_all}
 use Rattle.gm_build.specs.Steps.{Fits64}
 use Rattle.gm_build.proofs.StoreLemmas.{text_as_before, old_as_before, texts_more, others_more, holds_more}
 use Rattle.gm_build.proofs.WorkLemmas.{work_none, work_more, some_none, some_more, deliveries_few}
@@ -36,6 +37,12 @@ so_far_fits r Keeps start now entries front work so short =
     let few = so.few in
     let hand = so.some_work.among_all.few_by_hand in
     record { solved = omega arith; reused = omega arith; migrated = omega arith; deliveries = omega arith; by_hand = omega arith }
+
+-- when the first tiers are all of the order
+pub so_far_all : {r : Rules} {Keeps : Type 0} {start now : Texts} {entries : List TableData} {tiers order : List ℕ} {k : ℕ} {work : Work}
+    → IsSoFar r Keeps start now entries (take k tiers) work → length tiers ≤ k → tiers ≡ order → IsSoFar r Keeps start now entries order work
+so_far_all {r} {Keeps} {start} {now} {entries} {tiers} {order} {k} {work} so whole is =
+    subst (λ (front : List ℕ). IsSoFar r Keeps start now entries front work) (take_all k tiers whole ∙ is) so
 
 -- one more tier is counted once
 all_more : (w : Work) (outcome : TierOutcome) (n : ℕ) → w.solved + w.reused + w.migrated ≡ n

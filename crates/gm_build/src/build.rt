@@ -119,7 +119,10 @@ pub fn build_from<
     ensures stopped { IsTrue S.KEEPS → IfErr result (IsStopped G.rules first (S.texts store.old) (S.texts store.new)) }
     ensures count { S.failed store.new ≡ S.failed store.old + failures_in result }
 {
-    let order = TierOrder::from_tier(alloc, first)?;
+    let order = match TierOrder::from_tier(alloc, first) {
+        Ok(order) => order,
+        Err(error) => return Err(BuildError::from(error)),
+    };
     observer.begin(rt, order.tiers().len());
     let mut tables = Tables::new(alloc);
     let mut work = Work::none();
@@ -137,8 +140,10 @@ pub fn build_from<
     laws::<G>();
     for tier in order.tiers() {
         let next = later.next().copied();
-        let outcome = builder.build_tier(*tier, next, &mut ahead, &mut tables, store)?;
-        work = work.with_tier(outcome);
+        match builder.build_tier(*tier, next, &mut ahead, &mut tables, store) {
+            Ok(outcome) => work = work.with_tier(outcome),
+            Err(error) => return Err(error),
+        }
     }
     // For the proof: the tables that are held are true.
     let _held = tables.has(first);

@@ -2,15 +2,15 @@
 //! words are in docs/PROGRAM.md.
 #![tactic(auto)]
 
-pub mod asked;
 pub mod commands;
 pub mod defaults;
-mod explore_commands;
+mod game_commands;
 mod lines;
 pub mod manual;
 pub mod names;
 mod numbers;
+pub mod reading;
 mod relations;
 pub mod requests;
-mod search_commands;
+mod searches;
 mod words;

@@ -3,7 +3,7 @@ ghost use Rattle.std.specs.Prelude.{◌≡◌, ◌↔◌, codes, Some};
 ghost use Rattle.clap.specs.Words.{first_value, found_of};
 
 use crate::lines::lines;
-use crate::names::{LATER_NAMES, NAMES};
+use crate::names::{GAMES, LATER_GAMES, LISTED, LISTED_LATER};
 use crate::words::{ArgKind, ArgSpec, CommandSpec};
 use clap::ArgMatches;
 use std::alloc::{AllocError, Global};
@@ -95,10 +95,7 @@ fn write_words(line: &CommandSpec, text: &mut String) -> Result<(), AllocError> 
 fn write_values(place: &str, text: &mut String) -> Result<(), AllocError> {
     match place {
         "GAME" => {
-            for name in &NAMES {
-                add(text, &[" ", name])?;
-            }
-            for name in &LATER_NAMES {
+            for (name, _) in GAMES.iter().chain(LATER_GAMES.iter()) {
                 add(text, &[" ", name])?;
             }
             Ok(())
@@ -244,13 +241,7 @@ fn write_man(text: &mut String) -> Result<(), AllocError> {
     for line in &lines() {
         write_man_command(line, text)?;
     }
-    text.push_str(".SH GAMES\n")?;
-    for name in &NAMES {
-        add(text, &[name, "\n"])?;
-    }
-    for name in &LATER_NAMES {
-        add(text, &[name, "\n"])?;
-    }
+    add(text, &[".SH GAMES\n", LISTED, LISTED_LATER])?;
     text.push_str(
         ".SH EXIT STATUS\n0 where what was asked was done, 1 where it was refused, 2 for a line that is none.\n",
     )

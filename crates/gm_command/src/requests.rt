@@ -1,7 +1,7 @@
 //! The requests that a line of words can make.
 
-use crate::asked::Help;
 use crate::manual::Manual;
+use crate::reading::Help;
 use gm_analyse::among::Among;
 use gm_analyse::bars::Form as CountsForm;
 use gm_find::sought::{Choice, Sought};
@@ -9,18 +9,21 @@ use gm_json::asked::Asked as PositionJson;
 use gm_play::sides::Side;
 use gm_solver::plan::Plan;
 
-/// The place where the tables of a game are kept.
+/// The place where the tables of a game are stored.
 #[derive(Clone, Copy)]
-pub struct TableLocation<'a> {
-    /// The folder. Without one the tables are kept in memory.
-    pub folder: Option<&'a str>,
-    /// Whether the folder is only read.
-    pub read_only: bool,
+pub enum TableLocation<'a> {
+    /// Memory, only while the program runs.
+    Memory,
+    Folder(&'a str),
+    /// A folder that is only read.
+    ReadOnly(&'a str),
 }
 
 /// A question about a position.
 #[derive(Clone, Copy, Debug, PartialEq, Eq)]
 pub enum Question {
+    /// The value, in a line.
+    Value,
     /// The value of each move. With `distinct`, only the first of several moves that lead to one canonical position.
     Moves { distinct: bool, json: bool },
     /// The value of each move, the best answer to it, and the position after that.
@@ -35,13 +38,6 @@ pub enum Question {
     Page { limit: usize },
 }
 
-/// A question about a position of a game, or about its start.
-#[derive(Clone, Copy)]
-pub struct PositionRequest<'a> {
-    pub position: Option<&'a str>,
-    pub question: Question,
-}
-
 /// A request for a page with the engine.
 #[derive(Clone, Copy)]
 pub struct EnginePageRequest<'a> {
@@ -51,15 +47,6 @@ pub struct EnginePageRequest<'a> {
     pub limit: usize,
     /// The file with the engine's text.
     pub engine: &'a str,
-}
-
-/// A question about each position of the input.
-#[derive(Clone, Copy, Debug, PartialEq, Eq)]
-pub enum Filter {
-    /// Its value.
-    Value,
-    /// The value of each of its moves, as in `Question::Moves`.
-    Moves { distinct: bool, json: bool },
 }
 
 /// The form in which found positions are written.
@@ -105,28 +92,9 @@ pub struct CountsRequest {
 #[derive(Clone, Copy, Debug, PartialEq, Eq)]
 pub struct AskRequest {
     /// The answer that each position gets.
-    pub asked: PositionJson,
+    pub answer: PositionJson,
     /// Whether a first line reports that the tables are ready.
     pub ready: bool,
-}
-
-/// A question about all tables of a game.
-#[derive(Clone, Copy, Debug, PartialEq, Eq)]
-pub enum TableRequest {
-    Find(PositionSearch),
-    /// The number of positions of each value and remoteness.
-    Counts(CountsRequest),
-    /// The longest wins and the longest losses, at most this many of each; on request, only those that play reaches.
-    Longest { reached: bool, limit: usize },
-    /// An answer to each position of the input.
-    Ask(AskRequest),
-}
-
-/// A request to solve a game into a folder.
-#[derive(Clone, Copy)]
-pub struct SolveRequest<'a> {
-    pub folder: &'a str,
-    pub plan: Plan,
 }
 
 /// How progress is reported on standard error while a game is built or checked.
@@ -149,72 +117,73 @@ pub struct PlayRequest<'a> {
     pub drawn: bool,
 }
 
-/// A request about one game.
+/// A command about one game.
 #[derive(Clone, Copy)]
-pub enum GameRequest<'a> {
-    Solve(SolveRequest<'a>),
-    Query {
-        position: &'a str,
-        kept: TableLocation<'a>,
+pub enum GameCommand<'a> {
+    /// Solves the game into its folder.
+    Solve,
+    /// A question about a position, or about the start if none is given: `query`, `moves`, `why`, `line`, `show` and `page`.
+    Explore {
+        position: Option<&'a str>,
+        question: Question,
     },
-    /// Questions about the positions of the input, one in each line.
+    /// A question about each position of the input, one in each line: `query -` and `moves -`.
     Filter {
-        asked: Filter,
-        kept: TableLocation<'a>,
+        question: Question,
     },
+    /// A page with the engine, which solves the game in a browser.
+    EnginePage(EnginePageRequest<'a>),
     /// The position at a tier and index.
     At {
         tier: u64,
         index: u64,
-        kept: TableLocation<'a>,
     },
     /// The tier and index of a position.
     Locate {
         position: &'a str,
     },
-    Explore {
-        asked: PositionRequest<'a>,
-        kept: TableLocation<'a>,
+    Find(PositionSearch),
+    /// The number of positions of each value and remoteness.
+    Counts(CountsRequest),
+    /// The longest wins and the longest losses, at most this many of each; on request, only those that play reaches.
+    Longest {
+        reached: bool,
+        limit: usize,
     },
-    /// A page with the engine, which solves the game in a browser.
-    EnginePage {
-        asked: EnginePageRequest<'a>,
-        kept: TableLocation<'a>,
-    },
-    Search {
-        asked: TableRequest,
-        kept: TableLocation<'a>,
-    },
-    Analyse {
-        kept: TableLocation<'a>,
-    },
+    /// An answer to each position of the input.
+    Ask(AskRequest),
+    /// The counts of each tier.
+    Analyse,
     Check {
         folder: &'a str,
     },
-    Play {
-        asked: PlayRequest<'a>,
-        kept: TableLocation<'a>,
-    },
+    Play(PlayRequest<'a>),
     /// How its positions and moves are written, for a person at a terminal. No line of words makes only this request.
     Naming,
+}
+
+/// A request about one game.
+#[derive(Clone, Copy)]
+pub struct GameRequest<'a> {
+    /// The name of the game.
+    pub game: &'a str,
+    pub command: GameCommand<'a>,
+    /// The place of the tables that the command needs.
+    pub tables: TableLocation<'a>,
+    /// How these tables are made.
+    pub plan: Plan,
+    /// How it is reported how far that is.
+    pub progress: Telling,
 }
 
 /// A request that a line of words makes.
 #[derive(Clone, Copy)]
 pub enum Request<'a> {
     /// The names of the games; on request, also those that were added later.
-    List {
-        all: bool,
-    },
-    Of {
-        game: &'a str,
-        asked: GameRequest<'a>,
-        telling: Telling,
-    },
+    List { all: bool },
+    Game(GameRequest<'a>),
     /// The page of all games, with the engine in this file.
-    AllGames {
-        engine: &'a str,
-    },
+    AllGames { engine: &'a str },
     /// A text about the program.
     Manual(Manual),
 }

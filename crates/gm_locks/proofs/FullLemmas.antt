@@ -1,7 +1,7 @@
 -- A pass is full exactly if it has delivered all pairs of the level.
-use Rattle.std.proofs.Common.{◌≡◌, ℕ, ◌+◌, ◌↔◌, inl, inr, length, List, sym, subst, arith, Some, Option, IsTrue, ◌==◌}
-use Rattle.gm_locks.proofs.Lower.{Decides-eqb, Phase, Ties, Place, Rules, IsGame, AreThere, no_longer, NoteData, IsLevel, ExpectedData, IsExpected}
-use Rattle.gm_locks.proofs.Lower.{IsNumberBefore, Follows, no_repeats_from, level_added, ties_begin, Spot, pairs_into, place_of_spot, IsForSpot}
+use Rattle.std.proofs.Common.{◌≡◌, ℕ, ◌+◌, ◌↔◌, inl, inr, length, List, sym, arith, Some, IsTrue, ◌==◌}
+use Rattle.gm_locks.proofs.Lower.{Decides-eqb, Phase, Place, Rules, IsGame, AreThere, no_longer, NoteData, IsLevel, ExpectedData, IsExpected, IsNumberBefore}
+use Rattle.gm_locks.proofs.Lower.{Follows, no_repeats_from, level_added, ties_begin, Spot, pairs_into, place_of_spot, IsForSpot}
 
 -- there is one number of things of a kind
 pub there_once : {A : Type 0} (Is : A → Type 0) (m n : ℕ) → AreThere m Is → AreThere n Is → m ≡ n
@@ -13,35 +13,23 @@ there_once Is m n (xs, long, first) (ys, wide, second) =
 -- what is before the next place is what is at this one or before
 after_level : (r : Rules) → IsGame r → (tier lo hi : ℕ) (place : Place) (phase : Phase) (level number : ℕ) → Follows r tier (Some place) phase level
     → IsNumberBefore r tier lo hi place.phase (place.level + 1) number → IsNumberBefore r tier lo hi phase level number
-after_level r g tier lo hi place phase level number (inl (same, n)) h =
-    subst (λ (k : ℕ). IsNumberBefore r tier lo hi phase k number) (sym n) (subst (λ (q : Phase). IsNumberBefore r tier lo hi q (place.level + 1) number) same h)
+after_level r g tier lo hi place phase level number (inl (same, n)) h = rw (n, sym same) h
 after_level r g tier lo hi place phase level number (inr (ties, n, wins, last)) h =
-    subst (λ (q : Phase). IsNumberBefore r tier lo hi q level number) (sym ties) (subst (λ (k : ℕ). IsNumberBefore r tier lo hi Ties k number) (sym n)
-    (ties_begin r g tier lo hi (place.level + 1) number last (subst (λ (q : Phase). IsNumberBefore r tier lo hi q (place.level + 1) number) wins h)))
+    rw (ties, n) (ties_begin r g tier lo hi (place.level + 1) number last (rw wins at h))
 
--- the count is the number before the level and that of the level's pairs
-pub counted_exactly : (r : Rules) → IsGame r → (spot : Spot) (notes : List NoteData) → IsLevel r (place_of_spot spot) notes → (base : ℕ)
-    → IsNumberBefore r spot.tier spot.lo spot.hi spot.phase spot.level base
-    → (e : ExpectedData) → IsExpected r e → IsForSpot e spot → e.number ≡ base + length (pairs_into r spot notes)
-counted_exactly r g spot notes level base before e exact f =
-    let added = level_added r g spot.lo spot.hi (place_of_spot spot) notes level base before in
-    let follows : Follows r spot.tier (Some (place_of_spot spot)) e.phase e.level =
-    subst (λ (u : ℕ). Follows r u (Some (place_of_spot spot)) e.phase e.level) f.tier
-    (subst (λ (o : Option Place). Follows r e.tier o e.phase e.level) f.last exact.next) in
-    let number = base + length (pairs_into r spot notes) in
-    let there = after_level r g spot.tier spot.lo spot.hi (place_of_spot spot) e.phase e.level number follows added in
-    let here : IsNumberBefore r spot.tier spot.lo spot.hi e.phase e.level e.number =
-    subst (λ (u : ℕ). IsNumberBefore r u spot.lo spot.hi e.phase e.level e.number) f.tier
-    (subst (λ (u : ℕ). IsNumberBefore r e.tier u spot.hi e.phase e.level e.number) f.lo
-    (subst (λ (u : ℕ). IsNumberBefore r e.tier e.lo u e.phase e.level e.number) f.hi exact.number)) in
-    there_once _ e.number number here there
+module _ (r : Rules) (g : IsGame r) (spot : Spot) (notes : List NoteData) (level : IsLevel r (place_of_spot spot) notes) (base : ℕ)
+    (before : IsNumberBefore r spot.tier spot.lo spot.hi spot.phase spot.level base) (e : ExpectedData) (exact : IsExpected r e) (f : IsForSpot e spot) where
+  -- the count is the number before the level and that of the level's pairs
+  counted_exactly : e.number ≡ base + length (pairs_into r spot notes)
+  counted_exactly =
+      let added = level_added r g spot.lo spot.hi (place_of_spot spot) notes level base before in
+      let follows : Follows r spot.tier (Some (place_of_spot spot)) e.phase e.level = rw (f.tier, f.last) at exact.next in
+      let number = base + length (pairs_into r spot notes) in
+      let there = after_level r g spot.tier spot.lo spot.hi (place_of_spot spot) e.phase e.level number follows added in
+      there_once _ e.number number (rw (f.tier, f.lo, f.hi) at exact.number) there
 
-pub full_exactly : (r : Rules) → IsGame r → (spot : Spot) (notes : List NoteData) → IsLevel r (place_of_spot spot) notes → (base : ℕ)
-    → IsNumberBefore r spot.tier spot.lo spot.hi spot.phase spot.level base
-    → (e : ExpectedData) → IsExpected r e → IsForSpot e spot → (n : ℕ) → (base + n ≡ e.number) ↔ (n ≡ length (pairs_into r spot notes))
-full_exactly r g spot notes level base before e exact f n =
-    let c = counted_exactly r g spot notes level base before e exact f in
-    ((λ h. omega arith), (λ h. omega arith))
+  pub full_exactly : (n : ℕ) → (base + n ≡ e.number) ↔ (n ≡ length (pairs_into r spot notes))
+  full_exactly n = let c = counted_exactly in ((λ h. omega arith), (λ h. omega arith))
 
 -- the test that a pass makes
 pub full_says : {before amount number base now e : ℕ} → before ≡ base → amount ≡ now → number ≡ e → IsTrue (before + amount == number) ↔ (base + now ≡ e)

@@ -1,28 +1,23 @@
 -- What a delivery answers by where the shard stands, and by how much it raises the number of pairs.
-use Rattle.std.proofs.Common.{◌≡◌, ℕ, ◌+◌, ◌≤◌, ◌⊎◌, inl, inr, List, sym, refl, ap, subst, ◌∙◌, arith, Result, Ok, Err}
+use Rattle.std.proofs.Common.{◌≡◌, ℕ, ◌+◌, ◌≤◌, ◌⊎◌, ◌↔◌, inl, inr, List, sym, refl, ap, subst, ◌∙◌, arith, Result, Ok, Err}
 use Rattle.gm_locks.proofs.Lower.{Contains, REMOTENESS, Position, Rules, has_new, has_old, with_cases, NoteData, Delivery, Fresh, FreshSettled, Repeat, Refused}
 use Rattle.gm_locks.proofs.Lower.{NotThisLevel, NotMine, NotAParent, TooFar, ShardState, IsInRange, delivered_to, with_pair, pairs_in, IsPairHere, Delivers}
-use Rattle.gm_locks.proofs.Lower.{IsAdded, Part, Spot, spot_of, gain, IsAnswer, count_same, same_here, cases_at, pairs_more, outcome}
+use Rattle.gm_locks.proofs.Lower.{IsAdded, Spot, spot_of, gain, IsAnswer, count_same, cases_at, pairs_more, outcome}
 
--- with a pair more, what was delivered stays so
-pub stays_delivered : (s : ShardState) (c : Position) (parent : ℕ) → IsInRange s parent → (index : ℕ) (d : Position) → IsInRange s index
-    → Contains (delivered_to s index) d → Contains (delivered_to (with_pair s c parent) index) d
-stays_delivered s c parent m index d n h = cases_at s c parent m (λ (ds : List Position). Contains ds d) index n
-    (λ e. has_old c d (delivered_to s parent) (subst (λ (i : ℕ). Contains (delivered_to s i) d) e h)) (λ _. h)
-
-pub new_delivered : (s : ShardState) (c : Position) (parent : ℕ) → IsInRange s parent → Contains (delivered_to (with_pair s c parent) parent) c
-new_delivered s c parent m = subst (λ (ds : List Position). Contains ds c) (sym (same_here s c parent m)) (has_new c (delivered_to s parent))
-
--- and nothing else is delivered
-pub with_has : (s : ShardState) (c : Position) (parent : ℕ) → IsInRange s parent → (index : ℕ) (d : Position) → IsInRange s index
-    → Contains (delivered_to (with_pair s c parent) index) d
-    → Contains (delivered_to s index) d ⊎ ((index ≡ parent) × (c ≡ d))
-with_has s c parent m index d n =
-    cases_at s c parent m (λ (ds : List Position). Contains ds d → Contains (delivered_to s index) d ⊎ ((index ≡ parent) × (c ≡ d))) index n
-    (λ e h. elim (with_cases c d (delivered_to s parent) h) [
-      | inl q ↦ inr (e, q)
-      | inr k ↦ inl (subst (λ (i : ℕ). Contains (delivered_to s i) d) (sym e) k)
-    ]) (λ _ h. inl h)
+-- what is delivered with a pair more: what was, and the pair
+pub delivered_more : (s : ShardState) (x : NoteData × ℕ) → IsInRange s x.1 → (y : NoteData × ℕ) → IsInRange s y.1
+    → Contains (delivered_to (with_pair s x.0.position x.1) y.1) y.0.position
+    ↔ (Contains (delivered_to s y.1) y.0.position ⊎ ((y.1 ≡ x.1) × (x.0.position ≡ y.0.position)))
+delivered_more s x m y n =
+    let c = x.0.position in
+    let parent = x.1 in
+    let d = y.0.position in
+    cases_at s c parent m (λ (ds : List Position). Contains ds d ↔ (Contains (delivered_to s y.1) d ⊎ ((y.1 ≡ parent) × (c ≡ d)))) y.1 n
+    (λ e. (
+      (λ h. elim (with_cases c d (delivered_to s parent) h) [ inl q ↦ inr (e, q) | inr k ↦ inl (rw e k) ]),
+      (λ h. elim h [ inl old ↦ has_old c d (delivered_to s parent) (rw e at old) | inr (_, q) ↦ rw (sym q) (has_new c (delivered_to s parent)) ]),
+    ))
+    (λ other. ((λ h. inl h), (λ h. elim h [ inl old ↦ old | inr (same, _) ↦ absurd (other same) ])))
 
 -- a delivery keeps the shard's tier, range and place
 pub stays : (r : Rules) (note : NoteData) (parent : ℕ) (s t : ShardState) (answer : Result Delivery Refused) → Delivers r note parent s t answer
@@ -47,6 +42,21 @@ gained r note parent s t answer d = elim (outcome r note parent s t answer d) [
   | inl (a, is, here, new) ↦ ap pairs_in is ∙ pairs_more s note.position parent here.is_mine new ∙ ap (λ (n : ℕ). pairs_in s + n) (sym ((gain_is answer).0 a))
   | inr (n, is) ↦ (let same = ap pairs_in is in let none = (gain_is answer).1 n in omega arith)
 ]
+
+-- a pair that was added
+pub added_is : (r : Rules) (x : NoteData × ℕ) (s t : ShardState) (answer : Result Delivery Refused) → Delivers r x.0 x.1 s t answer → IsAdded answer
+    → (t ≡ with_pair s x.0.position x.1) × IsPairHere r s x.0 x.1
+added_is r x s t (Err e) d a = absurd a
+added_is r x s t (Ok Fresh) d a = (d.0, d.1)
+added_is r x s t (Ok FreshSettled) d a = (d.0, d.1)
+added_is r x s t (Ok Repeat) d a = absurd a
+
+-- what is not refused, and was not there, is added
+pub ok_added : (r : Rules) (x : NoteData × ℕ) (s t : ShardState) (answer : Delivery) → (Contains (delivered_to s x.1) x.0.position → ⊥)
+    → Delivers r x.0 x.1 s t (Ok answer) → IsAdded (Ok answer)
+ok_added r x s t Fresh new d = tt
+ok_added r x s t FreshSettled new d = tt
+ok_added r x s t Repeat new d = absurd (new d.2)
 
 -- a pair that passes the first three tests is refused by none of them
 passed : (r : Rules) (s : ShardState) (note : NoteData) (parent : ℕ) (answer : Result Delivery Refused) → IsPairHere r s note parent
@@ -88,9 +98,3 @@ answered_here r note parent s t (Ok FreshSettled) h = passed r s note parent (Ok
 pub answered : (r : Rules) (note : NoteData) (parent : ℕ) (s t : ShardState) (answer : Result Delivery Refused) (spot : Spot) → spot_of s ≡ spot
     → Delivers r note parent s t answer → IsAnswer r spot note parent answer
 answered r note parent s t answer spot e h = subst (λ (x : Spot). IsAnswer r x note parent answer) e (answered_here r note parent s t answer h)
-
--- a share that was raised
-pub raised_share : (old mid new : Part) (by : ℕ) → mid ≡ old → new ≡ record { parts = mid.parts; amount = mid.amount + by }
-    → (new.parts ≡ old.parts) × (new.amount ≡ old.amount + by)
-raised_share old mid new by a b =
-    (ap (λ (p : Part). p.parts) b ∙ ap (λ (p : Part). p.parts) a, ap (λ (p : Part). p.amount) b ∙ ap (λ (p : Part). p.amount + by) a)

@@ -3,5 +3,4 @@ pub mod Gains
 pub mod RoundLemmas
 pub mod PieceLemmas
 pub mod FullLemmas
-pub mod Raises
 pub mod Lower

@@ -1,33 +1,18 @@
 -- A shard to which the pieces of a level are delivered, each pair once.
 use Rattle.std.proofs.Common.{◌≡◌, ℕ, zero, suc, ◌+◌, ◌-◌, ◌<◌, ◌≤◌, ◌==◌, max, inl, inr, Bool, true, false, List, [], ◌∷◌, ◌++◌, length, take, drop, replicate}
-use Rattle.std.proofs.Common.{get_or, set, slice_get, refl, sym, ap, subst, ◌∙◌, arith, Some, Result, Ok, Err, get_or-set_same, get_or-set_other, length-set}
-use Rattle.gm_locks.proofs.Lower.{Contains, div_ceil, IsOk, is_err, cases_eq, Decides-eqb, length-take-le, length-drop, length-replicate, take_more}
-use Rattle.gm_locks.proofs.Lower.{get_or-drop, slice_get-get_or, slice_get_within, get_or_from_slice_get, Position, Rules, IsParent, IsGame, map_in, NoteData}
-use Rattle.gm_locks.proofs.Lower.{IsLevel, piece_of, same_image, no_repeats_before, in_pairs, in_piece, pairs_have, positions_once, near_of_pair}
-use Rattle.gm_locks.proofs.Lower.{contains_taken, one_piece, in_some_piece, Delivery, Fresh, FreshSettled, Repeat, Refused, NotThisLevel, NotMine, NotAParent}
-use Rattle.gm_locks.proofs.Lower.{TooFar, ShardState, IsInRange, delivered_to, with_pair, pairs_in, IsGood, IsPairHere, Delivers, IsAdded, IsWhole, place_of}
-use Rattle.gm_locks.proofs.Lower.{Spot, spot_of, IsDeliverable, pairs_into, place_of_spot, AreFirst, HasNoneHere, PiecedData, piece_pairs, IsPieced, AreNew}
-use Rattle.gm_locks.proofs.Lower.{IsTurn, IsTurnAt, IsRefusedAt, stands_now}
-use Rattle.gm_locks.proofs.Gains.{gained, gain_is, stays, stays_delivered, with_has}
-use Rattle.gm_locks.proofs.RoundLemmas.{AreHere, item_in, next_here, first_none, first_more, of_piece}
+use Rattle.std.proofs.Common.{get_or, set, slice_get, refl, sym, ap, subst, ◌∙◌, arith, Some, Result, get_or-set_same, get_or-set_other, length-set, ◌⊎◌}
+use Rattle.gm_locks.proofs.Lower.{Contains, div_ceil, IsOk, cases_eq, Decides-eqb, length-take-le, length-drop, length-replicate, take_more, get_or-drop}
+use Rattle.gm_locks.proofs.Lower.{slice_get-get_or, slice_get_within, get_or_from_slice_get, Position, Rules, IsParent, IsGame, map_in, NoteData, IsLevel}
+use Rattle.gm_locks.proofs.Lower.{piece_of, same_image, no_repeats_before, in_pairs, in_piece, pairs_have, positions_once, near_of_pair, contains_taken}
+use Rattle.gm_locks.proofs.Lower.{one_piece, in_some_piece, Delivery, Refused, ShardState, IsInRange, delivered_to, with_pair, pairs_in, IsGood, Delivers}
+use Rattle.gm_locks.proofs.Lower.{IsAdded, IsWhole, place_of, Spot, spot_of, pairs_into, place_of_spot, AreFirst, HasNoneHere, PiecedData, piece_pairs}
+use Rattle.gm_locks.proofs.Lower.{IsPieced, AreNew, IsTurnAt, stands_now, get_or-set_at}
+use Rattle.gm_locks.proofs.Gains.{gained, gain_is, stays, delivered_more}
+use Rattle.gm_locks.proofs.RoundLemmas.{AreHere, item_in, next_here, first_none, of_piece}
+pub use Rattle.gm_locks.proofs.Gains.{added_is, ok_added}
 
 dropped_in : {X : Type 0} (n : ℕ) (xs : List X) (x : X) → Contains (drop n xs) x → Contains xs x
 dropped_in n xs x (k, l, e) = let long = length-drop n xs in (n + k, omega arith, sym (get_or-drop n xs k x) ∙ e)
-
--- a pair that was added
-pub added_is : (r : Rules) (x : NoteData × ℕ) (s t : ShardState) (answer : Result Delivery Refused) → Delivers r x.0 x.1 s t answer → IsAdded answer
-    → (t ≡ with_pair s x.0.position x.1) × IsPairHere r s x.0 x.1
-added_is r x s t (Err e) d a = absurd a
-added_is r x s t (Ok Fresh) d a = (d.0, d.1)
-added_is r x s t (Ok FreshSettled) d a = (d.0, d.1)
-added_is r x s t (Ok Repeat) d a = absurd a
-
--- what is not refused, and was not there, is added
-pub ok_added : (r : Rules) (x : NoteData × ℕ) (s t : ShardState) (answer : Delivery) → (Contains (delivered_to s x.1) x.0.position → ⊥)
-    → Delivers r x.0 x.1 s t (Ok answer) → IsAdded (Ok answer)
-ok_added r x s t Fresh new d = tt
-ok_added r x s t FreshSettled new d = tt
-ok_added r x s t Repeat new d = absurd (new d.2)
 
 -- new pairs, and one more
 pub run_push : (r : Rules) (xs : List (NoteData × ℕ)) (x : NoteData × ℕ) (s t u : ShardState) (answer : Result Delivery Refused) → AreNew r xs s t
@@ -71,13 +56,13 @@ module _ (r : Rules) (g : IsGame r) (spot : Spot) (notes : List NoteData) (here 
       → AreFirst (pairs_into r spot notes) s n → AreFirst (pairs_into r spot notes) (with_pair s x.0.position x.1) n
   first_other s n x at mine other h = record {
     within = h.within;
-    each = λ k y q. (
-      (λ d. elim (with_has s x.0.position x.1 mine y.1 y.0.position (next_here r g spot notes here s at k y q).here.is_mine d) [
+    each = λ k y q. (let exact = delivered_more s x mine y (next_here r g spot notes here s at k y q).here.is_mine in (
+      (λ d. elim (exact.0 d) [
         | inl old ↦ (h.each k y q).0 old
         | inr (index, child) ↦ absurd (other y (item_in (pairs_into r spot notes) k y q) child)
       ]),
-      (λ l. stays_delivered s x.0.position x.1 mine y.1 y.0.position (next_here r g spot notes here s at k y q).here.is_mine ((h.each k y q).1 l)),
-    );
+      (λ l. exact.1 (inl ((h.each k y q).1 l))),
+    ));
   }
 
   run_other : (xs : List (NoteData × ℕ)) (s t : ShardState) (n : ℕ) → spot_of s ≡ spot
@@ -92,154 +77,99 @@ module _ (r : Rules) (g : IsGame r) (spot : Spot) (notes : List NoteData) (here 
       run_other xs run.0 t n (stays r x.0 x.1 s run.0 run.1 run.2 ∙ at) (λ z c. other z (later z c)) run.4
       (subst (λ (u : ShardState). AreFirst (pairs_into r spot notes) u n) (sym is) more)
 
--- the next pair of a piece is for the shard and new, and is delivered, or too far
-module _ (r : Rules) (g : IsGame r) (spot : Spot) (notes : List NoteData) (level : IsLevel r (place_of_spot spot) notes) (size piece : ℕ)
-    (pairs : List (NoteData × ℕ)) (are : pairs ≡ piece_pairs r spot notes size piece) (s : ShardState) (k : ℕ) (x : NoteData × ℕ) (at : spot_of s ≡ spot)
-    (e : slice_get pairs k ≡ Some x) (first : AreFirst pairs s k) where
-  there : slice_get (piece_pairs r spot notes size piece) k ≡ Some x
-  there = subst (λ (ps : List (NoteData × ℕ)). slice_get ps k ≡ Some x) are e
-
-  pub piece_next : IsDeliverable r s x × (Contains (delivered_to s x.1) x.0.position → ⊥)
-  piece_next = (
-    next_here r g spot (piece_of piece size notes) (of_piece r g spot notes level piece size) s at k x there,
-    (λ h. (let l = (first.each k x e).0 h in omega arith)),
-  )
-
-  piece_more : (t : ShardState) (answer : Delivery) → Delivers r x.0 x.1 s t (Ok answer) → AreFirst pairs t (k + 1)
-  piece_more t answer d =
-      let is = added_is r x s t (Ok answer) d (ok_added r x s t answer piece_next.1 d) in
-      subst (λ (ps : List (NoteData × ℕ)). AreFirst ps t (k + 1)) (sym are)
-      (subst (λ (u : ShardState). AreFirst (piece_pairs r spot notes size piece) u (k + 1)) (sym is.0)
-      (first_more r g spot (piece_of piece size notes) (of_piece r g spot notes level piece size) s k x at there is.1.is_mine
-      (subst (λ (ps : List (NoteData × ℕ)). AreFirst ps s k) are first)))
-
-  piece_refused : (t : ShardState) (refused : Refused) → IsGood r t → Delivers r x.0 x.1 s t (Err refused) → IsRefusedAt r spot
-  piece_refused t NotThisLevel good d = absurd (d.1 piece_next.0.here.is_level)
-  piece_refused t NotMine good d = absurd (d.2 piece_next.0.here.is_mine)
-  piece_refused t NotAParent good d = absurd (d.3 piece_next.0.here.is_parent)
-  piece_refused t TooFar good d =
-      record { state = s; good = subst (IsGood r) d.0 good; spot = at; pair = x; here = piece_next.0; event = (refl, d.1, d.2, d.3, d.4) }
-
-  -- by what the delivery answers
-  pub piece_taken : (t : ShardState) (answer : Result Delivery Refused) → is_err answer ≡ false → Delivers r x.0 x.1 s t answer
-      → AreFirst pairs t (k + 1) × IsAdded answer
-  piece_taken t (Ok a) off d = (piece_more t a d, ok_added r x s t a piece_next.1 d)
-  piece_taken t (Err refused) off d = absurd (cc)
-
-  pub piece_left : (t : ShardState) (answer : Result Delivery Refused) → is_err answer ≡ true → IsGood r t → Delivers r x.0 x.1 s t answer
-      → IsRefusedAt r spot
-  piece_left t (Ok a) on good d = absurd (cc)
-  piece_left t (Err refused) on good d = piece_refused t refused good d
+-- an item of a list of which one item was changed
+set_at : {X : Type 0} (P : X → Type 0) (xs : List X) (k : ℕ) (y d : X) (i : ℕ) → k < length xs → (i ≡ k → P y) → ((i ≡ k → ⊥) → P (get_or xs i d))
+    → P (get_or (set xs k y) i d)
+set_at P xs k y d i within same other = elim (cases_eq i k) [
+  | inl e ↦ subst P (sym (get_or-set_at xs k i y d e within)) (same e)
+  | inr ne ↦ subst P (sym (get_or-set_other xs k i y d ne)) (other ne)
+]
 
 -- two pieces of a level have no common child
-module _ (r : Rules) (g : IsGame r) (spot : Spot) (notes : List NoteData) (level : IsLevel r (place_of_spot spot) notes) (size : ℕ) where
-  pieces_apart : (p q : ℕ) → (p ≡ q → ⊥) → (x y : NoteData × ℕ) → Contains (piece_pairs r spot notes size p) x → Contains (piece_pairs r spot notes size q) y
-      → x.0.position ≡ y.0.position → ⊥
-  pieces_apart p q other x y a b child =
-      let once = positions_once r g (place_of_spot spot) notes level in
-      let in_p = (in_pairs r spot.tier spot.lo spot.hi (piece_of p size notes) x a).0 in
-      let in_q = (in_pairs r spot.tier spot.lo spot.hi (piece_of q size notes) y b).0 in
-      let same = same_image (λ (m : NoteData). m.position) notes once x.0 y.0 (in_piece p size notes x.0 in_p) (in_piece q size notes y.0 in_q) child in
-      other (one_piece size notes x.0 p q (no_repeats_before (λ (m : NoteData). m.position) notes once) in_p
-      (subst (λ (m : NoteData). Contains (piece_of q size notes) m) (sym same) in_q))
+pieces_apart : (r : Rules) (g : IsGame r) (spot : Spot) (notes : List NoteData) → IsLevel r (place_of_spot spot) notes → (size p q : ℕ) → (p ≡ q → ⊥)
+    → (x y : NoteData × ℕ) → Contains (piece_pairs r spot notes size p) x → Contains (piece_pairs r spot notes size q) y → x.0.position ≡ y.0.position → ⊥
+pieces_apart r g spot notes level size p q other x y a b child =
+    let once = positions_once r g (place_of_spot spot) notes level in
+    let in_p = (in_pairs r spot.tier spot.lo spot.hi (piece_of p size notes) x a).0 in
+    let in_q = (in_pairs r spot.tier spot.lo spot.hi (piece_of q size notes) y b).0 in
+    let same = same_image (λ (m : NoteData). m.position) notes once x.0 y.0 (in_piece p size notes x.0 in_p) (in_piece q size notes y.0 in_q) child in
+    other (one_piece size notes x.0 p q (no_repeats_before (λ (m : NoteData). m.position) notes once) in_p
+    (subst (λ (m : NoteData). Contains (piece_of q size notes) m) (sym same) in_q))
 
-  -- a call delivers pairs of one piece, and the others stay as they were
-  pub turned : (base : ℕ) (d e : PiecedData) (piece to n : ℕ) → IsPieced r spot notes size base d → piece < length d.counts
-      → IsTurn r (piece_pairs r spot notes size piece) piece to n d e
-      → AreFirst (piece_pairs r spot notes size piece) e.shard (get_or d.counts piece 0 + n) → IsPieced r spot notes size base e
-  turned base d e piece to n h within turn here =
+-- a call delivers the pairs of one piece from one number to another, and the other pieces stay as they were
+module _ {r : Rules} (g : IsGame r) {spot : Spot} {notes : List NoteData} {size base : ℕ} {d : PiecedData} (e : PiecedData)
+    (h : IsPieced r spot notes size base d) (piece from next : ℕ) (few : piece < div_ceil (length notes) size) (begin : from ≡ get_or d.counts piece 0)
+    (order : from ≤ next) (run : AreNew r (take (next - from) (drop from (piece_pairs r spot notes size piece))) d.shard e.shard)
+    (first : AreFirst (piece_pairs r spot notes size piece) e.shard next) (counts : e.counts ≡ set d.counts piece next)
+    (whole : e.whole ≡ set d.whole piece (next == length (piece_pairs r spot notes size piece))) (book : e.book ≡ d.book + (next - from)) where
+  turned : IsPieced r spot notes size base e
+  turned =
       let pairs = piece_pairs r spot notes size piece in
-      let count = get_or d.counts piece 0 in
-      let run = turn.run in
-      let in_bits : piece < length d.whole = (let a = h.many in let b = h.bits in omega arith) in
-      let from : (x : NoteData × ℕ) → Contains (take n (drop count pairs)) x → Contains pairs x =
-      (λ x c. dropped_in count pairs x (contains_taken n (drop count pairs) x c)) in
+      let taken = take (next - from) (drop from pairs) in
+      let within : piece < length d.counts = (let a = h.many in omega arith) in
+      let in_bits : piece < length d.whole = (let a = h.bits in omega arith) in
+      let among = λ (x : NoteData × ℕ) (c : Contains taken x). dropped_in from pairs x (contains_taken (next - from) (drop from pairs) x c) in
       record {
-        spot = run_spot r (take n (drop count pairs)) d.shard e.shard run ∙ h.spot;
+        spot = run_spot r taken d.shard e.shard run ∙ h.spot;
         level = h.level;
         some = h.some;
-        many = ap length turn.counts ∙ length-set d.counts piece (count + n) ∙ h.many;
-        bits = ap length turn.whole ∙ length-set d.whole piece (count + n == length pairs) ∙ h.bits;
-        first = λ q. subst (λ (ns : List ℕ). AreFirst (piece_pairs r spot notes size q) e.shard (get_or ns q 0)) (sym turn.counts) (elim (cases_eq q piece) [
-          | inl is ↦ subst (λ (k : ℕ). AreFirst (piece_pairs r spot notes size k) e.shard (get_or (set d.counts piece (count + n)) k 0)) (sym is)
-              (subst (AreFirst pairs e.shard) (sym (get_or-set_same d.counts piece (count + n) 0 within)) here)
-          | inr other ↦ subst (AreFirst (piece_pairs r spot notes size q) e.shard) (sym (get_or-set_other d.counts piece q (count + n) 0 other))
-              (run_other r g spot (piece_of q size notes) (of_piece r g spot notes level q size) (take n (drop count pairs)) d.shard e.shard
-              (get_or d.counts q 0) h.spot
-              (λ x c y b child. pieces_apart piece q (λ s. other (sym s)) x y (from x c) b child) run (h.first q))
-        ]);
-        all = λ q yes. (let bit = subst (λ (bs : List Bool). get_or bs q false ≡ true) turn.whole yes in
-            subst (λ (ns : List ℕ). get_or ns q 0 ≡ length (piece_pairs r spot notes size q)) (sym turn.counts) (elim (cases_eq q piece) [
-              | inl is ↦ (let set_bit = subst (λ (k : ℕ). get_or (set d.whole piece (count + n == length pairs)) k false ≡ true) is bit in
-                  subst (λ (k : ℕ). get_or (set d.counts piece (count + n)) k 0 ≡ length (piece_pairs r spot notes size k)) (sym is)
-                  (get_or-set_same d.counts piece (count + n) 0 within ∙ (Decides-eqb (count + n) (length pairs)).0
-                  (sym (get_or-set_same d.whole piece (count + n == length pairs) false in_bits) ∙ set_bit)))
-              | inr other ↦ get_or-set_other d.counts piece q (count + n) 0 other
-                  ∙ h.all q (sym (get_or-set_other d.whole piece q (count + n == length pairs) false other) ∙ bit)
-            ]));
-        number = (let more = run_count r (take n (drop count pairs)) d.shard e.shard run in
-            let left = length-drop count pairs in
-            let most = here.within in
-            let long : length (take n (drop count pairs)) ≡ n = length-take-le n (drop count pairs) (omega arith) in
-            let book = turn.book in let number = h.number in omega arith);
+        many = ap length counts ∙ length-set d.counts piece next ∙ h.many;
+        bits = ap length whole ∙ length-set d.whole piece (next == length pairs) ∙ h.bits;
+        first = λ q. rw counts (set_at (AreFirst (piece_pairs r spot notes size q) e.shard) d.counts piece next 0 q within
+            (λ is. subst (λ (k : ℕ). AreFirst (piece_pairs r spot notes size k) e.shard next) (sym is) first)
+            (λ other. run_other r g spot (piece_of q size notes) (of_piece r g spot notes h.level q size) taken d.shard e.shard (get_or d.counts q 0) h.spot
+            (λ x c y b child. pieces_apart r g spot notes h.level size piece q (λ s. other (sym s)) x y (among x c) b child) run (h.first q)));
+        all = λ q. rw (whole, counts) (set_at (λ (b : Bool). b ≡ true → get_or (set d.counts piece next) q 0 ≡ length (piece_pairs r spot notes size q))
+            d.whole piece (next == length pairs) false q in_bits
+            (λ is yes. get_or-set_at d.counts piece q next 0 is within ∙ (Decides-eqb next (length pairs)).0 yes
+            ∙ ap (λ (k : ℕ). length (piece_pairs r spot notes size k)) (sym is))
+            (λ other yes. get_or-set_other d.counts piece q next 0 other ∙ h.all q yes));
+        number = (let more = run_count r taken d.shard e.shard run in
+            let left = length-drop from pairs in
+            let most = first.within in
+            let long : length taken ≡ next - from = length-take-le (next - from) (drop from pairs) (omega arith) in
+            let number = h.number in omega arith);
       }
 
-  -- what a call leaves, by where it began and ended
-  pub turned_at : (base : ℕ) (d e : PiecedData) (pairs : List (NoteData × ℕ)) (piece from to end next : ℕ) (answer : Result (Unit {0}) Refused)
-      → IsPieced r spot notes size base d → IsGood r d.shard → IsGood r e.shard → piece < div_ceil (length notes) size
-      → pairs ≡ piece_pairs r spot notes size piece → from ≡ get_or d.counts piece 0 → end ≡ max to from → from ≤ next → next ≤ end
-      → AreNew r (take (next - from) (drop from pairs)) d.shard e.shard → AreFirst pairs e.shard next
-      → e.counts ≡ set d.counts piece next → e.whole ≡ set d.whole piece (next == length pairs) → e.book ≡ d.book + (next - from) → (IsOk answer → end ≤ next)
-      → IsTurnAt r spot notes size base piece to (next - from) answer d e
-  turned_at base d e pairs piece from to end next answer h old_good new_good few are begin stop low high run first counts whole book done =
-      let P = piece_pairs r spot notes size piece in
-      let n = next - from in
+  -- what the call leaves, by where it was to end
+  pub turned_at : (to end : ℕ) (answer : Result (Unit {0}) Refused) → IsGood r d.shard → IsGood r e.shard → end ≡ max to from → next ≤ end
+      → (IsOk answer → end ≤ next) → IsTurnAt r spot notes size base piece to (next - from) answer d e
+  turned_at to end answer old_good new_good stop high done =
+      let pairs = piece_pairs r spot notes size piece in
       let within : piece < length d.counts = (let a = h.many in omega arith) in
-      let up : next ≡ get_or d.counts piece 0 + n = omega arith in
-      let turn : IsTurn r P piece to n d e = record {
-        run = subst (λ (k : ℕ). AreNew r (take n (drop k P)) d.shard e.shard) begin
-            (subst (λ (ps : List (NoteData × ℕ)). AreNew r (take n (drop from ps)) d.shard e.shard) are run);
-        counts = counts ∙ ap (set d.counts piece) up;
-        whole = whole ∙ ap (set d.whole piece) (ap (λ (k : ℕ). k == length pairs) up
-            ∙ ap (λ (ps : List (NoteData × ℕ)). get_or d.counts piece 0 + n == length ps) are);
-        book = book;
-        most = omega arith;
-      } in
-      let here = subst (λ (k : ℕ). AreFirst P e.shard k) up (subst (λ (ps : List (NoteData × ℕ)). AreFirst ps e.shard next) are first) in
+      let up : next ≡ get_or d.counts piece 0 + (next - from) = omega arith in
       record {
         old_good = old_good;
         new_good = new_good;
         old_kept = h;
-        new_kept = turned base d e piece to n h within turn here;
-        turn = turn;
+        new_kept = turned;
+        turn = record {
+          run = subst (λ (k : ℕ). AreNew r (take (next - from) (drop k pairs)) d.shard e.shard) begin run;
+          counts = counts ∙ ap (set d.counts piece) up;
+          whole = whole ∙ ap (λ (k : ℕ). set d.whole piece (k == length pairs)) up;
+          book = book;
+          most = omega arith;
+        };
         done = λ ok. (let last = done ok in let at = ap (λ (ns : List ℕ). get_or ns piece 0) counts
             ∙ get_or-set_same d.counts piece next 0 within in omega arith);
       }
 
 -- a call that delivers a piece to its end sets its bit, and clears no other one
-module _ (r : Rules) (spot : Spot) (notes : List NoteData) (size base piece to n : ℕ) (answer : Result (Unit {0}) Refused) (d e : PiecedData)
-    (turn : IsTurnAt r spot notes size base piece to n answer d e) (ok : IsOk answer)
-    (all : to ≡ length (piece_pairs r spot notes size piece)) (few : piece < div_ceil (length notes) size) where
-  pub turned_whole : get_or e.whole piece false ≡ true
-  turned_whole =
-      let pairs = piece_pairs r spot notes size piece in
-      let many = turn.old_kept.many in
-      let bits = turn.old_kept.bits in
-      let count = get_or d.counts piece 0 + n in
-      let now : get_or e.counts piece 0 ≡ count =
-      ap (λ (ns : List ℕ). get_or ns piece 0) turn.turn.counts ∙ get_or-set_same d.counts piece count 0 (omega arith) in
-      let least = turn.done ok in
-      let most = (turn.new_kept.first piece).within in
-      let full : count ≡ length pairs = omega arith in
-      ap (λ (bs : List Bool). get_or bs piece false) turn.turn.whole ∙ get_or-set_same d.whole piece (count == length pairs) false (omega arith)
-      ∙ (Decides-eqb count (length pairs)).1 full
-
-  pub turned_kept : (p : ℕ) → get_or d.whole p false ≡ true → get_or e.whole p false ≡ true
-  turned_kept p was = elim (cases_eq p piece) [
-    | inl same ↦ ap (λ (q : ℕ). get_or e.whole q false) same ∙ turned_whole
-    | inr other ↦ ap (λ (bs : List Bool). get_or bs p false) turn.turn.whole
-        ∙ get_or-set_other d.whole piece p (get_or d.counts piece 0 + n == length (piece_pairs r spot notes size piece)) false other ∙ was
-  ]
+pub turned_bits : {r : Rules} {spot : Spot} {notes : List NoteData} {size base piece to n : ℕ} {answer : Result (Unit {0}) Refused} {d e : PiecedData}
+    → IsTurnAt r spot notes size base piece to n answer d e → to ≡ length (piece_pairs r spot notes size piece) → piece < div_ceil (length notes) size
+    → IsOk answer → (p : ℕ) → (p ≡ piece) ⊎ (get_or d.whole p false ≡ true) → get_or e.whole p false ≡ true
+turned_bits {r} {spot} {notes} {size} {base} {piece} {to} {n} {answer} {d} {e} turn all few ok p which =
+    let pairs = piece_pairs r spot notes size piece in
+    let many = turn.old_kept.many in
+    let bits = turn.old_kept.bits in
+    let count = get_or d.counts piece 0 + n in
+    let now : get_or e.counts piece 0 ≡ count = ap (λ (ns : List ℕ). get_or ns piece 0) turn.turn.counts
+    ∙ get_or-set_same d.counts piece count 0 (omega arith) in
+    let least = turn.done ok in
+    let most = (turn.new_kept.first piece).within in
+    let full = (Decides-eqb count (length pairs)).1 (omega arith) in
+    rw turn.turn.whole (set_at (λ (b : Bool). b ≡ true) d.whole piece (count == length pairs) false p (omega arith) (λ same. full)
+    (λ other. elim which [ inl same ↦ absurd (other same) | inr was ↦ was ]))
 
 -- a shard that has none of the level's pairs
 pub begun_pieced : (r : Rules) (g : IsGame r) (spot : Spot) (notes : List NoteData) (size base n : ℕ) (d : PiecedData) → IsLevel r (place_of_spot spot) notes
@@ -278,10 +208,9 @@ whole_all r g t notes level good all i c mine parent before = elim (stands_now r
 ]
 
 -- if all pieces are delivered, the level is whole
-pub pieces_whole : (r : Rules) → IsGame r → (spot : Spot) (notes : List NoteData) (size base : ℕ) (d : PiecedData)
-    → IsPieced r spot notes size base d → IsGood r d.shard
-    → ((p : ℕ) → p < div_ceil (length notes) size → get_or d.whole p false ≡ true) → IsWhole r d.shard
-pieces_whole r g spot notes size base d h good bits =
+pub pieces_whole : {r : Rules} → IsGame r → {spot : Spot} {notes : List NoteData} {size base : ℕ} {d : PiecedData} → IsPieced r spot notes size base d
+    → IsGood r d.shard → ((p : ℕ) → p < div_ceil (length notes) size → get_or d.whole p false ≡ true) → IsWhole r d.shard
+pieces_whole {r} g {spot} {notes} {size} {base} {d} h good bits =
     let s = d.shard in
     let at = subst (λ (x : Spot). IsPieced r x notes size base d) (sym h.spot) h in
     whole_all r g s notes at.level good (λ n i among listed low high.

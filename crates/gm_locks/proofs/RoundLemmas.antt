@@ -1,13 +1,14 @@
 -- A shard to which the pairs of a level are delivered in their order.
-use Rattle.std.proofs.Common.{◌≡◌, ℕ, zero, suc, ◌+◌, ◌<◌, inl, inr, List, [], ◌∷◌, length, slice_get, refl, sym, ap, ap₂, subst, ◌∙◌, arith, Some}
-use Rattle.std.proofs.Common.{Result, Ok, Err, Option, None, option_map}
-use Rattle.gm_locks.proofs.Lower.{Contains, SkipsThenYields, YieldsFirst, nth_from_yields_List, YieldsList-from_first, cases_lt, slice_get_within}
-use Rattle.gm_locks.proofs.Lower.{get_or_from_slice_get, Contains-get_or, Place, Rules, at, IsParent, IsGame, HasNoRepeats, NoteData, IsNoteAt, LevelData}
-use Rattle.gm_locks.proofs.Lower.{IsLevel, positions, pairs_once, in_pairs, in_piece, positions_once, piece_positions_once, pairs_of, piece_of, ExpectedData}
-use Rattle.gm_locks.proofs.Lower.{IsExpected, same_image, now_stands, Delivery, Fresh, FreshSettled, Repeat, Refused, NotThisLevel, NotMine, NotAParent, TooFar}
-use Rattle.gm_locks.proofs.Lower.{ShardState, IsInRange, delivered_to, with_pair, pairs_in, IsGood, Delivers, IsFor, IsWhole, whole_from, Spot, spot_of, gain}
-use Rattle.gm_locks.proofs.Lower.{IsDeliverable, pairs_into, place_of_spot, AreFirst, IsRound, HasNoneHere, IsForSpot, IsLevelAt, IsNextAnswer, note_stands}
-use Rattle.gm_locks.proofs.Gains.{gained, stays_delivered, new_delivered, with_has}
+use Rattle.std.proofs.Common.{◌≡◌, ℕ, zero, suc, ◌+◌, ◌<◌, inl, inr, List, [], ◌∷◌, length, slice_get, refl, sym, ap, ap₂, subst, ◌∙◌, arith, Some, Result, Ok}
+use Rattle.std.proofs.Common.{Err, Option, true, false}
+use Rattle.gm_locks.proofs.Lower.{Contains, SkipsThenYields, YieldsFirst, nth_from_yields_List, YieldsList-from_first, option_map_id, cases_lt}
+use Rattle.gm_locks.proofs.Lower.{slice_get_within, get_or_from_slice_get, Contains-get_or, Place, Rules, at, IsParent, IsGame, HasNoRepeats, NoteData}
+use Rattle.gm_locks.proofs.Lower.{IsNoteAt, LevelData, IsLevel, positions, pairs_once, in_pairs, in_piece, positions_once, piece_positions_once, pairs_of}
+use Rattle.gm_locks.proofs.Lower.{piece_of, ExpectedData, IsExpected, same_image, now_stands, Delivery, Fresh, FreshSettled, Repeat, Refused, NotThisLevel}
+use Rattle.gm_locks.proofs.Lower.{NotMine, NotAParent, TooFar, ShardState, IsInRange, delivered_to, with_pair, pairs_in, IsGood, Delivers, IsWhole, whole_from}
+use Rattle.gm_locks.proofs.Lower.{Spot, spot_of, gain, IsDeliverable, pairs_into, place_of_spot, AreFirst, IsRound, HasNoneHere, IsForSpot, IsLevelAt}
+use Rattle.gm_locks.proofs.Lower.{IsNextAnswer, note_stands, slice_get_cases, is_err, outcome, IsAdded, IsRefusedAt}
+use Rattle.gm_locks.proofs.Gains.{gained, delivered_more, gain_is, ok_added}
 
 -- the item at a place of a list without repeats is at no other place
 pub item_in : {X : Type 0} (xs : List X) (k : ℕ) (x : X) → slice_get xs k ≡ Some x → Contains xs x
@@ -19,11 +20,6 @@ item_once (y ∷ ys) n zero zero x a b = refl
 item_once {X} (y ∷ ys) n zero (suc j) x a b = absurd (let e : x ≡ y = cc in n.0 (subst (λ (u : X). Contains ys u) e (item_in ys j x b)))
 item_once {X} (y ∷ ys) n (suc k) zero x a b = absurd (let e : x ≡ y = cc in n.0 (subst (λ (u : X). Contains ys u) e (item_in ys k x a)))
 item_once (y ∷ ys) n (suc k) (suc j) x a b = ap suc (item_once ys n.1 k j x a b)
-
-item_at : {X : Type 0} (xs : List X) (k : ℕ) → k < length xs → (x : X) × (slice_get xs k ≡ Some x)
-item_at [] k l = absurd (omega arith)
-item_at (y ∷ ys) zero l = (y, refl)
-item_at (y ∷ ys) (suc k) l = item_at ys k (omega arith)
 
 -- notes of different positions that are at the spot's place
 pub record AreHere (r : Rules) (spot : Spot) (notes : List NoteData) : Type 0 where
@@ -85,9 +81,6 @@ module _ (r : Rules) (g : IsGame r) (spot : Spot) (notes : List NoteData) (here 
     );
   }
 
-  pub round_first : (s : ShardState) → spot_of s ≡ spot → HasNoneHere r s → IsRound (pairs_into r spot notes) (pairs_in s) s 0
-  round_first s at none = record { count = omega arith; first = first_none s at none }
-
   -- the next pair is delivered
   pub first_more : (s : ShardState) (n : ℕ) (pair : NoteData × ℕ) → spot_of s ≡ spot → slice_get (pairs_into r spot notes) n ≡ Some pair → IsInRange s pair.1
       → AreFirst (pairs_into r spot notes) s n
@@ -96,78 +89,93 @@ module _ (r : Rules) (g : IsGame r) (spot : Spot) (notes : List NoteData) (here 
       let inside = slice_get_within (pairs_into r spot notes) n pair e in
       record {
         within = omega arith;
-        each = λ k x q. (
-          (λ d. elim (with_has s pair.0.position pair.1 mine x.1 x.0.position (next_here s at k x q).here.is_mine d) [
+        each = λ k x q. (let exact = delivered_more s pair mine x (next_here s at k x q).here.is_mine in (
+          (λ d. elim (exact.0 d) [
             | inl old ↦ (let l = (h.each k x q).0 old in omega arith)
             | inr (index, child) ↦ (let same : k ≡ n = apart k n x pair q e (sym child) index in omega arith)
           ]),
-          (λ l. elim (cases_lt k n) [
-            | inl before ↦ stays_delivered s pair.0.position pair.1 mine x.1 x.0.position (next_here s at k x q).here.is_mine ((h.each k x q).1 before)
+          (λ l. exact.1 (elim (cases_lt k n) [
+            | inl before ↦ inl ((h.each k x q).1 before)
             | inr last ↦ (let same : n ≡ k = omega arith in
                 let one : Some pair ≡ Some x = sym e ∙ ap (slice_get (pairs_into r spot notes)) same ∙ q in
-                let is : pair ≡ x = cc in
-                subst (λ (y : NoteData × ℕ). Contains (delivered_to (with_pair s pair.0.position pair.1) y.1) y.0.position) is
-                (new_delivered s pair.0.position pair.1 mine))
-          ]),
-        );
+                let is : pair ≡ x = cc in inr (ap (λ (y : NoteData × ℕ). y.1) (sym is), ap (λ (y : NoteData × ℕ). y.0.position) is))
+          ])),
+        ));
       }
-
-  added : (base : ℕ) (s t : ShardState) (n : ℕ) (pair : NoteData × ℕ) → spot_of s ≡ spot → slice_get (pairs_into r spot notes) n ≡ Some pair
-      → IsInRange s pair.1 → t ≡ with_pair s pair.0.position pair.1 → pairs_in t ≡ pairs_in s + 1
-      → IsRound (pairs_into r spot notes) base s n → IsRound (pairs_into r spot notes) base t (n + 1)
-  added base s t n pair at e mine is more h = record {
-    count = (let a = h.count in omega arith);
-    first = subst (λ (u : ShardState). AreFirst (pairs_into r spot notes) u (n + 1)) (sym is) (first_more s n pair at e mine h.first);
-  }
-
-  same : (base : ℕ) (s t : ShardState) (n : ℕ) → t ≡ s → IsRound (pairs_into r spot notes) base s n → IsRound (pairs_into r spot notes) base t (n + 0)
-  same base s t n is h = subst (λ (m : ℕ). IsRound (pairs_into r spot notes) base t m) (let e : n ≡ n + 0 = omega arith in e)
-      (subst (λ (u : ShardState). IsRound (pairs_into r spot notes) base u n) (sym is) h)
-
-  -- a delivery of the next pair: it is new, or too far
-  pub round_step : (base : ℕ) (s t : ShardState) (n : ℕ) (pair : NoteData × ℕ) (answer : Result Delivery Refused) → spot_of s ≡ spot
-      → slice_get (pairs_into r spot notes) n ≡ Some pair → Delivers r pair.0 pair.1 s t answer → IsRound (pairs_into r spot notes) base s n
-      → IsNextAnswer spot answer × IsRound (pairs_into r spot notes) base t (n + gain answer)
-  round_step base s t n pair (Err NotThisLevel) at e d h = absurd (d.1 (next_here s at n pair e).here.is_level)
-  round_step base s t n pair (Err NotMine) at e d h = absurd (d.2 (next_here s at n pair e).here.is_mine)
-  round_step base s t n pair (Err NotAParent) at e d h = absurd (d.3 (next_here s at n pair e).here.is_parent)
-  round_step base s t n pair (Err TooFar) at e d h = (let far = d.4 in let l = ap (λ (x : Spot). x.level) at in (omega arith, same base s t n d.0 h))
-  round_step base s t n pair (Ok Repeat) at e d h = absurd (let l = (h.first.each n pair e).0 d.2 in omega arith)
-  round_step base s t n pair (Ok Fresh) at e d h = (tt, added base s t n pair at e d.1.is_mine d.0 (gained r pair.0 pair.1 s t (Ok Fresh) d) h)
-  round_step base s t n pair (Ok FreshSettled) at e d h = (tt, added base s t n pair at e d.1.is_mine d.0 (gained r pair.0 pair.1 s t (Ok FreshSettled) d) h)
 
   -- in a whole shard they are all delivered
   pub round_all : (base : ℕ) (s : ShardState) (n : ℕ) → spot_of s ≡ spot → IsWhole r s → IsRound (pairs_into r spot notes) base s n
       → n ≡ length (pairs_into r spot notes)
-  round_all base s n at whole h = elim (cases_lt n (length (pairs_into r spot notes))) [
-    | inl less ↦ (let (pair, e) = item_at (pairs_into r spot notes) n less in
-        let d = next_here s at n pair e in
+  round_all base s n at whole h = elim (slice_get_cases (pairs_into r spot notes) n).1 [
+    | inl (pair, less, e, _) ↦ (let d = next_here s at n pair e in
         let l = (h.first.each n pair e).0 (whole pair.1 pair.0.position d.here.is_mine d.here.is_parent
         (now_stands r s.phase s.level pair.0.position (note_stands r s pair.0 pair.1 d.is_note d.here))) in
         omega arith)
-    | inr all ↦ (let most = h.first.within in omega arith)
+    | inr (all, _) ↦ (let most = h.first.within in omega arith)
   ]
+
+-- the next pair of such notes for a shard that has those before it
+pub record IsNext (r : Rules) (spot : Spot) (notes : List NoteData) (s : ShardState) (n : ℕ) (pair : NoteData × ℕ) : Type 0 where
+  pub lawful : IsGame r
+  pub here : AreHere r spot notes
+  pub at : spot_of s ≡ spot
+  pub there : slice_get (pairs_into r spot notes) n ≡ Some pair
+  pub first : AreFirst (pairs_into r spot notes) s n
+
+module _ {r : Rules} {spot : Spot} {notes : List NoteData} {s : ShardState} {n : ℕ} {pair : NoteData × ℕ} (is : IsNext r spot notes s n pair) where
+  pub next_there : IsDeliverable r s pair
+  next_there = next_here r is.lawful spot notes is.here s is.at n pair is.there
+
+  pub next_new : Contains (delivered_to s pair.1) pair.0.position → ⊥
+  next_new c = let l = (is.first.each n pair is.there).0 c in omega arith
+
+  -- its delivery adds it, or it is too far
+  pub next_answer : (t : ShardState) (answer : Result Delivery Refused) → Delivers r pair.0 pair.1 s t answer → IsNextAnswer spot answer
+  next_answer t (Err NotThisLevel) d = d.1 next_there.here.is_level
+  next_answer t (Err NotMine) d = d.2 next_there.here.is_mine
+  next_answer t (Err NotAParent) d = d.3 next_there.here.is_parent
+  next_answer t (Err TooFar) d = let far = d.4 in let l = ap (λ (x : Spot). x.level) is.at in omega arith
+  next_answer t (Ok Repeat) d = next_new d.2
+  next_answer t (Ok Fresh) d = tt
+  next_answer t (Ok FreshSettled) d = tt
+
+  pub next_first : (t : ShardState) (answer : Result Delivery Refused) → Delivers r pair.0 pair.1 s t answer
+      → AreFirst (pairs_into r spot notes) t (n + gain answer)
+  next_first t answer d = elim (outcome r pair.0 pair.1 s t answer d) [
+    | inl (a, more, mine, _) ↦ rw (more, (gain_is answer).0 a) (first_more r is.lawful spot notes is.here s n pair is.at is.there mine.is_mine is.first)
+    | inr (none, same) ↦ (let zero_more = (gain_is answer).1 none in let all : n + gain answer ≡ n = omega arith in rw (same, all) is.first)
+  ]
+
+  pub next_round : {base : ℕ} → pairs_in s ≡ base + n → (t : ShardState) (answer : Result Delivery Refused) → Delivers r pair.0 pair.1 s t answer
+      → (m : ℕ) → m ≡ n + gain answer → IsRound (pairs_into r spot notes) base t m
+  next_round count t answer d m more =
+      record { count = (let a = gained r pair.0 pair.1 s t answer d in omega arith); first = rw more (next_first t answer d) }
+
+  pub next_taken : (t : ShardState) (answer : Result Delivery Refused) → is_err answer ≡ false → Delivers r pair.0 pair.1 s t answer
+      → IsAdded answer × AreFirst (pairs_into r spot notes) t (n + 1)
+  next_taken t (Err refused) ok d = absurd (cc)
+  next_taken t (Ok answer) ok d = let a = ok_added r pair s t answer next_new d in (a, rw ((gain_is (Ok answer)).0 a) at (next_first t (Ok answer) d))
+
+  pub next_refused : (t : ShardState) (answer : Result Delivery Refused) → is_err answer ≡ true → IsGood r t → Delivers r pair.0 pair.1 s t answer
+      → IsRefusedAt r spot
+  next_refused t (Ok a) on good d = absurd (cc)
+  next_refused t (Err NotThisLevel) on good d = absurd (next_answer t (Err NotThisLevel) d)
+  next_refused t (Err NotMine) on good d = absurd (next_answer t (Err NotMine) d)
+  next_refused t (Err NotAParent) on good d = absurd (next_answer t (Err NotAParent) d)
+  next_refused t (Err TooFar) on good d =
+      record { state = s; good = subst (IsGood r) d.0 good; spot = is.at; pair = pair; here = next_there; event = (refl, d.1, d.2, d.3, d.4) }
 
 -- the notes of a level are those of a level at the spot
 pub level_into : (r : Rules) (l : LevelData) (spot : Spot) (notes : List NoteData) → IsLevelAt l spot notes → IsLevel r l.place l.notes
     → IsLevel r (place_of_spot spot) notes
 level_into r l spot notes at level = subst (λ (p : Place). IsLevel r p notes) at.place (subst (λ (ns : List NoteData). IsLevel r l.place ns) at.notes_are level)
 
--- a count for the spot is one for a shard there
-pub for_shard : (e : ExpectedData) (spot : Spot) (s : ShardState) → spot_of s ≡ spot → IsForSpot e spot → IsFor e s
-for_shard e spot s at f =
-    let back = sym at in
-    record {
-      tier = f.tier ∙ ap (λ (x : Spot). x.tier) back;
-      lo = f.lo ∙ ap (λ (x : Spot). x.lo) back;
-      hi = f.hi ∙ ap (λ (x : Spot). x.hi) back;
-      last = f.last ∙ ap (λ (x : Spot). Some (place_of_spot x)) back;
-    }
-
--- as many pairs as the count says: the level is whole
+-- as many pairs as a count for the spot says: the level is whole
 pub round_whole : (r : Rules) → IsGame r → (spot : Spot) (s : ShardState) → spot_of s ≡ spot → IsGood r s → (e : ExpectedData) → IsExpected r e
     → IsForSpot e spot → e.number ≡ pairs_in s → IsWhole r s
-round_whole r g spot s at good e exact f n = whole_from g good exact (for_shard e spot s at f) (omega arith)
+round_whole r g spot s at good e exact f n =
+    let here = subst (IsForSpot e) (sym at) f in
+    whole_from g good exact (record { tier = here.tier; lo = here.lo; hi = here.hi; last = here.last }) (omega arith)
 
 -- the pairs of all notes of a level at the spot into its range
 pub pairs_are_into : (r : Rules) (l : LevelData) (spot : Spot) (notes : List NoteData) → IsLevelAt l spot notes → (lo hi : ℕ) → lo ≡ spot.lo → hi ≡ spot.hi
@@ -180,8 +188,4 @@ pairs_are_into r l spot notes at lo hi from to pairs is =
 pub nth_is : {X : Type 0} (xs : List X) (found : Option X) (n : ℕ) (left : List X) → SkipsThenYields (YieldsFirst (λ (ys : List X). ys)) xs n found left
     → slice_get xs n ≡ found
 nth_is {X} xs found n left ran =
-    sym (nth_from_yields_List {v = λ (x : X). x} found left n ran (YieldsList-from_first (λ (x : X). x) (λ (ys : List X). ys) xs refl)) ∙ same found
-  where
-    same : (o : Option X) → option_map (λ (x : X). x) o ≡ o
-    same None = refl
-    same (Some x) = refl
+    sym (nth_from_yields_List {v = λ (x : X). x} found left n ran (YieldsList-from_first (λ (x : X). x) (λ (ys : List X). ys) xs refl)) ∙ option_map_id found

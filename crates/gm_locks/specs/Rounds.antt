@@ -1,8 +1,8 @@
 -- Deliveries to a shard in the order of a level's pairs.
 use Rattle.std.specs.Prelude.{◌≡◌, ℕ, ◌+◌, ◌<◌, ◌≤◌, ◌↔◌, List, Some, Result, Ok, Err, length, slice_get}
-use Rattle.gm_locks.specs.Lower.{Contains, IsOk, REMOTENESS, Position, Place, Rules, StandsAt, NoteData, LevelData, place_at, pairs_of, ExpectedData, Delivery}
-use Rattle.gm_locks.specs.Lower.{Fresh, FreshSettled, Repeat, Refused, NotThisLevel, NotMine, NotAParent, TooFar, Short, Closes, ShardState, IsInRange}
-use Rattle.gm_locks.specs.Lower.{delivered_to, pairs_in, Delivers, IsGood}
+use Rattle.gm_locks.specs.Lower.{Contains, IsOk, REMOTENESS, Position, Place, Rules, StandsAt, NoteData, IsLevel, LevelData, place_at, pairs_of, ExpectedData}
+use Rattle.gm_locks.specs.Lower.{IsNumberBefore, Delivery, Fresh, FreshSettled, Repeat, Refused, NotThisLevel, NotMine, NotAParent, TooFar, Short, Closes}
+use Rattle.gm_locks.specs.Lower.{ShardState, IsInRange, delivered_to, pairs_in, Delivers, IsGood}
 use Rattle.gm_locks.specs.Spots.{Spot, spot_of}
 
 -- the pairs of a level's notes into the range of a spot, in the order of a walk
@@ -38,6 +38,11 @@ pub record IsForSpot (e : ExpectedData) (s : Spot) : Type 0 where
 pub record IsLevelAt (level : LevelData) (s : Spot) (notes : List NoteData) : Type 0 where
   pub place : level.place ≡ place_of_spot s
   pub notes_are : level.notes ≡ notes
+
+-- the notes are those of the level at the spot's place, and `base` pairs of the range are of earlier levels
+pub record IsBegun (r : Rules) (s : Spot) (notes : List NoteData) (base : ℕ) : Type 0 where
+  pub level : IsLevel r (place_of_spot s) notes
+  pub before : IsNumberBefore r s.tier s.lo s.hi s.phase s.level base
 
 -- no close of the shard by this count returns Short
 abbrev pub ClosesSurely : Rules → ExpectedData → ShardState → Type 0

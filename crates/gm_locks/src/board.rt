@@ -137,26 +137,19 @@ impl<G: Game, A: ShardLedger, B: ShardLedger, C: ShardLedger, D: ShardLedger> Bo
             d: shards.d.range(),
         };
         let tier = shards.a.tier();
-        let (a, one) = hold(blanks.a, shards.a);
-        let (b, two) = hold(blanks.b, shards.b);
-        let (c, three) = hold(blanks.c, shards.c);
-        let (d, four) = hold(blanks.d, shards.d);
+        let (one, a) = hold(blanks.a, shards.a);
+        let (two, b) = hold(blanks.b, shards.b);
+        let (three, c) = hold(blanks.c, shards.c);
+        let (four, d) = hold(blanks.d, shards.d);
         let board = Board {
-            a: Mutex::new(a),
-            b: Mutex::new(b),
-            c: Mutex::new(c),
-            d: Mutex::new(d),
+            a: Mutex::new(one),
+            b: Mutex::new(two),
+            c: Mutex::new(three),
+            d: Mutex::new(four),
             tier,
             ranges,
         };
-        let shares = Shares {
-            parts,
-            a: one,
-            b: two,
-            c: three,
-            d: four,
-        };
-        (board, shares)
+        (board, Shares { parts, a, b, c, d })
     }
 
     /// Returns the lock of shard 0.
@@ -245,11 +238,12 @@ impl<G: Game, A: ShardLedger, B: ShardLedger, C: ShardLedger, D: ShardLedger> Bo
         ensures refusals { IsAnswer G.rules (choose shard A.spot B.spot C.spot D.spot) note.now parent result }
         ensures event { IsDeliveryAt G.rules (choose shard A.spot B.spot C.spot D.spot) note.now parent result }
     {
+        let Shares { a, b, c, d, .. } = shares;
         match shard {
-            0 => deliver_under(rt, &self.a, note, parent, place, &mut shares.a),
-            1 => deliver_under(rt, &self.b, note, parent, place, &mut shares.b),
-            2 => deliver_under(rt, &self.c, note, parent, place, &mut shares.c),
-            _ => deliver_under(rt, &self.d, note, parent, place, &mut shares.d),
+            0 => self.a.lock(rt).deliver_at(note, parent, place, a),
+            1 => self.b.lock(rt).deliver_at(note, parent, place, b),
+            2 => self.c.lock(rt).deliver_at(note, parent, place, c),
+            _ => self.d.lock(rt).deliver_at(note, parent, place, d),
         }
     }
 
@@ -279,22 +273,4 @@ fn hold<G: Game, L: ShardLedger>(blank: Blank, shard: Shard<G>) -> (Held<G, L>, 
     let mut share = Share::whole(mark);
     share.raise(&mut book, delivered);
     (Held::new(shard, book), share)
-}
-
-// Delivers a note under one lock.
-fn deliver_under<G: Game, L: ShardLedger, R: Wait>(
-    rt: &R,
-    lock: &Mutex<Held<G, L>>,
-    note: &Note<G>,
-    parent: u64,
-    place: Option<u32>,
-    share: &mut Share<L>,
-) -> Result<Delivery, Refused>
-    requires place { IsPlaceOf G.rules note.now.position L.spot.tier parent place }
-    requires parts { 0 < share.old.parts }
-    ensures share { share.new ≡ record { parts = share.old.parts; amount = share.old.amount + gain result } }
-    ensures refusals { IsAnswer G.rules L.spot note.now parent result }
-    ensures event { IsDeliveryAt G.rules L.spot note.now parent result }
-{
-    lock.lock(rt).deliver_at(note, parent, place, share)
 }

@@ -23,7 +23,7 @@ impl<G: Game, L: ShardLedger> Model for Held<G, L> {
     ghost use Rattle.std.specs.Prelude.{◌≡◌};
     ghost use Rattle.gm_shard.specs.State.{pairs_in};
     ghost use Rattle.gm_locks.specs.Spots.{spot_of};
-    ghost use Rattle.gm_locks.specs.Parts.{HeldData};
+    ghost use Rattle.gm_locks.specs.Amounts.{HeldData};
 
     ghost Value = { HeldData };
 

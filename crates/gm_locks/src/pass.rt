@@ -2,8 +2,7 @@
 ghost use Rattle.std.specs.Prelude.{◌≡◌, ℕ, ◌+◌, ◌*◌, ◌<◌, ◌≤◌, ◌↔◌, List, [], Some, IsTrue, length, slice_get};
 ghost use Rattle.gm_locks.specs.Lower.{MOVES, TIER_SIZE, NoteData, IsLevel, pairs_in, IsWhole};
 ghost use Rattle.gm_locks.specs.Spots.{spot_of, gain};
-ghost use Rattle.gm_locks.specs.Rounds.{pairs_into, place_of_spot, IsRound, HasNoneHere, IsForSpot, IsLevelAt, ClosesSurely, IsNextAnswer, IsStep};
-ghost use Rattle.gm_locks.specs.Begun.{IsBegun};
+ghost use Rattle.gm_locks.specs.Rounds.{pairs_into, place_of_spot, IsRound, HasNoneHere, IsForSpot, IsLevelAt, IsBegun, ClosesSurely, IsNextAnswer, IsStep};
 
 use crate::share::{ShardLedger, Share, gained};
 use gm_frontier::expected::Expected;
@@ -79,7 +78,7 @@ impl<G: Game, L: PassLedger> Model for HeldInOrder<G, L> {
     ghost use Rattle.std.specs.Prelude.{◌≡◌};
     ghost use Rattle.gm_frontier.specs.Levels.{IsLevel};
     ghost use Rattle.gm_locks.specs.Spots.{spot_of};
-    ghost use Rattle.gm_locks.specs.Parts.{HeldData};
+    ghost use Rattle.gm_locks.specs.Amounts.{HeldData};
     ghost use Rattle.gm_locks.specs.Rounds.{pairs_into, place_of_spot, IsRound};
 
     ghost Value = { HeldData };
@@ -144,10 +143,8 @@ impl<G: Game, L: PassLedger> PassDesk<G, L> {
         let _level = level.place();
         let (book, mark) = blank.open::<L>();
         let share = Share::whole(mark);
-        let desk = PassDesk {
-            held: Mutex::new(HeldInOrder { shard, book }),
-            range,
-        };
+        let held = Mutex::new(HeldInOrder { shard, book });
+        let desk = PassDesk { held, range };
         (desk, Pass { share, before })
     }
 
@@ -199,10 +196,7 @@ impl<G: Game, L: PassLedger> PassDesk<G, L> {
         ensures closes { ClosesSurely G.rules expected.now result }
         ensures all { pass ≡ length (pairs_into G.rules L.spot L.notes) }
     {
-        let Pass {
-            mut share,
-            before: _,
-        } = pass;
+        let Pass { mut share, .. } = pass;
         let HeldInOrder { shard, mut book } = self.held.into_inner();
         share.audit(&mut book);
         let _good = shard.range();

@@ -37,13 +37,13 @@ fn deliver_from<G: Game, L: PieceLedger>(
     requires pairs { pairs.now ≡ piece_pairs G.rules L.spot L.notes L.size piece }
     requires level { IsLevel G.rules (place_of_spot L.spot) L.notes }
     requires spot { spot_of shard.old ≡ L.spot }
-    requires first { AreFirst pairs.now shard.old from }
+    requires first { AreFirst (piece_pairs G.rules L.spot L.notes L.size piece) shard.old from }
     requires order { from ≤ to }
     requires within { to ≤ length pairs.now }
     ensures order { from ≤ result }
     ensures most { result ≤ to }
-    ensures first { AreFirst pairs.now shard.new result }
-    ensures run { AreNew G.rules (take (result - from) (drop from pairs.now)) shard.old shard.new }
+    ensures first { AreFirst (piece_pairs G.rules L.spot L.notes L.size piece) shard.new result }
+    ensures run { AreNew G.rules (take (result - from) (drop from (piece_pairs G.rules L.spot L.notes L.size piece))) shard.old shard.new }
     ensures far { result < to → IsRefusedAt G.rules L.spot }
 {
     for k in from..to {
@@ -139,20 +139,14 @@ impl<G: Game, L: PieceLedger> Pieced<G, L> {
             × (share.new ≡ record { parts = share.old.parts; amount = share.old.amount + n }) }
         ensures far { OnErr result (IsRefusedAt G.rules L.spot) }
     {
-        let Pieced {
-            shard,
-            counts,
-            whole,
-            book,
-        } = self;
-        let _before = shard.range();
-        let from = counts[piece];
+        let _before = self.shard.range();
+        let from = self.counts[piece];
         let end = to.max(from);
-        let next = deliver_from::<G, L>(shard, piece, pairs, from, end);
-        counts[piece] = next;
-        whole[piece] = next == pairs.len();
-        share.raise(book, (next - from) as u64);
-        let _after = shard.range();
+        let next = deliver_from::<G, L>(&mut self.shard, piece, pairs, from, end);
+        self.counts[piece] = next;
+        self.whole[piece] = next == pairs.len();
+        share.raise(&mut self.book, (next - from) as u64);
+        let _after = self.shard.range();
         if next < end {
             return Err(Refused::TooFar);
         }
@@ -178,11 +172,8 @@ impl<G: Game, L: PieceLedger> Pieced<G, L> {
         ensures number { pairs_in result ≡ L.base + share.amount }
         ensures book { share.amount ≡ self.book }
     {
-        let Pieced {
-            shard,
-            mut book,
-            ..
-        } = self;
+        let Pieced { shard, book, .. } = self;
+        let mut book = book;
         let mut share = share;
         share.audit(&mut book);
         let _good = shard.range();

@@ -78,24 +78,17 @@ impl<G: Game, A: PieceLedger, B: PieceLedger, C: PieceLedger, D: PieceLedger> Pi
         requires d { IsReadyFor G.rules shards.d level.now D.spot D.notes D.base }
         ensures { IfOk result (λ begun. begun.1 ≡ record { parts = parts; a = 0; b = 0; c = 0; d = 0 }) }
     {
-        let (a, one) = Pieced::around(alloc, blanks.a, shards.a, level, size)?;
-        let (b, two) = Pieced::around(alloc, blanks.b, shards.b, level, size)?;
-        let (c, three) = Pieced::around(alloc, blanks.c, shards.c, level, size)?;
-        let (d, four) = Pieced::around(alloc, blanks.d, shards.d, level, size)?;
+        let (one, a) = Pieced::around(alloc, blanks.a, shards.a, level, size)?;
+        let (two, b) = Pieced::around(alloc, blanks.b, shards.b, level, size)?;
+        let (three, c) = Pieced::around(alloc, blanks.c, shards.c, level, size)?;
+        let (four, d) = Pieced::around(alloc, blanks.d, shards.d, level, size)?;
         let board = PieceBoard {
-            a: Mutex::new(a),
-            b: Mutex::new(b),
-            c: Mutex::new(c),
-            d: Mutex::new(d),
+            a: Mutex::new(one),
+            b: Mutex::new(two),
+            c: Mutex::new(three),
+            d: Mutex::new(four),
         };
-        let shares = Shares {
-            parts,
-            a: one,
-            b: two,
-            c: three,
-            d: four,
-        };
-        Ok((board, shares))
+        Ok((board, Shares { parts, a, b, c, d }))
     }
 
     /// Delivers the pairs of a piece up to number `to` to one shard, under its lock, as `Pieced::deliver` does. The caller's amount for this shard rises by the
@@ -167,14 +160,12 @@ impl<G: Game, L: PieceLedger> Model for Taken<G, L> {
 }
 
 impl<G: Game, L: PieceLedger> Taken<G, L> {
-    fn new(pieced: Pieced<G, L>, share: Share<L>) -> Taken<G, L>
+    fn new(mut pieced: Pieced<G, L>, mut share: Share<L>) -> Taken<G, L>
         requires { (share.parts ≡ L.parts) × (0 < L.parts) }
         ensures pieced { result ≡ pieced }
         ensures book { result.book ≡ share.amount }
         ensures pairs { pairs_in result.shard ≡ L.base + result.book }
     {
-        let mut pieced = pieced;
-        let mut share = share;
         pieced.audit(&mut share);
         Taken { pieced, share }
     }

@@ -1,7 +1,7 @@
 //! Parts of a shard's ledger.
 ghost use Rattle.std.specs.Prelude.{◌≡◌, ◌+◌, ◌-◌, ◌^◌, ◌<◌, ◌≤◌, min};
 ghost use Rattle.gm_locks.specs.Spots.{Spot, first_spot, gain};
-ghost use Rattle.gm_locks.specs.Parts.{Part};
+ghost use Rattle.gm_locks.specs.Amounts.{Part};
 
 use gm_shard::status::{Delivery, Refused};
 use std::marker::{Brand, Model};
@@ -28,7 +28,7 @@ pub struct Share<L: ShardLedger> {
 
 impl<L: ShardLedger> Model for Share<L> {
     ghost use Rattle.std.specs.Prelude.{◌≡◌, ◌-◌, ◌^◌, min};
-    ghost use Rattle.gm_locks.specs.Parts.{Part};
+    ghost use Rattle.gm_locks.specs.Amounts.{Part};
 
     ghost Value = { Part };
 

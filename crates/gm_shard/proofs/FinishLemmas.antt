@@ -1,9 +1,9 @@
 -- The records of a range at the end of ties.
-use Rattle.std.proofs.Common.{◌≡◌, ℕ, ◌+◌, List, [], ◌∷◌, ◌++◌, length, get_or, refl, sym, ap, subst, ◌∙◌, arith, inl, inr, Option, Some, length-append}
+use Rattle.std.proofs.Common.{◌≡◌, ◌≢◌, ℕ, ◌+◌, List, [], ◌∷◌, ◌++◌, length, get_or, refl, sym, ap, subst, ◌∙◌, arith, inl, inr, Option, None, Some, length-append, ne_eqb}
 use Rattle.gm_shard.proofs.Lower.{cases_lt, get_or_append_left, get_or-append_seam, slice_get-get_or, get_or_from_slice_get, slice_get_within, REMOTENESS}
 use Rattle.gm_shard.proofs.Lower.{Phase, Ties, Solved, Rules, at, IsInner, IsGame, IsRecord, IsTrueValue, IsLastLevel, AreReached, undecided_draw}
-use Rattle.gm_table.specs.Packed.{IsNear}
-use Rattle.gm_shard.proofs.Lower.{Status, Hole, Undecided, Settled, ShardState, IsInRange, delivered_to, In, StatusIs, IsGood, record_of, ArePart}
+use Rattle.gm_table.specs.Packed.{unpacked}
+use Rattle.gm_shard.proofs.Lower.{Status, Hole, Undecided, Settled, ShardState, IsInRange, delivered_to, In, StatusIs, IsGood, record_of, status_of, ArePart}
 use Rattle.gm_shard.proofs.NoteLemmas.{settled_canonical}
 use Rattle.gm_shard.proofs.StatusLemmas.{reached_by}
 
@@ -29,11 +29,13 @@ record_true r g s good ties last i m (Settled x) h =
     let (value, near) = good.settled_is_true i x m h in
     (settled_canonical r (at s.tier i) (delivered_to s i) x h, value, near)
 
--- and within the greatest remoteness
-pub record_near : (r : Rules) (s : ShardState) → IsGood r s → (i : ℕ) → IsInRange s i → (status : Status) → StatusIs r s i status → IsNear (record_of status)
-record_near r s good i m Hole h = tt
-record_near r s good i m Undecided h = omega arith
-record_near r s good i m (Settled x) h = (good.settled_is_true i x m h).1
+-- a number that is not that of an undecided index stands for the record of its status
+pub final_record : (n : ℕ) → n ≢ 1 → unpacked n ≡ record_of (status_of n)
+final_record n other = rw (ne_eqb n 1 other) (of_record (unpacked n))
+  where
+    of_record : (known : Option Solved) → known ≡ record_of (elim known [ None ↦ Hole | Some x ↦ Settled x ])
+    of_record None = refl
+    of_record (Some x) = refl
 
 -- one record more
 pub part_more : (r : Rules) → IsGame r → (s : ShardState) → IsGood r s → s.phase ≡ Ties → IsLastLevel r s.tier Ties s.level

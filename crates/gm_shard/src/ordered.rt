@@ -6,7 +6,7 @@ ghost use Rattle.gm_shard.specs.Queues.{IsEmptied, IsQueue, IsSettledAt, AreNote
 
 use crate::deliveries::Ordered;
 use crate::queue::Queue;
-use crate::shard::{has_phase, has_settled, record_of};
+use crate::shard::{has_phase, has_settled};
 use crate::status::{Delivery, Refused, Start, Status};
 use gm_frontier::last::Last;
 use gm_frontier::note::Note;
@@ -92,7 +92,9 @@ impl<G: Game> OrderedShard<G> {
     ghost use Rattle.gm_shard.specs.Good.{IsGood, IsCounter};
     ghost use Rattle.gm_shard.specs.Delivery.{IsPairHere, Delivers};
     ghost use Rattle.gm_shard.specs.Steps.{IsWhole, CanTurn, place_of, next_level, first_ties};
-    ghost use Rattle.gm_shard.specs.Closing.{IsNoteOf, ArePart};
+    ghost use Rattle.gm_shard.specs.Closing.{IsNoteOf, ArePart, record_of};
+    ghost use Rattle.gm_shard.specs.declared.status.Status.{Status as StatusSpec};
+    ghost use Rattle.gm_table.specs.Packed.{unpacked};
     ghost use Rattle.gm_shard.specs.Queues.{AreSettledAt};
 
     /// Makes the shard of the indexes from `lo` on with these start values; nothing is delivered yet.
@@ -214,6 +216,14 @@ impl<G: Game> OrderedShard<G> {
         Ok(Run::of(self.place(), lo, hi, notes))
     }
 
+    // Returns the number of an index's record when nothing is left to settle: an undecided position is a draw.
+    fn final_number(&self, index: u64) -> u32
+        requires { IsInRange self.now index }
+        ensures { (status : StatusSpec) × StatusIs G.rules self.now index status × (unpacked result ≡ record_of status) }
+    {
+        self.children.final_number(index)
+    }
+
     /// Appends the true records of the range when nothing is left to settle: undecided positions are draws. If memory is refused, the records are unchanged.
     pub fn finish(&self, last: &Last<G>, records: &mut Packed) -> Result<(), AllocError>
         requires last { last.now ≡ place_of self.now }
@@ -226,7 +236,7 @@ impl<G: Game> OrderedShard<G> {
         let before = records.len();
         let (lo, hi) = self.range();
         for index in lo..hi {
-            if let Err(error) = records.push(record_of(self.status(index))) {
+            if let Err(error) = records.push_number(self.final_number(index)) {
                 records.truncate(before);
                 return Err(error);
             }

@@ -1,6 +1,9 @@
 //! Statuses of four bytes each.
 ghost use Rattle.std.specs.Prelude.{◌≡◌, ◌<◌, Some, length, slice_get, set, replicate, IfOk};
 ghost use Rattle.gm_shard.specs.Good.{IsWithinLimit};
+ghost use Rattle.gm_table.specs.Packed.{unpacked};
+ghost use Rattle.gm_shard.specs.Closing.{record_of};
+ghost use Rattle.gm_shard.specs.declared.status.Status.{Status as StatusSpec};
 ghost use Rattle.gm_shard.specs.declared.status.Status.TheVariants.{Undecided};
 ghost use Rattle.gm_shard.specs.Statuses.{status_of};
 
@@ -11,6 +14,9 @@ use std::marker::Model;
 
 /// The number of an undecided index: no record has it.
 const UNDECIDED: u32 = 1;
+
+/// The number of a draw.
+const DRAW: u32 = 2_097_152;
 
 /// Statuses of four bytes each. Contracts see the statuses.
 #[derive(Drop)]
@@ -42,7 +48,27 @@ impl Statuses {
         requires { k < length self.now }
         ensures { slice_get self.now k ≡ Some result }
     {
-        status_of(self.numbers[k])
+        status_of(self.number(k))
+    }
+
+    // Returns the number of the status at a place.
+    fn number(&self, k: usize) -> u32
+        requires { k < length self.now }
+        ensures { slice_get self.now k ≡ Some (status_of result) }
+    {
+        self.numbers[k]
+    }
+
+    /// Returns the number of the record at a place when nothing is left to settle: an undecided one is a draw.
+    pub(crate) fn final_number(&self, k: usize) -> u32
+        requires { k < length self.now }
+        ensures { (status : StatusSpec) × (slice_get self.now k ≡ Some status) × (unpacked result ≡ record_of status) }
+    {
+        let number = self.number(k);
+        if number == UNDECIDED {
+            return DRAW;
+        }
+        number
     }
 
     /// Puts a status in the place of another.

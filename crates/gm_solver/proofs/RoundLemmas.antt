@@ -2,6 +2,7 @@
 use Rattle.std.proofs.Common.{◌≡◌, ℕ, zero, suc, ◌+◌, ◌-◌, ◌<◌, ◌≤◌, List, [], ◌∷◌, length, drop, replicate, slice_get, slice_index_or, ◌^◌, refl, sym, ap}
 use Rattle.std.proofs.Common.{subst, ◌∙◌, arith, Some}
 use Rattle.gm_solver.proofs.Lower.{Contains, length-drop, TIER_SIZE, Position, Phase, WinLose, Ties, Place, Rules, at, IsGame, StandsBefore, NoteData, IsLevel}
+use Rattle.gm_solver.specs.declared.cuts.Cuts.{Cuts}
 use Rattle.gm_solver.proofs.Lower.{tile_at, ShardState, first_state, IsGood, Spot, spot_of, pairs_into, place_of_spot, HasNoneHere}
 use Rattle.gm_frontier.proofs.PairLemmas.{positions_once, canonical_notes}
 use Rattle.gm_frontier.proofs.CountLemmas.{notes_few}
@@ -44,6 +45,6 @@ pub none_ties : (r : Rules) (s : ShardState) → IsGood r s → s.phase ≡ WinL
 none_ties r s good wins i c m h stands = not_before_and_at r Ties 0 c
     (ties_after r (s.level + 1) 0 c (subst (λ (ph : Phase). StandsBefore r ph (s.level + 1) c) wins (good.pairs i c m h).1)) stands
 
-pub turned_none : (r : Rules) (s t : ShardState) (place : Place) (width k : ℕ) → t ≡ first_ties s → IsGood r s → spot_of s ≡ tile_at r place width k
+pub turned_none : (r : Rules) (s t : ShardState) (place : Place) (cuts : Cuts) (k : ℕ) → t ≡ first_ties s → IsGood r s → spot_of s ≡ tile_at r place cuts k
     → place.phase ≡ WinLose → HasNoneHere r t
-turned_none r s t place width k is good at wins = subst (HasNoneHere r) (sym is) (none_ties r s good (ap (λ (x : Spot). x.phase) at ∙ wins))
+turned_none r s t place cuts k is good at wins = subst (HasNoneHere r) (sym is) (none_ties r s good (ap (λ (x : Spot). x.phase) at ∙ wins))

@@ -8,43 +8,44 @@ use Rattle.std.proofs.lemmas.List.{append_assoc, length-append}
 use Rattle.gm_frontier.specs.Levels.{place_at}
 use Rattle.gm_shard.proofs.CloseLemmas.{number_before}
 use Rattle.gm_locks.specs.declared.board.Four.{Four}
-use Rattle.gm_solver.specs.Tiling.{IsWide, AreGood, HaveNoneHere, IsEnded, AreRecordsOf}
+use Rattle.gm_solver.specs.Cuts.{cut_at, AreCuts}
+use Rattle.gm_solver.specs.declared.cuts.Cuts.{Cuts}
+use Rattle.gm_solver.specs.Tiling.{AreGood, HaveNoneHere, IsEnded, AreRecordsOf}
 use Rattle.gm_solver.proofs.Deliveries.{there_sum}
 use Rattle.gm_solver.proofs.Parts.{part_more, part_whole}
 
 -- the spot of tile k
-pub choose_tile : (r : Rules) (place : Place) (width : ℕ) (a b c d : Spot) → a ≡ tile_at r place width 0 → b ≡ tile_at r place width 1
-    → c ≡ tile_at r place width 2 → d ≡ tile_at r place width 3 → (k : ℕ) → k < 4 → choose k a b c d ≡ tile_at r place width k
-choose_tile r place width a b c d ea eb ec ed zero l = ea
-choose_tile r place width a b c d ea eb ec ed (suc zero) l = eb
-choose_tile r place width a b c d ea eb ec ed (suc (suc zero)) l = ec
-choose_tile r place width a b c d ea eb ec ed (suc (suc (suc zero))) l = ed
-choose_tile r place width a b c d ea eb ec ed (suc (suc (suc (suc k)))) l = absurd (omega arith)
+pub choose_tile : (r : Rules) (place : Place) (cuts : Cuts) (a b c d : Spot) → a ≡ tile_at r place cuts 0 → b ≡ tile_at r place cuts 1
+    → c ≡ tile_at r place cuts 2 → d ≡ tile_at r place cuts 3 → (k : ℕ) → k < 4 → choose k a b c d ≡ tile_at r place cuts k
+choose_tile r place cuts a b c d ea eb ec ed zero l = ea
+choose_tile r place cuts a b c d ea eb ec ed (suc zero) l = eb
+choose_tile r place cuts a b c d ea eb ec ed (suc (suc zero)) l = ec
+choose_tile r place cuts a b c d ea eb ec ed (suc (suc (suc zero))) l = ed
+choose_tile r place cuts a b c d ea eb ec ed (suc (suc (suc (suc k)))) l = absurd (omega arith)
 
 -- the place of a shard, by its spot
-pub spot_place : (r : Rules) (place : Place) (width k : ℕ) (s : ShardState) → spot_of s ≡ tile_at r place width k → place_of s ≡ place
-spot_place r place width k s e = ap (λ (x : Spot). place_at x.tier x.phase x.level) e
+pub spot_place : (r : Rules) (place : Place) (cuts : Cuts) (k : ℕ) (s : ShardState) → spot_of s ≡ tile_at r place cuts k → place_of s ≡ place
+spot_place r place cuts k s e = ap (λ (x : Spot). place_at x.tier x.phase x.level) e
 
-in_tile : (r : Rules) (place : Place) (width k : ℕ) (s : ShardState) → IsGood r s → spot_of s ≡ tile_at r place width k → (i : ℕ) → k * width ≤ i
-    → i < suc k * width → i < r.tier_size place.tier → IsCovered r place i
-in_tile r place width k s good e i low high inside =
+in_tile : (r : Rules) (place : Place) (cuts : Cuts) (k : ℕ) (s : ShardState) → IsGood r s → spot_of s ≡ tile_at r place cuts k → (i : ℕ)
+    → cut_at (r.tier_size place.tier) cuts k ≤ i → i < cut_at (r.tier_size place.tier) cuts (suc k) → IsCovered r place i
+in_tile r place cuts k s good e i low high =
     let lo = ap (λ (x : Spot). x.lo) e in
     let hi = ap (λ (x : Spot). x.hi) e in
-    record { shard = s; good = good; mine = (omega arith, omega arith); here = spot_place r place width k s e }
+    record { shard = s; good = good; mine = (omega arith, omega arith); here = spot_place r place cuts k s e }
 
 -- a good shard has each index
-pub covered : (r : Rules) (place : Place) (width : ℕ) → IsWide r place.tier width → (shards : Four ShardState) → AreShardsAt r place width shards
+pub covered : (r : Rules) (place : Place) (cuts : Cuts) → AreCuts r place.tier cuts → (shards : Four ShardState) → AreShardsAt r place cuts shards
     → IsGood r shards.a → IsGood r shards.b → IsGood r shards.c → IsGood r shards.d
     → (i : ℕ) → i < r.tier_size place.tier → IsCovered r place i
-covered r place width wide shards are a b c d i inside =
-    let enough = wide.enough in
-    elim (cases_lt i (1 * width)) [
-      | inl one ↦ in_tile r place width 0 shards.a a are.a i (omega arith) one inside
-      | inr one ↦ elim (cases_lt i (2 * width)) [
-        | inl two ↦ in_tile r place width 1 shards.b b are.b i one two inside
-        | inr two ↦ elim (cases_lt i (3 * width)) [
-          | inl three ↦ in_tile r place width 2 shards.c c are.c i two three inside
-          | inr three ↦ in_tile r place width 3 shards.d d are.d i three (omega arith) inside
+covered r place cuts all shards are a b c d i inside =
+    elim (cases_lt i cuts.b) [
+      | inl one ↦ in_tile r place cuts 0 shards.a a are.a i (omega arith) one
+      | inr one ↦ elim (cases_lt i cuts.c) [
+        | inl two ↦ in_tile r place cuts 1 shards.b b are.b i one two
+        | inr two ↦ elim (cases_lt i cuts.d) [
+          | inl three ↦ in_tile r place cuts 2 shards.c c are.c i two three
+          | inr three ↦ in_tile r place cuts 3 shards.d d are.d i three inside
         ]
       ]
     ]
@@ -88,49 +89,44 @@ number_joined r tier lo mid hi phase level m n below above first second =
     ))
 
 -- the number of pairs into a tile whose child is before the place
-pub number_at : (r : Rules) (place : Place) (width k : ℕ) (s : ShardState) (n : ℕ) → spot_of s ≡ tile_at r place width k → IsGood r s
+pub number_at : (r : Rules) (place : Place) (cuts : Cuts) (k : ℕ) (s : ShardState) (n : ℕ) → spot_of s ≡ tile_at r place cuts k → IsGood r s
     → HasNoneHere r s → n ≡ pairs_in s
-    → IsNumberBefore r place.tier (min (k * width) (r.tier_size place.tier)) (min (suc k * width) (r.tier_size place.tier)) place.phase place.level n
-number_at r place width k s n same good none is =
-    subst (λ (m : ℕ). IsNumberBefore r place.tier (min (k * width) (r.tier_size place.tier)) (min (suc k * width) (r.tier_size place.tier))
+    → IsNumberBefore r place.tier (cut_at (r.tier_size place.tier) cuts k) (cut_at (r.tier_size place.tier) cuts (suc k)) place.phase place.level n
+number_at r place cuts k s n same good none is =
+    subst (λ (m : ℕ). IsNumberBefore r place.tier (cut_at (r.tier_size place.tier) cuts k) (cut_at (r.tier_size place.tier) cuts (suc k))
     place.phase place.level m) (sym is)
     (subst (λ (x : Spot). IsNumberBefore r x.tier x.lo x.hi x.phase x.level (pairs_in s)) same (number_before good none))
 
 -- the numbers of the four add up to that of the tier
-pub number_all : (r : Rules) (place : Place) (width : ℕ) → IsWide r place.tier width → (shards : Four ShardState) → AreShardsAt r place width shards
+pub number_all : (r : Rules) (place : Place) (cuts : Cuts) → AreCuts r place.tier cuts → (shards : Four ShardState) → AreShardsAt r place cuts shards
     → AreGood r shards → HaveNoneHere r shards
     → (a b c d : ℕ) → a ≡ pairs_in shards.a → b ≡ pairs_in shards.b → c ≡ pairs_in shards.c → d ≡ pairs_in shards.d
     → IsNumberBefore r place.tier 0 (r.tier_size place.tier) place.phase place.level (a + b + c + d)
-number_all r place width wide shards are good none a b c d ea eb ec ed =
+number_all r place cuts all shards are good none a b c d ea eb ec ed =
     let size = r.tier_size place.tier in
-    let enough = wide.enough in
+    let up = all.ascending in
+    let low = up.low in
+    let high = up.high in
+    let end = up.end in
     let t = place.tier in
-    let in_a = number_at r place width 0 shards.a a are.a good.a none.a ea in
-    let in_b = number_at r place width 1 shards.b b are.b good.b none.b eb in
-    let in_c = number_at r place width 2 shards.c c are.c good.c none.c ec in
-    let in_d = number_at r place width 3 shards.d d are.d good.d none.d ed in
-    let ab = number_joined r t (min (0 * width) size) (min (1 * width) size) (min (2 * width) size) place.phase place.level a b (omega arith)
-    (omega arith) in_a in_b in
-    let abc = number_joined r t (min (0 * width) size) (min (2 * width) size) (min (3 * width) size) place.phase place.level (a + b) c (omega arith)
-    (omega arith) ab in_c in
-    let all = number_joined r t (min (0 * width) size) (min (3 * width) size) (min (4 * width) size) place.phase place.level (a + b + c) d (omega arith)
-    (omega arith) abc in_d in
-    let from : min (0 * width) size ≡ 0 = omega arith in
-    let to : min (4 * width) size ≡ size = omega arith in
-    subst (λ (m : ℕ). IsNumberBefore r t 0 m place.phase place.level (a + b + c + d)) to
-    (subst (λ (m : ℕ). IsNumberBefore r t m (min (4 * width) size) place.phase place.level (a + b + c + d)) from all)
+    let in_a = number_at r place cuts 0 shards.a a are.a good.a none.a ea in
+    let in_b = number_at r place cuts 1 shards.b b are.b good.b none.b eb in
+    let in_c = number_at r place cuts 2 shards.c c are.c good.c none.c ec in
+    let in_d = number_at r place cuts 3 shards.d d are.d good.d none.d ed in
+    let ab = number_joined r t 0 cuts.b cuts.c place.phase place.level a b (omega arith) (omega arith) in_a in_b in
+    let abc = number_joined r t 0 cuts.c cuts.d place.phase place.level (a + b) c (omega arith) (omega arith) ab in_c in
+    number_joined r t 0 cuts.d size place.phase place.level (a + b + c) d (omega arith) (omega arith) abc in_d
 
 -- the parts of the four are the true table
-pub four_parts : (r : Rules) (place : Place) (width : ℕ) → IsWide r place.tier width → (shards : Four ShardState) → AreShardsAt r place width shards
+pub four_parts : (r : Rules) (place : Place) (cuts : Cuts) → AreCuts r place.tier cuts → (shards : Four ShardState) → AreShardsAt r place cuts shards
     → (none one two three four : List (Option Solved)) → none ≡ []
     → ((part : List (Option Solved)) × (one ≡ none ++ part) × (length part ≡ length shards.a.delivered) × ArePart r shards.a.tier shards.a.lo part)
     → ((part : List (Option Solved)) × (two ≡ one ++ part) × (length part ≡ length shards.b.delivered) × ArePart r shards.b.tier shards.b.lo part)
     → ((part : List (Option Solved)) × (three ≡ two ++ part) × (length part ≡ length shards.c.delivered) × ArePart r shards.c.tier shards.c.lo part)
     → ((part : List (Option Solved)) × (four ≡ three ++ part) × (length part ≡ length shards.d.delivered) × ArePart r shards.d.tier shards.d.lo part)
     → IsTrueTable r REMOTENESS place.tier four
-four_parts r place width wide shards are none one two three four empty a b c d =
+four_parts r place cuts all shards are none one two three four empty a b c d =
     let t = place.tier in
-    let enough = wide.enough in
     let lo_a = ap (λ (x : Spot). x.lo) are.a in
     let hi_a = ap (λ (x : Spot). x.hi) are.a in
     let lo_b = ap (λ (x : Spot). x.lo) are.b in
@@ -155,12 +151,12 @@ four_parts r place width wide shards are none one two three four empty a b c d =
     no_item k o e = absurd (cc)
 
 -- so are those of the two halves
-pub four_halves : (r : Rules) (place : Place) (width : ℕ) → IsWide r place.tier width → (shards : Four ShardState) → AreShardsAt r place width shards
+pub four_halves : (r : Rules) (place : Place) (cuts : Cuts) → AreCuts r place.tier cuts → (shards : Four ShardState) → AreShardsAt r place cuts shards
     → (low high all : List (Option Solved)) → AreRecordsOf r shards.a shards.b low → AreRecordsOf r shards.c shards.d high → all ≡ low ++ high
     → IsTrueTable r REMOTENESS place.tier all
-four_halves r place width wide shards are low high all l h e =
+four_halves r place cuts which shards are low high all l h e =
     let three = (l.first ++ l.second) ++ h.first in
-    four_parts r place width wide shards are [] l.first (l.first ++ l.second) three all refl
+    four_parts r place cuts which shards are [] l.first (l.first ++ l.second) three all refl
     (l.first, refl, l.first_is.long, l.first_is.are_true)
     (l.second, refl, l.second_is.long, l.second_is.are_true)
     (h.first, refl, h.first_is.long, h.first_is.are_true) (
@@ -171,19 +167,19 @@ four_halves r place width wide shards are low high all l h e =
     )
 
 -- a tile of a tier at whose place nothing is left to settle
-pub ended_at : (r : Rules) (place : Place) (width k : ℕ) (s : ShardState) → spot_of s ≡ tile_at r place width k
+pub ended_at : (r : Rules) (place : Place) (cuts : Cuts) (k : ℕ) (s : ShardState) → spot_of s ≡ tile_at r place cuts k
     → (last : Place) → last ≡ place → place.phase ≡ Ties → IsEnded s last
-ended_at r place width k s is last at ties = record {
-  last_is = at ∙ sym (spot_place r place width k s is);
+ended_at r place cuts k s is last at ties = record {
+  last_is = at ∙ sym (spot_place r place cuts k s is);
   ties = ap (λ (x : Spot). x.phase) is ∙ ties;
 }
 
 -- a shard of a tile before the first level
-pub begun_at : (r : Rules) (tier width k lo n : ℕ) (s : ShardState) → s ≡ first_state tier lo n → lo ≡ min (k * width) (r.tier_size tier)
-    → lo + n ≡ min (suc k * width) (r.tier_size tier)
-    → spot_of s ≡ tile_at r (place_at tier WinLose 0) width k
-begun_at r tier width k lo n s is from to =
+pub begun_at : (r : Rules) (tier : ℕ) (cuts : Cuts) (k lo n : ℕ) (s : ShardState) → s ≡ first_state tier lo n → lo ≡ cut_at (r.tier_size tier) cuts k
+    → lo + n ≡ cut_at (r.tier_size tier) cuts (suc k)
+    → spot_of s ≡ tile_at r (place_at tier WinLose 0) cuts k
+begun_at r tier cuts k lo n s is from to =
     let spot : ℕ → ℕ → Spot = λ l h. record { tier = tier; lo = l; hi = h; phase = WinLose; level = 0 } in
     let none : List Position = [] in
-    let end : lo + length (replicate n none) ≡ min (suc k * width) (r.tier_size tier) = ap (λ (m : ℕ). lo + m) (length-replicate n none) ∙ to in
-    ap spot_of is ∙ ap (spot lo) end ∙ ap (λ (l : ℕ). spot l (min (suc k * width) (r.tier_size tier))) from
+    let end : lo + length (replicate n none) ≡ cut_at (r.tier_size tier) cuts (suc k) = ap (λ (m : ℕ). lo + m) (length-replicate n none) ∙ to in
+    ap spot_of is ∙ ap (spot lo) end ∙ ap (λ (l : ℕ). spot l (cut_at (r.tier_size tier) cuts (suc k))) from

@@ -1,5 +1,6 @@
 pub mod Solving
 pub mod Plans
+pub mod Cuts
 pub mod Tiling
 pub mod Covered
 pub mod Blocks

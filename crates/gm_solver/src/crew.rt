@@ -80,7 +80,7 @@ struct Crew<
     gate: &'a T,
     source: &'a S,
     slots: &'a [Mutex<WorkerSlot<A, B, C, D>>],
-    ghost tiles_are: { (k : ℕ) → k < 4 → choose k A.spot B.spot C.spot D.spot ≡ tile_at G.rules job.now.level.now.place job.now.width k },
+    ghost tiles_are: { (k : ℕ) → k < 4 → choose k A.spot B.spot C.spot D.spot ≡ tile_at G.rules job.now.level.now.place job.now.cuts k },
     ghost notes_are: { A.notes ≡ job.now.level.now.notes },
     ghost size_is: { A.size ≡ job.now.notes },
 }
@@ -252,7 +252,7 @@ pub(crate) fn run_crew<
     workers: usize,
     rest: &mut Shares<A, B, C, D>,
 ) -> Result<u64, AllocError>
-    requires tiles { (k : ℕ) → k < 4 → choose k A.spot B.spot C.spot D.spot ≡ tile_at G.rules job.now.level.now.place job.now.width k }
+    requires tiles { (k : ℕ) → k < 4 → choose k A.spot B.spot C.spot D.spot ≡ tile_at G.rules job.now.level.now.place job.now.cuts k }
     requires notes { A.notes ≡ job.now.level.now.notes }
     requires size { A.size ≡ job.now.notes }
     requires workers { workers < rest.old.parts }

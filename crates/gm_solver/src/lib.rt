@@ -4,9 +4,13 @@
 #![tactic(auto)]
 
 pub mod alone;
+mod begin;
+mod by_workers;
 mod context;
 mod crew;
+mod cuts;
 pub mod error;
+mod finish;
 mod frame;
 pub mod gate;
 mod gather;

@@ -113,9 +113,9 @@ fn run_at_desks<
     requires b { IsReadyFor G.rules shards.b job.now.level.now B.spot B.notes B.base }
     requires c { IsReadyFor G.rules shards.c job.now.level.now C.spot C.notes C.base }
     requires d { IsReadyFor G.rules shards.d job.now.level.now D.spot D.notes D.base }
-    requires here { AreShardsAt G.rules job.now.level.now.place job.now.width shards }
+    requires here { AreShardsAt G.rules job.now.level.now.place job.now.cuts shards }
     requires near { job.now.level.now.place.level ≤ REMOTENESS }
-    ensures here { IfOk result (λ done. AreShardsAt G.rules job.now.level.now.place job.now.width done.0) }
+    ensures here { IfOk result (λ done. AreShardsAt G.rules job.now.level.now.place job.now.cuts done.0) }
     ensures whole { IfOk result (λ done. AreWhole G.rules done.0) }
     ensures error { IfErr result (IsError G.rules job.now.level.now.place.tier) }
 {
@@ -161,10 +161,10 @@ pub(crate) fn run_passes<
     job: &LevelJob<G>,
     shards: Four<OrderedShard<G>>,
 ) -> LevelEnd<G>
-    requires here { AreShardsAt G.rules job.now.level.now.place job.now.width shards }
+    requires here { AreShardsAt G.rules job.now.level.now.place job.now.cuts shards }
     requires none { HaveNoneHere G.rules shards }
     requires near { job.now.level.now.place.level ≤ REMOTENESS }
-    ensures here { IfOk result (λ done. AreShardsAt G.rules job.now.level.now.place job.now.width done.0) }
+    ensures here { IfOk result (λ done. AreShardsAt G.rules job.now.level.now.place job.now.cuts done.0) }
     ensures whole { IfOk result (λ done. AreWhole G.rules done.0) }
     ensures error { IfErr result (IsError G.rules job.now.level.now.place.tier) }
 {

@@ -1,9 +1,12 @@
 //! The pairs of a piece of a level, by the tiles that have their parents.
-ghost use Rattle.std.specs.Prelude.{◌≡◌, ℕ, ◌*◌, ◌<◌, ◌++◌, ◌∷◌, List, [], OnOk};
+ghost use Rattle.std.specs.Prelude.{◌≡◌, ℕ, ◌<◌, ◌++◌, ◌∷◌, List, [], OnOk};
 ghost use Rattle.gm_solver.specs.Lower.{NoteData};
 ghost use Rattle.gm_frontier.specs.Pairs.{pairs_of, piece_of};
+ghost use Rattle.gm_solver.specs.Cuts.{AreAscending};
 ghost use Rattle.gm_solver.specs.Split.{AreSplit};
+ghost use Rattle.gm_solver.specs.declared.cuts.Cuts.{Cuts as CutsData};
 
+use crate::cuts::Cuts;
 use crate::level_job::LevelJob;
 use gm_frontier::note::Note;
 use gm_game::game::Game;
@@ -24,7 +27,7 @@ pub(crate) fn empty_lists<G: Game>(alloc: Global) -> Lists<G> {
 
 // Empties the lists.
 fn clear<G: Game>(lists: &mut Lists<G>)
-    ensures { (width : ℕ) → AreSplit width [] lists.new }
+    ensures { (size : ℕ) (cuts : CutsData) → AreSplit size cuts [] lists.new }
 {
     for list in lists.iter_mut() {
         list.clear();
@@ -34,15 +37,14 @@ fn clear<G: Game>(lists: &mut Lists<G>)
 // Puts a pair into its list.
 fn put<G: Game>(
     lists: &mut Lists<G>,
-    width: u64,
+    cuts: &Cuts,
     note: Note<G>,
     parent: u64,
 ) -> Result<(), AllocError>
-    requires some { 0 < width }
-    requires within { parent < 4 * width }
-    ensures { OnOk result ((pairs : List (NoteData × ℕ)) → AreSplit width pairs lists.old → AreSplit width (pairs ++ (note, parent) ∷ []) lists.new) }
+    ensures { OnOk result ((size : ℕ) (pairs : List (NoteData × ℕ)) → AreAscending size cuts.now → parent < size
+        → AreSplit size cuts.now pairs lists.old → AreSplit size cuts.now (pairs ++ (note, parent) ∷ []) lists.new) }
 {
-    lists[(parent / width) as usize].push((note, parent))?;
+    lists[cuts.tile_of(parent)].push((note, parent))?;
     Ok(())
 }
 
@@ -52,7 +54,7 @@ pub(crate) fn split<G: Game>(
     piece: usize,
     lists: &mut Lists<G>,
 ) -> Result<(), AllocError>
-    ensures { OnOk result (AreSplit job.now.width
+    ensures { OnOk result (AreSplit (G.rules.tier_size job.now.level.now.place.tier) job.now.cuts
         (pairs_of G.rules job.now.level.now.place.tier 0 (G.rules.tier_size job.now.level.now.place.tier)
         (piece_of piece job.now.notes job.now.level.now.notes)) lists.new) }
 {
@@ -60,7 +62,7 @@ pub(crate) fn split<G: Game>(
     let level = job.level;
     let size = G::tier_size(level.place().tier);
     for (note, parent) in level.pairs(piece, job.notes, 0, size) {
-        put(lists, job.width, note, parent)?;
+        put(lists, &job.cuts, note, parent)?;
     }
     Ok(())
 }

@@ -59,8 +59,16 @@ impl Packed {
         ensures ok { OnOk result (self.new ≡ self.old ++ known ∷ []) }
         ensures err { OnErr result (self.new ≡ self.old) }
     {
-        self.numbers.push(number_of(known))?;
-        Ok(())
+        self.push_number(number_of(known))
+    }
+
+    /// Adds the record with this number at the end. If memory is refused, the records are unchanged.
+    #[inline(always)]
+    pub fn push_number(&mut self, number: u32) -> Result<(), AllocError>
+        ensures ok { OnOk result (self.new ≡ self.old ++ unpacked number ∷ []) }
+        ensures err { OnErr result (self.new ≡ self.old) }
+    {
+        self.numbers.push(number)
     }
 
     /// Adds other records at the end. If memory is refused, the records are unchanged.
@@ -131,6 +139,16 @@ impl Packed {
         unpacked(self.numbers.get(index)?)
     }
 
+    /// Returns the number of the record at an index, as a tier file of version 2 has it; 0 past the end.
+    pub(crate) fn number(&self, index: usize) -> u32
+        ensures { result ≡ record_number Two (record_at self.now index) }
+    {
+        match self.numbers.get(index) {
+            Some(number) => stored(number),
+            None => 0,
+        }
+    }
+
     /// Returns the word of the record at an index; 0 past the end.
     pub(crate) fn word(&self, index: usize) -> u64
         ensures { record_of_word result ≡ record_at self.now index }
@@ -152,6 +170,17 @@ pub fn number_of(known: Option<Solved>) -> u32
     match known {
         None => 0,
         Some(solved) => code_of(solved.value) * STEP + solved.remoteness,
+    }
+}
+
+// Returns the number of the record with this number: that of no record, or of a win, has several.
+fn stored(number: u32) -> u32
+    ensures { result ≡ record_number Two (unpacked number) }
+{
+    match number / STEP {
+        0 => 0,
+        1 | 2 | 3 => number,
+        _ => 4 * STEP + number % STEP,
     }
 }
 

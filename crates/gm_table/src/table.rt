@@ -2,7 +2,9 @@
 ghost use Rattle.std.specs.Prelude.{◌≡◌, ◌≤◌, length, IfOk, IfSome};
 ghost use Rattle.gm_table.specs.Lower.{at, IsTrueValue, IsTrueTable, IsRecord};
 ghost use Rattle.gm_table.specs.Levels.{IsGreatest};
+ghost use Rattle.gm_table.specs.RecordCodes.{record_number};
 ghost use Rattle.gm_table.specs.Words.{record_of_word};
+ghost use Rattle.gm_table.specs.declared.version.Version.TheVariants.{Two};
 
 use crate::outline::Outline;
 use crate::packed::Packed;
@@ -117,6 +119,13 @@ impl<G: Game> Table<G> {
         ensures table { IsTable G.rules self.now }
     {
         self.records.get(index as usize)
+    }
+
+    /// Returns the number of the record at an index, as a tier file of version 2 has it; 0 for an index without a record.
+    pub fn number(&self, index: u64) -> u32
+        ensures { result ≡ record_number Two (record_at self.now.records index) }
+    {
+        self.records.number(index as usize)
     }
 
     /// Returns the word of the record at an index, without a branch; 0 for an index without a record.

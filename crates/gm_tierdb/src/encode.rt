@@ -3,6 +3,8 @@ ghost use Rattle.std.specs.Prelude.{◌≡◌, ◌↔◌, ◌≤◌, ◌++◌, I
 ghost use Rattle.std.specs.List.{flat_map};
 ghost use Rattle.std.specs.Int.{to_le_bytes, w64};
 ghost use Rattle.gm_table.specs.RecordCodes.{record_bytes, IsStorable};
+ghost use Rattle.gm_table.specs.Tables.{record_at};
+ghost use Rattle.gm_table.specs.declared.version.Version.TheVariants.{One};
 ghost use Rattle.gm_tierdb.specs.TierText.{IsTierText, IsTierText1, IsVersionText, AreUpTo, IsFor};
 
 use crate::layout::{DIGEST_LEN, HEADER_LEN};
@@ -102,25 +104,34 @@ fn push_records<G: Game>(
     ensures { OnOk result (file.new.items ≡ file.old.items ++ flat_map (record_bytes version) table.now.records) }
 {
     for index in 0..table.size() {
-        push_record(file, version, table.at(index))?;
+        push_record(file, version, table, index)?;
     }
     Ok(())
 }
 
-// Appends a record.
-fn push_record(
+// Appends the record of an index.
+fn push_record<G: Game>(
     file: &mut Vec<u8>,
     version: Version,
-    entry: Option<Solved>,
+    table: &Table<G>,
+    index: u64,
 ) -> Result<(), AllocError>
-    requires { IsStorable version entry }
-    ensures { OnOk result (file.new.items ≡ file.old.items ++ record_bytes version entry) }
+    requires { IsStorable version (record_at table.now.records index) }
+    ensures { OnOk result (file.new.items ≡ file.old.items ++ record_bytes version (record_at table.now.records index)) }
 {
-    let number = number_of(version, entry);
     match version {
-        Version::One => file.extend_from_slice(&(number as u16).to_le_bytes()),
-        Version::Two => file.extend_from_slice(&number.to_le_bytes()),
+        Version::One => push_short(file, table.at(index)),
+        Version::Two => file.extend_from_slice(&table.number(index).to_le_bytes()),
     }
+}
+
+// Appends a record of version 1.
+fn push_short(file: &mut Vec<u8>, entry: Option<Solved>) -> Result<(), AllocError>
+    requires { IsStorable One entry }
+    ensures { OnOk result (file.new.items ≡ file.old.items ++ record_bytes One entry) }
+{
+    let number = number_of(Version::One, entry);
+    file.extend_from_slice(&(number as u16).to_le_bytes())
 }
 
 // Appends a number of eight bytes.

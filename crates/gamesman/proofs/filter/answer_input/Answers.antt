@@ -1,5 +1,7 @@
 use Rattle.std.proofs.Common.{List, [], ℕ, Option, refl, subst}
-use Rattle.gamesman.specs.Filters.{IsFilterText, IsOfNone, AreLinesAnswered}
+use Rattle.gamesman.specs.Games.{game_spec}
+use Rattle.gamesman.specs.Texts.{IsTextFor}
+use Rattle.gamesman.specs.Filters.{IsOfNone, AreLinesAnswered}
 use Rattle.gamesman.proofs.Filtering.{begins, stopped, fresh_reader}
 use Rattle.gamesman.proofs.filter.answer_input.Goals as goal
 
@@ -8,11 +10,12 @@ returns-in-Ok g c =
     let r = g.G.Game.rules in
     let shown = g.G.Shown.shown in
     let move_shown = g.G.Shown.move_shown in
-    subst (λ (o : Option (List ℕ)). AreLinesAnswered (IsFilterText r shown move_shown c.args.asked) (IsOfNone r shown move_shown) o
+    let IsText = IsTextFor (game_spec r shown move_shown g.G.Pictured.picture) c.args.question in
+    subst (λ (o : Option (List ℕ)). AreLinesAnswered IsText (IsOfNone r shown move_shown) o
     (g.O.Write.contents c.args.output.now) (g.O.Write.contents c.answer_lines.new.output) c.answer_lines.result)
     (fresh_reader (λ x. g.I.Read.remaining x.now) c.in-Ok.reader _ c.in-Ok.ensures.capacity c.in-Ok.ensures.empty c.in-Ok.ensures.inner) c.answer_lines.ensures
 
 pub returns-in-Err : goal.returns-in-Err
 returns-in-Err g c =
-    let IsText = IsFilterText g.G.Game.rules g.G.Shown.shown g.G.Shown.move_shown c.args.asked in
+    let IsText = IsTextFor (game_spec g.G.Game.rules g.G.Shown.shown g.G.Shown.move_shown g.G.Pictured.picture) c.args.question in
     stopped IsText 1 [] _ _ _ _ (begins IsText _ _ 1 [] refl refl)

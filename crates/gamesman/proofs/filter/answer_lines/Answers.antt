@@ -5,13 +5,15 @@ use Rattle.std.specs.Io.KnownBytes.{Appends}
 use Rattle.std.proofs.lemmas.Result.{err_from_is_err_and}
 use Rattle.gm_play.specs.Dialogue.{without_return}
 use Rattle.gm_json.specs.Asking.{kept_bytes}
-use Rattle.gamesman.specs.Filters.{IsFilterText, IsOfNone, IsLineFault}
+use Rattle.gamesman.specs.Games.{game_spec}
+use Rattle.gamesman.specs.Texts.{IsTextFor}
+use Rattle.gamesman.specs.Filters.{IsOfNone, IsLineFault}
 use Rattle.gamesman.proofs.Filtering.{Amid, begins, one_byte, byte_kept, byte_past, line_done, line_fails, all_done, last_done, last_fails}
 use Rattle.gamesman.proofs.filter.answer_lines.Goals as goal
 
 pub loop-byte-init : goal.loop-byte-init
 loop-byte-init g c =
-    let IsText = IsFilterText g.G.Game.rules g.G.Shown.shown g.G.Shown.move_shown c.args.asked in
+    let IsText = IsTextFor (game_spec g.G.Game.rules g.G.Shown.shown g.G.Shown.move_shown g.G.Pictured.picture) c.args.question in
     let all : bytes_remaining g.I.Read.remaining c.into_iter-byte-iterator.result ≡ g.I.Read.remaining c.args.reader =
     ap (bytes_remaining g.I.Read.remaining) c.into_iter-byte-iterator.ensures.into_iter_gives ∙ c.bytes-byte-items.ensures in
     subst (λ (o : Option (List ℕ)). Amid IsText 1 c.new-line.result.items (g.I.Read.remaining c.args.reader) o (g.O.Write.contents c.args.output.now)
@@ -19,7 +21,7 @@ loop-byte-init g c =
 
 pub loop-byte-preserved-then-byte-eq10 : goal.loop-byte-preserved-then-byte-eq10
 loop-byte-preserved-then-byte-eq10 g c =
-    let IsText = IsFilterText g.G.Game.rules g.G.Shown.shown g.G.Shown.move_shown c.args.asked in
+    let IsText = IsTextFor (game_spec g.G.Game.rules g.G.Shown.shown g.G.Shown.move_shown g.G.Pictured.picture) c.args.question in
     let b = c.in-Ok.byte in
     let here : (b == 10) ≡ true = search rules in
     let w1 = g.O.Write.contents c.loop-byte.output in
@@ -31,7 +33,7 @@ loop-byte-preserved-then-byte-eq10 g c =
 
 pub loop-byte-preserved-then-not-is_full : goal.loop-byte-preserved-then-not-is_full
 loop-byte-preserved-then-not-is_full g c =
-    let IsText = IsFilterText g.G.Game.rules g.G.Shown.shown g.G.Shown.move_shown c.args.asked in
+    let IsText = IsTextFor (game_spec g.G.Game.rules g.G.Shown.shown g.G.Shown.move_shown g.G.Pictured.picture) c.args.question in
     let b = c.in-Ok.byte in
     let kept = c.loop-byte.line.items in
     let other : (b == 10) ≡ false = search rules in
@@ -42,7 +44,7 @@ loop-byte-preserved-then-not-is_full g c =
 
 pub loop-byte-preserved : goal.loop-byte-preserved
 loop-byte-preserved g c =
-    let IsText = IsFilterText g.G.Game.rules g.G.Shown.shown g.G.Shown.move_shown c.args.asked in
+    let IsText = IsTextFor (game_spec g.G.Game.rules g.G.Shown.shown g.G.Shown.move_shown g.G.Pictured.picture) c.args.question in
     let b = c.in-Ok.byte in
     let kept = c.loop-byte.line.items in
     let other : (b == 10) ≡ false = search rules in
@@ -52,7 +54,7 @@ loop-byte-preserved g c =
 
 pub returns-in_err-answer_line : goal.returns-in_err-answer_line
 returns-in_err-answer_line g c =
-    let IsText = IsFilterText g.G.Game.rules g.G.Shown.shown g.G.Shown.move_shown c.args.asked in
+    let IsText = IsTextFor (game_spec g.G.Game.rules g.G.Shown.shown g.G.Shown.move_shown g.G.Pictured.picture) c.args.question in
     let IsNone = IsOfNone g.G.Game.rules g.G.Shown.shown g.G.Shown.move_shown in
     let b = c.in-Ok.byte in
     let here : (b == 10) ≡ true = search rules in
@@ -67,7 +69,7 @@ returns-in_err-answer_line g c =
 
 pub returns-in_err-answer_line-2 : goal.returns-in_err-answer_line-2
 returns-in_err-answer_line-2 g c =
-    let IsText = IsFilterText g.G.Game.rules g.G.Shown.shown g.G.Shown.move_shown c.args.asked in
+    let IsText = IsTextFor (game_spec g.G.Game.rules g.G.Shown.shown g.G.Shown.move_shown g.G.Pictured.picture) c.args.question in
     let IsNone = IsOfNone g.G.Game.rules g.G.Shown.shown g.G.Shown.move_shown in
     let kept = c.loop-byte.line.items in
     let some : 0 < length kept = grind (arith, c.is_empty.ensures, c.if-not-is_empty.true) in
@@ -82,7 +84,7 @@ returns-in_err-answer_line-2 g c =
 
 pub returns-in_ok-answer_line-2 : goal.returns-in_ok-answer_line-2
 returns-in_ok-answer_line-2 g c =
-    let IsText = IsFilterText g.G.Game.rules g.G.Shown.shown g.G.Shown.move_shown c.args.asked in
+    let IsText = IsTextFor (game_spec g.G.Game.rules g.G.Shown.shown g.G.Shown.move_shown g.G.Pictured.picture) c.args.question in
     let kept = c.loop-byte.line.items in
     let some : 0 < length kept = grind (arith, c.is_empty.ensures, c.if-not-is_empty.true) in
     let w1 = g.O.Write.contents c.loop-byte.output in
@@ -95,7 +97,7 @@ returns-in_ok-answer_line-2 g c =
 
 pub returns-else-not-is_empty : goal.returns-else-not-is_empty
 returns-else-not-is_empty g c =
-    let IsText = IsFilterText g.G.Game.rules g.G.Shown.shown g.G.Shown.move_shown c.args.asked in
+    let IsText = IsTextFor (game_spec g.G.Game.rules g.G.Shown.shown g.G.Shown.move_shown g.G.Pictured.picture) c.args.question in
     let kept = c.loop-byte.line.items in
     let none : length kept ≡ 0 = grind (arith, c.is_empty.ensures, c.if-not-is_empty.false) in
     (refl, all_done IsText c.loop-byte.number kept _ _ _ _ c.loop-byte.invariant c.in-None.ensures.steps none)

@@ -1,9 +1,10 @@
 use Rattle.std.specs.Io.Iter.{bytes_remaining}
-use Rattle.gamesman.specs.Filters.{IsFilterText}
+use Rattle.gamesman.specs.Games.{game_spec}
+use Rattle.gamesman.specs.Texts.{IsTextFor}
 use Rattle.gamesman.proofs.Filtering.{Amid}
 use Rattle.gamesman.proofs.filter.answer_lines.Given as goal
 
 abbrev pub invariant-loop-byte : goal.invariant-loop-byte
 invariant-loop-byte g l =
-    Amid (IsFilterText g.G.Game.rules g.G.Shown.shown g.G.Shown.move_shown l.asked) l.number l.line.items (g.I.Read.remaining l.fn.reader)
-    (bytes_remaining g.I.Read.remaining l.byte-iterator) (g.O.Write.contents l.fn.output) (g.O.Write.contents l.output)
+    Amid (IsTextFor (game_spec g.G.Game.rules g.G.Shown.shown g.G.Shown.move_shown g.G.Pictured.picture) l.question) l.number
+    l.line.items (g.I.Read.remaining l.fn.reader) (bytes_remaining g.I.Read.remaining l.byte-iterator) (g.O.Write.contents l.fn.output) (g.O.Write.contents l.output)

@@ -1,16 +1,20 @@
-use Rattle.std.proofs.Common.{false}
+use Rattle.std.proofs.Common.{Option, List, ℕ, false, subst}
 use Rattle.std.proofs.lemmas.Result.{err_from_is_err_and}
+use Rattle.std.specs.Io.KnownBytes.{Appends}
+use Rattle.gm_play.specs.Sessions.{AppendsPart}
 use Rattle.gamesman.specs.Listing.{listed, listed_later}
+use Rattle.gamesman.specs.Told.{IsPut}
 use Rattle.gamesman.proofs.Fronts.{put_after, part_listed}
 use Rattle.gamesman.proofs.run.list.Goals as goal
 
 pub returns-in_err-put : goal.returns-in_err-put
 returns-in_err-put g c =
+    let start = g.O.Write.contents c.args.output.now in
+    let mid = g.O.Write.contents c.put.new.output in
     let q = err_from_is_err_and c.from_residual.result c.from_residual.ensures.1 in
     rw (q.1, q.2) (
       c.in_err-put.ensures.fault,
-      part_listed c.args.all (g.O.Write.contents c.args.output.now) (g.O.Write.contents c.put.new.output)
-          c.in_err-put.ensures.err,
+      part_listed c.args.all start mid (subst (AppendsPart start mid) c.as_bytes.ensures.value c.in_err-put.ensures.err),
     )
 
 pub returns-then-all : goal.returns-then-all
@@ -18,4 +22,6 @@ returns-then-all g c =
     let start = g.O.Write.contents c.args.output.now in
     let mid = g.O.Write.contents c.put.new.output in
     let end = g.O.Write.contents c.put_all.new.output in
-    rw c.if-all.true (put_after start mid end (listed false) listed_later c.put_all.result c.in_ok-put.ensures.ok c.put_all.ensures)
+    let first = subst (Appends start mid) c.as_bytes.ensures.value c.in_ok-put.ensures.ok in
+    let later = subst (λ (text : List ℕ). IsPut text mid end c.put_all.result) c.as_bytes-then-all.ensures.value c.put_all.ensures in
+    rw c.if-all.true (put_after start mid end (listed false) listed_later c.put_all.result first later)

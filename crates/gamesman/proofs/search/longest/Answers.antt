@@ -1,13 +1,13 @@
-use Rattle.std.proofs.Common.{List, ℕ, subst}
-use Rattle.std.specs.List.{Contains}
-use Rattle.gamesman.proofs.Reached.{order_held}
+use Rattle.std.proofs.Common.{None, inr}
+use Rattle.std.proofs.lemmas.Result.{err_from_is_err_and}
+use Rattle.gamesman.specs.Searches.{IsLongestOf, IsUnsearched}
+use Rattle.gamesman.proofs.Telling.{unbuilt_told}
 use Rattle.gamesman.proofs.search.longest.Goals as goal
 
-pub invariant_of-known : goal.invariant_of-known
-invariant_of-known g c =
+pub returns-in_err-built : goal.returns-in_err-built
+returns-in_err-built g c =
     let r = g.G.Game.rules in
-    let built = c.args.built.now in
-    record {
-      held = λ tier has. order_held r built.tables built.order r.initial.tier c.requires.order c.requires.held tier
-          (subst (λ (ts : List ℕ). Contains ts tier) c.tiers.ensures.value has);
-    }
+    let q = err_from_is_err_and c.from_residual.result c.from_residual.ensures.1 in
+    let is = c.in_err-built.ensures.unbuilt in
+    rw (q.1, q.2) (unbuilt_told (IsLongestOf r g.G.Shown.shown g.G.Shown.move_shown c.args.reached c.args.limit) _ (IsUnsearched r None)
+    c.in_err-built.field-0.0 (inr is) r r.initial.tier is)

@@ -1,11 +1,12 @@
 use Rattle.std.proofs.Common.{◌≡◌, ◌-◌, ◌≤◌, take, drop}
-use Rattle.gm_locks.proofs.Lower.{spot_of, AreFirst, AreNew}
+use Rattle.gm_locks.proofs.Lower.{spot_of, AreFirst, AreNew, piece_pairs}
 use Rattle.gm_locks.proofs.piece.deliver_from.Given as goal
 
 abbrev pub invariant-loop-k : goal.invariant-loop-k
 invariant-loop-k g l = record {
   order : l.from ≤ l.k;
   spot : spot_of l.shard ≡ g.L.ShardLedger.spot;
-  first : AreFirst l.pairs l.shard l.k;
-  run : AreNew g.G.Game.rules (take (l.k - l.from) (drop l.from l.pairs)) l.fn.shard l.shard;
+  first : AreFirst (piece_pairs g.G.Game.rules g.L.ShardLedger.spot g.L.PassLedger.notes g.L.PieceLedger.size l.piece) l.shard l.k;
+  run : AreNew g.G.Game.rules (take (l.k - l.from) (drop l.from (piece_pairs g.G.Game.rules g.L.ShardLedger.spot g.L.PassLedger.notes g.L.PieceLedger.size
+      l.piece))) l.fn.shard l.shard;
 }

@@ -8,4 +8,4 @@ invariant-loop-note g l =
     (done : List (NoteData × ℕ))
     × (done ++ l.note-iterator ≡ pairs_of g.G.Game.rules l.job.level.now.place.tier 0 (g.G.Game.rules.tier_size l.job.level.now.place.tier)
     (piece_of l.piece l.job.notes l.job.level.now.notes))
-    × AreSplit l.job.width done l.lists
+    × AreSplit (g.G.Game.rules.tier_size l.job.level.now.place.tier) l.job.cuts done l.lists

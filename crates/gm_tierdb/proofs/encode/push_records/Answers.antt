@@ -2,20 +2,19 @@ use Rattle.std.proofs.Common.{◌++◌, ◌∙◌, ap, sym, subst, append-nil, a
 use Rattle.std.specs.List.{flat_map}
 use Rattle.std.proofs.lemmas.List.{take_all}
 use Rattle.std.proofs.lemmas.Result.{IfOk-from_err}
-use Rattle.gm_table.specs.RecordCodes.{record_bytes, IsStorable}
+use Rattle.gm_table.specs.RecordCodes.{record_bytes}
+use Rattle.gm_table.specs.Tables.{record_at}
 use Rattle.gm_tierdb.proofs.RecordLemmas.{one_more, storable_at}
 use Rattle.gm_tierdb.proofs.encode.push_records.Goals as goal
 
 pub push_record-requires : goal.push_record-requires
 push_record-requires g c =
-    let v = c.args.version in
-    let records = c.args.table.now.records in
-    subst (IsStorable v) (sym c.at.ensures.value) (storable_at v records c.loop-index.index (omega (arith, c.size-index-end.ensures.value)) c.requires)
+    storable_at c.args.version c.args.table.now.records c.loop-index.index (omega (arith, c.size-index-end.ensures.value)) c.requires
 
 pub loop-index-preserved : goal.loop-index-preserved
 loop-index-preserved g c =
     let v = c.args.version in
-    c.in_ok-push_record.ensures ∙ (λ i. c.loop-index.invariant i ++ record_bytes v (c.at.ensures.value i))
+    c.in_ok-push_record.ensures ∙ ap (λ l. l ++ record_bytes v (record_at c.args.table.now.records c.loop-index.index)) c.loop-index.invariant
     ∙ one_more v c.args.file.now.items c.args.table.now.records c.loop-index.index (omega (arith, c.size-index-end.ensures.value))
 
 pub loop-index-init : goal.loop-index-init

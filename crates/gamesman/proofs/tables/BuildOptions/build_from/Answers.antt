@@ -4,7 +4,6 @@ use Rattle.gamesman.specs.declared.fault.Fault.TheVariants.{OutOfMemory}
 use Rattle.gamesman.specs.Refusals.{IsUnbuilt}
 use Rattle.gamesman.proofs.Cut.{passed, reason_unbuilt}
 use Rattle.gamesman.proofs.tables.BuildOptions.build_from.Goals as goal
-use Rattle.gamesman.proofs.tables.BuildOptions.build_from.Goals.{in-Ok, in-Err}
 
 pub returns-in_err-shelf-clause-unbuilt : goal.returns-in_err-shelf-clause-unbuilt
 returns-in_err-shelf-clause-unbuilt g c =
@@ -21,8 +20,6 @@ returns-in-Some-clause-unbuilt g c =
     let has : Contains c.tiers.result.now c.in-Some.tier = rw c.in-Some.is at c.in_ok-anothers.ensures.among in
     (c.in_ok-order.ensures.order.each c.in-Some.tier).0 (subst (λ (l : List ℕ). Contains l c.in-Some.tier) c.tiers.ensures.value has)
 
-pub returns-clause-unbuilt : goal.returns-clause-unbuilt
-returns-clause-unbuilt g c = elim c.match-built.branch [
-  | in-Ok w ↦ rw w.result-is tt
-  | in-Err w ↦ rw (w.result-is, w.why_not.ensures) (reason_unbuilt g.G.Game.rules c.args.first w.in-Err.error _ w.in-Err.ensures.error)
-]
+pub returns-in-Err-clause-unbuilt : goal.returns-in-Err-clause-unbuilt
+returns-in-Err-clause-unbuilt g c =
+    rw c.why_not.ensures (reason_unbuilt g.G.Game.rules c.args.first c.in-Err.error _ c.in-Err.ensures.error)

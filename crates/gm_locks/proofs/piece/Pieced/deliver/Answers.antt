@@ -1,19 +1,11 @@
-use Rattle.std.proofs.Common.{◌-◌, ◌<◌, ◌≤◌, ◌==◌, length, set, refl, subst, arith, Result, Ok, Err}
-use Rattle.gm_locks.proofs.Lower.{IsOk, get_or_read, Refused, TooFar, PiecedData, IsTurnAt}
+use Rattle.std.proofs.Common.{◌-◌, ◌<◌, ◌≤◌, ◌==◌, ℕ, List, length, set, refl, sym, ap, arith, Result, Ok, Err}
+use Rattle.gm_locks.proofs.Lower.{IsOk, get_or_read, NoteData, Refused, TooFar, PiecedData, IsTurnAt}
 use Rattle.gm_locks.proofs.PieceLemmas.{turned_at}
 use Rattle.gm_locks.proofs.piece.Pieced.deliver.Given.{Over}
 use Rattle.gm_locks.proofs.piece.Pieced.deliver.Goals.{After-range-after}
 use Rattle.gm_locks.proofs.piece.Pieced.deliver.Goals as goal
 
--- the contents of the lock before and after
-abbrev old : (g : Over) → After-range-after g → PiecedData
-old g c = record {
-  shard = c.self.inside.shard;
-  counts = c.self.inside.counts.items;
-  whole = c.self.inside.whole.items;
-  book = c.self.inside.book.total;
-}
-
+-- the contents of the lock afterwards
 abbrev new : (g : Over) → After-range-after g → PiecedData
 new g c = record {
   shard = c.deliver_from-next.new.shard;
@@ -24,16 +16,16 @@ new g c = record {
 
 turn : (g : Over) (c : After-range-after g) (answer : Result (Unit {0}) Refused) → (IsOk answer → c.max-end.result ≤ c.deliver_from-next.result)
     → IsTurnAt g.G.Game.rules g.L.ShardLedger.spot g.L.PassLedger.notes g.L.PieceLedger.size g.L.PassLedger.base c.args.piece c.args.to
-    (c.deliver_from-next.result - c.index-from.result.now) answer (old g c) (new g c)
+    (c.deliver_from-next.result - c.index-from.result.now) answer c.args.self.now (new g c)
 turn g c answer done =
     let next = c.deliver_from-next in
     let h = c.self.invariant in
     let within : c.args.piece < length c.self.inside.counts.items = (let a = h.many in let b = c.requires.piece in omega arith) in
     let begin = get_or_read c.self.inside.counts.items c.args.piece c.index-from.result.now within c.index-from.ensures 0 in
-    turned_at g.G.Game.rules g.met.G.Game.lawful g.L.ShardLedger.spot g.L.PassLedger.notes h.level g.L.PieceLedger.size g.L.PassLedger.base (old g c) (new g c)
-    c.args.pairs.now c.args.piece c.index-from.result.now c.args.to c.max-end.result next.result answer h
-    c.range-before.ensures.good c.range-after.ensures.good c.requires.piece c.requires.pairs begin c.max-end.ensures next.ensures.order next.ensures.most
-    next.ensures.run next.ensures.first refl refl c.raise.ensures.book done
+    let bits = ap (λ (ps : List (NoteData × ℕ)). set c.self.inside.whole.items c.args.piece (next.result == length ps)) c.requires.pairs in
+    rw (sym c.self.view_is) (turned_at g.met.G.Game.lawful (new g c) h c.args.piece c.index-from.result.now next.result c.requires.piece begin
+    next.ensures.order next.ensures.run next.ensures.first refl bits c.raise.ensures.book c.args.to c.max-end.result answer c.range-before.ensures.good
+    c.range-after.ensures.good c.max-end.ensures next.ensures.most done)
 
 pub invariant_of-self : goal.invariant_of-self
 invariant_of-self g c = (turn g (goal.at.invariant_of-self g c).After-range-after (Err TooFar) (λ ok. absurd (cc))).new_kept
@@ -43,18 +35,10 @@ invariant_of-self-2 g c = (turn g (goal.at.invariant_of-self-2 g c).After-range-
 
 pub returns-then-next-end-clause-turn : goal.returns-then-next-end-clause-turn
 returns-then-next-end-clause-turn g c =
-    let at = (goal.at.returns-then-next-end-clause-turn g c).After-range-after in (
-      c.deliver_from-next.result - c.index-from.result.now,
-      subst (λ (d : PiecedData). IsTurnAt g.G.Game.rules g.L.ShardLedger.spot g.L.PassLedger.notes g.L.PieceLedger.size g.L.PassLedger.base c.args.piece
-          c.args.to (c.deliver_from-next.result - c.index-from.result.now) (Err TooFar) d (new g at)) c.self.view_is (turn g at (Err TooFar) (λ ok. absurd (cc))),
-      c.raise.ensures.share,
-    )
+    let turned = turn g (goal.at.returns-then-next-end-clause-turn g c).After-range-after (Err TooFar) (λ ok. absurd (cc)) in
+    (c.deliver_from-next.result - c.index-from.result.now, turned, c.raise.ensures.share)
 
 pub returns-clause-turn : goal.returns-clause-turn
 returns-clause-turn g c =
-    let at = (goal.at.returns-clause-turn g c).After-range-after in (
-      c.deliver_from-next.result - c.index-from.result.now,
-      subst (λ (d : PiecedData). IsTurnAt g.G.Game.rules g.L.ShardLedger.spot g.L.PassLedger.notes g.L.PieceLedger.size g.L.PassLedger.base c.args.piece
-          c.args.to (c.deliver_from-next.result - c.index-from.result.now) (Ok tt) d (new g at)) c.self.view_is (turn g at (Ok tt) (λ ok. c.if-next-end.false)),
-      c.raise.ensures.share,
-    )
+    let turned = turn g (goal.at.returns-clause-turn g c).After-range-after (Ok tt) (λ ok. c.if-next-end.false) in
+    (c.deliver_from-next.result - c.index-from.result.now, turned, c.raise.ensures.share)

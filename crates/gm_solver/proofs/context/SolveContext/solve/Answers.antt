@@ -7,25 +7,10 @@ pub finish_levels-requires-clause-held : goal.finish_levels-requires-clause-held
 finish_levels-requires-clause-held g c κs bounds = subst (AreHeld g.G.Game.rules c.args.self.now.tables.now)
     (sym (ap (λ (p : Place). p.tier) c.in_ok-tiles.ensures)) c.requires.held
 
-pub finish_levels-requires-clause-small : goal.finish_levels-requires-clause-small
-finish_levels-requires-clause-small g c κs bounds = subst (λ (t : ℕ). g.G.Game.rules.tier_size t ≤ TIER_SIZE)
-    (sym (ap (λ (p : Place). p.tier) c.in_ok-tiles.ensures)) c.requires.small
-
-pub finish_levels-requires-clause-near : goal.finish_levels-requires-clause-near
-finish_levels-requires-clause-near g c κs bounds = subst (λ (n : ℕ). n ≤ REMOTENESS + 1) (sym (ap (λ (p : Place). p.level) c.in_ok-tiles.ensures)) (omega arith)
-
 pub finish_levels-requires-2-clause-held : goal.finish_levels-requires-2-clause-held
 finish_levels-requires-2-clause-held g c κs bounds = subst (AreHeld g.G.Game.rules c.args.self.now.tables.now)
     (sym (ap (λ (p : Place). p.tier) c.next_phase.ensures ∙ c.in_ok-tiles-2.ensures.later.tier ∙ ap (λ (p : Place). p.tier) c.in_ok-tiles.ensures))
     c.requires.held
-
-pub finish_levels-requires-2-clause-small : goal.finish_levels-requires-2-clause-small
-finish_levels-requires-2-clause-small g c κs bounds = subst (λ (t : ℕ). g.G.Game.rules.tier_size t ≤ TIER_SIZE)
-    (sym (ap (λ (p : Place). p.tier) c.next_phase.ensures ∙ c.in_ok-tiles-2.ensures.later.tier ∙ ap (λ (p : Place). p.tier) c.in_ok-tiles.ensures))
-    c.requires.small
-
-pub finish_levels-requires-2-clause-near : goal.finish_levels-requires-2-clause-near
-finish_levels-requires-2-clause-near g c κs bounds = subst (λ (n : ℕ). n ≤ REMOTENESS + 1) (sym (ap (λ (p : Place). p.level) c.next_phase.ensures)) (omega arith)
 
 pub returns-in_err-tiles-clause-error : goal.returns-in_err-tiles-clause-error
 returns-in_err-tiles-clause-error g c =

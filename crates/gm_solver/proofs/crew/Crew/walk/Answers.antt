@@ -14,6 +14,6 @@ deliver-requires-clause-pairs g c κs bounds =
     let at : slice_get lists k ≡ Some list =
     slice_get-get_or lists k list inside ∙ ap (λ (v : Vec (NoteData × ℕ) Global). Some v) (sym c.index-lists-shard.is) in
     c.as_slice.ensures.value ∙ ap (λ (v : Vec (NoteData × ℕ) Global). v.items) (sym c.index-lists-shard.is)
-    ∙ list_is g.G.Game.rules p.level.now.place p.width p.notes c.args.piece k g.A.PieceLedger.size g.A.PassLedger.notes p.level.now.notes lists list
-    (choose k g.A.ShardLedger.spot g.B.ShardLedger.spot g.C.ShardLedger.spot g.D.ShardLedger.spot) p.wide.some c.in_ok-split.ensures at
+    ∙ list_is g.G.Game.rules p.level.now.place p.cuts p.notes c.args.piece k g.A.PieceLedger.size g.A.PassLedger.notes p.level.now.notes lists list
+    (choose k g.A.ShardLedger.spot g.B.ShardLedger.spot g.C.ShardLedger.spot g.D.ShardLedger.spot) p.cuts_are.ascending c.loop-shard-test.true c.in_ok-split.ensures at
     (s.tiles_are k c.loop-shard-test.true) s.notes_are s.size_is

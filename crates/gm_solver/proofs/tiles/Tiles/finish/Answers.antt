@@ -10,7 +10,7 @@ returns g c =
     let s = c.args.self in
     IfOk-weaker c.joined.result _ (IsTrueTable r REMOTENESS s.shards.a.tier)
     (λ all (p, q, low, high, e).
-    four_halves r (place_of s.shards.a) s.width s.wide s.shards s.shards_are p q all
+    four_halves r (place_of s.shards.a) s.cuts s.cuts_are s.shards s.shards_are p q all
     (IfOk-at_ok (AreRecordsOf r s.shards.a s.shards.b) low c.join-low.ensures.first)
     (IfOk-at_ok (AreRecordsOf r s.shards.c s.shards.d) high c.join-low.ensures.second) e)
     c.joined.ensures

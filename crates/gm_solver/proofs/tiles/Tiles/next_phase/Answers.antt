@@ -10,12 +10,13 @@ invariant_of-self g c =
     let place = place_of s.shards.a in
     let good = c.show_good.ensures in
     record {
-      wide = search rules;
+      cuts_are = search rules;
       shards_are = search rules;
+      near = search rules;
       none_are = record {
-        a = turned_none r s.shards.a c.next_phase.new.self place s.width 0 c.next_phase.ensures good.a s.shards_are.a c.requires.phase;
-        b = turned_none r s.shards.b c.next_phase-2.new.self place s.width 1 c.next_phase-2.ensures good.b s.shards_are.b c.requires.phase;
-        c = turned_none r s.shards.c c.next_phase-3.new.self place s.width 2 c.next_phase-3.ensures good.c s.shards_are.c c.requires.phase;
-        d = turned_none r s.shards.d c.next_phase-4.new.self place s.width 3 c.next_phase-4.ensures good.d s.shards_are.d c.requires.phase;
+        a = turned_none r s.shards.a c.next_phase.new.self place s.cuts 0 c.next_phase.ensures good.a s.shards_are.a c.requires.phase;
+        b = turned_none r s.shards.b c.next_phase-2.new.self place s.cuts 1 c.next_phase-2.ensures good.b s.shards_are.b c.requires.phase;
+        c = turned_none r s.shards.c c.next_phase-3.new.self place s.cuts 2 c.next_phase-3.ensures good.c s.shards_are.c c.requires.phase;
+        d = turned_none r s.shards.d c.next_phase-4.new.self place s.cuts 3 c.next_phase-4.ensures good.d s.shards_are.d c.requires.phase;
       };
     }

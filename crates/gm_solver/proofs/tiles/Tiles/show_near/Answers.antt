@@ -9,4 +9,4 @@ returns g c =
     let s = c.args.self.now in
     let good = c.show_good.ensures in
     level_near r g.met.G.Game.lawful c.args.tables.now c.has-held.ensures.tables (place_of s.shards.a)
-    (covered r (place_of s.shards.a) s.width s.wide s.shards s.shards_are good.a good.b good.c good.d) c.requires.held c.requires.left
+    (covered r (place_of s.shards.a) s.cuts s.cuts_are s.shards s.shards_are good.a good.b good.c good.d) c.requires.held c.requires.left

@@ -1,0 +1,125 @@
+//! Where a tier is cut into four tiles.
+ghost use Rattle.std.specs.Prelude.{◌≡◌, ℕ, suc, ◌<◌, ◌≤◌, length};
+ghost use Rattle.gm_solver.specs.Lower.{TIER_SIZE};
+ghost use Rattle.gm_solver.specs.Cuts.{cut_at, AreCuts};
+
+use gm_game::game::Game;
+use gm_game::limits::TIER_SIZE;
+use gm_shard::status::Start;
+
+// Up to this many start values are looked at to find where a tier is cut.
+const SAMPLES: usize = 65_536;
+
+/// The first index of each of four tiles but the first, which begins at 0.
+#[derive(Clone, Copy)]
+pub(crate) struct Cuts {
+    pub b: u64,
+    pub c: u64,
+    pub d: u64,
+}
+
+impl Cuts {
+    /// Returns the cuts after which the first tile has all indexes of a tier.
+    pub(crate) fn of_one<G: Game>(tier: u64) -> Cuts
+        requires { G.rules.tier_size tier ≤ TIER_SIZE }
+        ensures { AreCuts G.rules tier result }
+    {
+        let size = G::tier_size(tier);
+        Cuts {
+            b: size,
+            c: size,
+            d: size,
+        }
+    }
+
+    /// Returns cuts into this many tiles, each with about as many indexes at which the game goes on: so the shards get about as many deliveries each. In the
+    /// tiles past this number the game goes on at no index.
+    pub(crate) fn balanced<G: Game>(tier: u64, starts: &[Start], shards: usize) -> Cuts
+        requires whole { length starts.now ≡ G.rules.tier_size tier }
+        requires small { G.rules.tier_size tier ≤ TIER_SIZE }
+        requires some { 0 < shards }
+        ensures { AreCuts G.rules tier result }
+    {
+        let share = sampled(starts).div_ceil(shards).max(1);
+        let b = end_of(starts, share);
+        let c = end_of(starts, share.saturating_mul(2)).max(b);
+        let d = end_of(starts, share.saturating_mul(3)).max(c);
+        Cuts { b, c, d }
+    }
+
+    /// Returns the indexes of a tile of a tier of this size: the first one, and the one past the last.
+    pub(crate) fn range(self, size: u64, k: u64) -> (u64, u64)
+        requires { k < 4 }
+        ensures lo { result.0 ≡ cut_at size self k }
+        ensures hi { result.1 ≡ cut_at size self (suc k) }
+    {
+        match k {
+            0 => (0, self.b),
+            1 => (self.b, self.c),
+            2 => (self.c, self.d),
+            _ => (self.d, size),
+        }
+    }
+
+    /// Returns the number of the tile that has an index of the tier.
+    pub(crate) fn tile_of(&self, index: u64) -> usize
+        ensures few { result < 4 }
+        ensures low { (size : ℕ) → index < size → cut_at size self.now result ≤ index }
+        ensures high { (size : ℕ) → index < size → index < cut_at size self.now (suc result) }
+    {
+        if index < self.b {
+            0
+        } else if index < self.c {
+            1
+        } else if index < self.d {
+            2
+        } else {
+            3
+        }
+    }
+}
+
+// Returns how far apart the start values are that are looked at.
+fn step_of(starts: &[Start]) -> usize
+    ensures { 0 < result }
+{
+    (starts.len() / SAMPLES).saturating_add(1)
+}
+
+// Returns the number of samples at which the game goes on.
+fn sampled(starts: &[Start]) -> usize {
+    let mut number = 0usize;
+    for start in starts.iter().step_by(step_of(starts)) {
+        if is_inner(*start) {
+            number = number.saturating_add(1);
+        }
+    }
+    number
+}
+
+// Returns the index of the sample that comes after this many at which the game goes on, and is one itself, or the number of start values.
+fn end_of(starts: &[Start], wanted: usize) -> u64
+    ensures { result ≤ length starts.now }
+{
+    let step = step_of(starts);
+    let mut number = 0usize;
+    let mut index = 0usize;
+    for start in starts.iter().step_by(step) {
+        if is_inner(*start) {
+            number = number.saturating_add(1);
+            if number > wanted {
+                return index.min(starts.len()) as u64;
+            }
+        }
+        index = index.saturating_add(step);
+    }
+    starts.len() as u64
+}
+
+// Returns whether the game goes on at an index.
+fn is_inner(start: Start) -> bool {
+    match start {
+        Start::Inner { children: _ } => true,
+        Start::Hole | Start::Ended(_) => false,
+    }
+}

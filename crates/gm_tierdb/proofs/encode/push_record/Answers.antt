@@ -1,0 +1,10 @@
+use Rattle.std.proofs.Common.{sym, subst}
+use Rattle.gm_table.specs.RecordCodes.{IsStorable}
+use Rattle.gm_table.specs.Tables.{record_at}
+use Rattle.gm_table.specs.declared.version.Version.{Version}
+use Rattle.gm_table.specs.declared.version.Version.TheVariants.{One}
+use Rattle.gm_tierdb.proofs.encode.push_record.Goals as goal
+
+pub push_short-requires : goal.push_short-requires
+push_short-requires g c = subst (IsStorable One) (sym c.at.ensures.value)
+    (subst (λ (v : Version). IsStorable v (record_at c.args.table.now.records c.args.index)) c.in-One.is c.requires)
