@@ -1,10 +1,19 @@
 """What the lines about one game say of its start agrees: its moves, its line of best play, its value, and its drawing."""
+import os
 import subprocess
 
-GAMES = (
-    "countdown wheel tactix-1 tactix-2 tactix-3 tactix-4 tactix-1-misere tactix-2-misere tactix-3-misere tactix-4-misere"
-    " tictactoe threemens achi mutorere hare dao ponghauki shisima takeaway tapatan dodgem krk kqk foxhounds"
-).split()
+# Tac Tix on 5 by 5 takes too long for these calls.
+TOO_LARGE = {"tactix-5", "tactix-5-misere"}
+
+
+def listed():
+    """The games that `list --all` has to print, by questions.txt."""
+    with open(os.path.join(os.path.dirname(os.path.abspath(__file__)), "questions.txt"), encoding="utf-8") as it:
+        lines = it.read().split("$ gamesman list --all\n")[1].split("$ ")[0].splitlines()
+    return [line[2:] for line in lines if line.startswith("> ")]
+
+
+GAMES = [game for game in listed() if game not in TOO_LARGE]
 
 # The most columns that a drawing takes.
 COLUMNS = 50

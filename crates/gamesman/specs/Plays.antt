@@ -15,7 +15,7 @@ use Rattle.gm_play.specs.Dialogue.{Advice, IsKnown, unseen}
 use Rattle.gm_play.specs.LastLines.{EndsWon, EndsUnlost, WritesOne}
 use Rattle.gm_play.specs.PlayTexts.{IsReadAs, IsNoPosition}
 use Rattle.gm_play.specs.Sessions.{IsSession, IsBroken, AppendsPart}
-use Rattle.gm_draw.specs.Sights.{sight}
+use Rattle.gm_page.specs.Sights.{sight}
 use Rattle.gm_command.specs.declared.requests.PlayRequest.{PlayRequest}
 use Rattle.gamesman.specs.declared.fault.Fault.{Fault}
 use Rattle.gamesman.specs.declared.fault.Fault.TheVariants.{NoSuchPosition, InputFailed, OutputFailed, OutputClosed, TooMuchInput}

@@ -6,8 +6,7 @@ use Rattle.gm_play.specs.PlayTexts.{IsAnswerText, AreMoveRows, IsLineText}
 use Rattle.gm_play.specs.Why.{IsWhyText}
 use Rattle.gm_json.specs.Lines.{IsLineJson}
 use Rattle.gm_json.specs.Moves.{IsMovesJson}
-use Rattle.gm_draw.specs.ShowTexts.{IsShowText}
-use Rattle.gm_draw.specs.Diagrams.{IsDiagram}
+use Rattle.gm_page.specs.ShowTexts.{IsShowText, IsDiagram}
 use Rattle.gm_page.specs.Pages.{IsPage}
 use Rattle.gm_command.specs.declared.requests.Question.{Question}
 use Rattle.gm_command.specs.declared.requests.Question.TheVariants.{Value, Moves, Why, Line, Show, Diagram, Page}

@@ -6,20 +6,20 @@ ghost use Rattle.gamesman.specs.Shelves.{failed_in, kept_in, kept_at, IsShelfWri
 use gm_command::requests::TableLocation;
 use gm_game::limits::NAME;
 use gm_tierdb::folder_store::FolderStore;
-use gm_tierdb::mem_store::MemStore;
 use gm_tierdb::read_only::ReadOnly;
 use gm_tierdb::store::Store;
 use gm_tierdb::store_error::StoreError;
 use std::alloc::{AllocError, Global};
 use std::fs::Files;
 
-/// The place of the tier files: a folder, a folder that is only read, or memory. One type covers all three, since a build is
-/// compiled once for each type of store. As a store it promises only its count of failures, like a folder.
+/// The place of the tier files: a folder, a folder that is only read, or none, if the tables are all that is wanted. One type
+/// covers all three, since a build is compiled once for each type of store. As a store it promises only its count of failures,
+/// like a folder.
 #[derive(Drop)]
 pub enum Shelf {
     Folder(FolderStore),
     ReadOnly(ReadOnly<FolderStore>),
-    Memory(MemStore),
+    Nowhere,
 }
 
 // Makes the store of a folder.
@@ -37,7 +37,7 @@ impl Shelf {
         ensures kept { IfOk result (λ s. kept_in s ≡ kept_at tables.entry) }
     {
         match tables {
-            TableLocation::Memory => Ok(Shelf::Memory(MemStore::new(alloc))),
+            TableLocation::Memory => Ok(Shelf::Nowhere),
             TableLocation::Folder(folder) => Ok(Shelf::Folder(folder_at(alloc, folder)?)),
             TableLocation::ReadOnly(folder) => {
                 Ok(Shelf::ReadOnly(ReadOnly::new(folder_at(alloc, folder)?)))
@@ -57,7 +57,7 @@ impl Shelf {
     {
         match self {
             Shelf::Folder(store) => store.is_anothers(rt, tier, name),
-            Shelf::ReadOnly(_) | Shelf::Memory(_) => Ok(false),
+            Shelf::ReadOnly(_) | Shelf::Nowhere => Ok(false),
         }
     }
 
@@ -65,7 +65,7 @@ impl Shelf {
     pub fn met_another(&self) -> bool {
         match self {
             Shelf::Folder(store) => store.met_another(),
-            Shelf::ReadOnly(_) | Shelf::Memory(_) => false,
+            Shelf::ReadOnly(_) | Shelf::Nowhere => false,
         }
     }
 }
@@ -79,6 +79,13 @@ impl Store for Shelf {
 
     const KEEPS: bool = false;
 
+    fn takes_texts(&self) -> bool {
+        match self {
+            Shelf::Folder(_) | Shelf::ReadOnly(_) => true,
+            Shelf::Nowhere => false,
+        }
+    }
+
     fn read<R: Files>(
         &mut self,
         rt: &R,
@@ -88,19 +95,19 @@ impl Store for Shelf {
         match self {
             Shelf::Folder(store) => store.read(rt, alloc, tier),
             Shelf::ReadOnly(store) => store.read(rt, alloc, tier),
-            Shelf::Memory(store) => store.read(rt, alloc, tier),
+            Shelf::Nowhere => Ok(None),
         }
     }
 
     fn write<R: Files>(&mut self, rt: &R, tier: u64, bytes: &[u8]) -> Result<(), StoreError>
         requires { failed_in self.old < u64.MAX }
-        ensures write { IsShelfWrite self.old self.new tier bytes.now result }
+        ensures write { IsShelfWrite self.old self.new result }
         ensures count { failed_in self.new ≡ failed_in self.old + failures_of result }
     {
         match self {
             Shelf::Folder(store) => store.write(rt, tier, bytes),
             Shelf::ReadOnly(store) => store.write(rt, tier, bytes),
-            Shelf::Memory(store) => store.write(rt, tier, bytes),
+            Shelf::Nowhere => Ok(()),
         }
     }
 
@@ -108,7 +115,7 @@ impl Store for Shelf {
         match self {
             Shelf::Folder(store) => store.failures(),
             Shelf::ReadOnly(store) => store.failures(),
-            Shelf::Memory(store) => store.failures(),
+            Shelf::Nowhere => 0,
         }
     }
 }

@@ -1,14 +1,11 @@
 -- An arrangement's index by the ranks of two masks, and its masks by two ranks.
-use Rattle.std.proofs.Common.{◌≡◌, ℕ, ◌+◌, ◌-◌, ◌*◌, ◌/◌, ◌%◌, ◌<◌, ◌≤◌, Bool, List, length, sym, ap, ap₂, ◌∙◌, subst, arith, mod-lt, div-lt_iff_lt-mul}
-use Rattle.gm_board.specs.Binomials.{binomial}
-use Rattle.gm_board.specs.Ranks.{members, rank, unrank}
+use Rattle.gm_board.proofs.Lower.{◌≡◌, ℕ, ◌+◌, ◌-◌, ◌*◌, ◌/◌, ◌%◌, ◌<◌, ◌≤◌, Bool, List, length, sym, ap, ap₂, ◌∙◌, subst, arith, mod-lt, div-lt_iff_lt-mul}
+use Rattle.gm_board.proofs.Lower.{binomial, members, rank, unrank, tests_of, mask_of, mask_rank, tests_mask, tests_unrank, mask_below, mask_rank_at, their_bits}
+use Rattle.gm_board.proofs.Lower.{merge, mine_bits_merge, pos_of_lt_mul, HasPieces, cells_of, their_tests, free_count, mine_bits_cells, their_count}
 use Rattle.gm_board.specs.laws.Ranks.{unrank_members}
-use Rattle.gm_board.specs.Masks.{tests_of, mask_of, mask_rank, mask_unrank}
-use Rattle.gm_board.specs.laws.Masks.{tests_mask, tests_unrank, mask_below, mask_rank_at}
-use Rattle.gm_board.specs.Arrangements.{their_bits, merge, arrangement_index, arrangement, arrangements}
-use Rattle.gm_board.specs.laws.Arrangements.{mine_bits_merge, their_bits_free, pos_of_lt_mul}
-use Rattle.gm_board.specs.Pieces.{HasPieces, cells_of, their_tests, mine_mask, their_mask, spread_mask}
-use Rattle.gm_board.specs.laws.Pieces.{cells_length, mine_bits_cells, mine_count, their_count}
+use Rattle.gm_board.specs.Masks.{mask_unrank}
+use Rattle.gm_board.specs.Arrangements.{arrangement_index, arrangement, arrangements}
+use Rattle.gm_board.specs.Pieces.{mine_mask, their_mask, spread_mask}
 
 rank_of_tests : (bs : List Bool) → length bs ≤ 32 → mask_rank (mask_of bs) ≡ rank bs
 rank_of_tests bs l = mask_rank_at (length bs) (mask_of bs) l (mask_below bs) ∙ ap rank (tests_mask bs)
@@ -20,7 +17,7 @@ pub index_is : (n m t mine theirs a w p : ℕ) → n ≤ 32 → HasPieces n m t 
 unfolding arrangement_index
 index_is n m t mine theirs a w p l h ea ew ep =
     let cs = cells_of n mine theirs in
-    let free : length (their_bits cs) ≡ n - m = their_bits_free cs ∙ ap₂ (λ (x y : ℕ). x - y) (cells_length n mine theirs) (mine_count n m t mine theirs h) in
+    let free = free_count n m t mine theirs h in
     ap₂ (λ (x y : ℕ). x + y)
     (ap₂ (λ (x y : ℕ). x * y)
     (ea ∙ mask_rank_at n mine l h.mine_within ∙ ap rank (sym (mine_bits_cells n mine theirs)))

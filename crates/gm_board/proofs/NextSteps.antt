@@ -1,18 +1,12 @@
 -- The subset with the next rank: its lowest run of members goes up by a cell at its end, and its other members to the bottom.
-use Rattle.std.proofs.Common.{◌≡◌, ℕ, zero, suc, ◌+◌, ◌-◌, ◌*◌, ◌/◌, ◌%◌, ◌^◌, ◌<◌, ◌≤◌, Bool, true, false, eqb, List, [], ◌∷◌, ◌++◌, length, refl, sym, ap}
-use Rattle.std.proofs.Common.{ap₂, ◌∙◌, subst, arith, pow-suc, w32, inl, inr}
-use Rattle.std.specs.Prelude.{count_ones}
-use Rattle.std.specs.Int.{bit_at, trailing_zeros, trailing_ones}
-use Rattle.std.proofs.lemmas.Bool.{cases_lt}
-use Rattle.std.proofs.lemmas.Nat.{shr-shr, shr_le, one_shl, pow_pos}
-use Rattle.std.proofs.lemmas.Nat.Bits.{bit_at-trailing_zeros, bit_at-trailing_ones, bit_at_above}
-use Rattle.std.proofs.Math.Pow.{pow_mono}
-use Rattle.gm_board.specs.Binomials.{binomial}
-use Rattle.gm_board.specs.laws.Binomials.{binomial_zero, binomial_past, pascal}
-use Rattle.gm_board.specs.Ranks.{members, rank}
-use Rattle.gm_board.specs.Masks.{has_cell, tests_of, mask_of, mask_rank, mask_unrank}
-use Rattle.gm_board.specs.laws.Masks.{tests_none, tests_more, tests_length, mask_below, mask_tests_small}
-use Rattle.gm_board.specs.laws.Masks.{tests_mask, members_small, mask_unrank_below, mask_unrank_ones, mask_rank_unrank, mask_unrank_rank}
+use Rattle.gm_board.proofs.Lower.{◌≡◌, ℕ, zero, suc, ◌+◌, ◌-◌, ◌*◌, ◌/◌, ◌%◌, ◌^◌, ◌<◌, ◌≤◌, Bool, true, false, eqb, List, [], ◌∷◌, ◌++◌, length, refl, sym, ap}
+use Rattle.gm_board.proofs.Lower.{ap₂, ◌∙◌, subst, arith, pow-suc, inl, inr, count_ones, bit_at, trailing_zeros, trailing_ones, cases_lt, shr-shr, shr_le}
+use Rattle.gm_board.proofs.Lower.{one_shl, bit_at-trailing_zeros, bit_at-trailing_ones, bit_at_above, pow_mono, binomial, binomial_zero, binomial_past, pascal}
+use Rattle.gm_board.proofs.Lower.{members, rank, has_cell, tests_of, mask_of, mask_unrank, tests_none, tests_more, tests_length, mask_below, mask_tests_small}
+use Rattle.gm_board.proofs.Lower.{tests_mask, members_small, mask_unrank_below, mask_unrank_ones, mask_rank_unrank, mask_unrank_rank}
+use Rattle.std.proofs.Common.{w32}
+use Rattle.std.proofs.lemmas.Nat.{pow_pos}
+use Rattle.gm_board.specs.Masks.{mask_rank}
 
 -- n members, and n cells that are none, above others
 abbrev ones : ℕ → List Bool → List Bool
@@ -89,72 +83,55 @@ low_part a c = false ∷ ones (suc c) (zeros a [])
 abbrev next_part : ℕ → ℕ → List Bool
 next_part a c = true ∷ zeros (suc a) (ones c [])
 
-part_length : (a c : ℕ) → length (next_part a c) ≡ length (low_part a c)
-part_length a c =
-    let x = length_ones (suc c) (zeros a []) in
-    let y = length_zeros a [] in
-    let z = length_zeros (suc a) (ones c []) in
-    let w = length_ones c [] in
-    omega (arith, x, y, z, w)
+-- a subset and the next one: as many cells and members, the next rank, and the difference of the masks
+record IsNextPart (xs ys : List Bool) (x y : ℕ) : Type 0 where
+  cells : length ys ≡ length xs
+  members_same : members ys ≡ members xs
+  next_rank : rank ys ≡ suc (rank xs)
+  masks : mask_of ys + x ≡ mask_of xs + y
 
-part_members : (a c : ℕ) → members (next_part a c) ≡ members (low_part a c)
-part_members a c =
-    let x = members_ones (suc c) (zeros a []) in
-    let y = members_zeros a [] in
-    let z = members_zeros (suc a) (ones c []) in
-    let w = members_ones c [] in
-    omega (arith, x, y, z, w)
-
-part_rank : (a c : ℕ) → rank (next_part a c) ≡ suc (rank (low_part a c))
-part_rank a c =
-    let l : length (zeros (suc a) (ones c [])) ≡ a + suc c = (let z = length_zeros (suc a) (ones c []) in let w = length_ones c [] in omega (arith, z, w)) in
-    let m : members (zeros (suc a) (ones c [])) ≡ c = (let z = members_zeros (suc a) (ones c []) in let w = members_ones c [] in omega (arith, z, w)) in
-    let here : binomial (length (zeros (suc a) (ones c []))) (suc (members (zeros (suc a) (ones c [])))) ≡ binomial (a + suc c) (suc c) = ap₂
-    (λ (n k : ℕ). binomial n (suc k)) l m in
-    let none : rank (zeros (suc a) (ones c [])) ≡ 0 = rank_zeros (suc a) (ones c []) ∙ rank_bottom c in
-    let h = climbs a (suc c) in
-    omega (arith, here, none, h)
-
-part_mask : (a c : ℕ) → mask_of (next_part a c) + 1 ≡ mask_of (low_part a c) + (2 ^ a + 2 ^ c)
-part_mask a c =
-    let low = mask_ones (suc c) (zeros a []) in
-    let none : mask_of (zeros a []) ≡ 0 = mask_zeros a [] in
-    let la : 2 ^ length (zeros a []) ≡ 2 ^ a = ap (λ (k : ℕ). 2 ^ k) (let y = length_zeros a [] in let z : length (zeros a []) ≡ a = omega (arith, y) in z) in
-    let lb : 2 ^ (suc c + length (zeros a [])) ≡ 2 ^ (suc c + a) = ap (λ (k : ℕ). 2 ^ (suc c + k))
-    (let y = length_zeros a [] in let z : length (zeros a []) ≡ a = omega (arith, y) in z) in
-    let up : mask_of (zeros (suc a) (ones c [])) ≡ mask_of (ones c []) = mask_zeros (suc a) (ones c []) in
+next_parts : (a c : ℕ) → IsNextPart (low_part a c) (next_part a c) 1 (2 ^ a + 2 ^ c)
+next_parts a c =
+    let gap = zeros a [] in
+    let run = ones c [] in
+    let lz : length gap ≡ a = (let x = length_zeros a [] in omega (arith, x)) in
+    let lo = length_ones (suc c) gap in
+    let lu : length (zeros (suc a) run) ≡ a + suc c = (let z = length_zeros (suc a) run in let w = length_ones c [] in omega (arith, z, w)) in
+    let mo = members_ones (suc c) gap in
+    let mz = members_zeros a [] in
+    let mu : members (zeros (suc a) run) ≡ c = (let z = members_zeros (suc a) run in let w = members_ones c [] in omega (arith, z, w)) in
+    let here : binomial (length (zeros (suc a) run)) (suc (members (zeros (suc a) run))) ≡ binomial (a + suc c) (suc c) = ap₂
+    (λ (n k : ℕ). binomial n (suc k)) lu mu in
+    let none : rank (zeros (suc a) run) ≡ 0 = rank_zeros (suc a) run ∙ rank_bottom c in
+    let low = mask_ones (suc c) gap in
+    let la = ap (λ (k : ℕ). 2 ^ k) lz in
+    let lb = ap (λ (k : ℕ). 2 ^ (suc c + k)) lz in
     let bottom = mask_ones c [] in
     let lc : 2 ^ (c + 0) ≡ 2 ^ c = ap (λ (k : ℕ). 2 ^ k) (let z : c + 0 ≡ c = omega arith in z) in
-    let ld : 2 ^ length (zeros (suc a) (ones c [])) ≡ 2 ^ (suc c + a) = ap (λ (k : ℕ). 2 ^ k)
-    (let z = length_zeros (suc a) (ones c []) in let w = length_ones c [] in let q : length (zeros (suc a) (ones c [])) ≡ suc c + a = omega
-    (arith, z, w) in q) in
-    omega (arith, low, none, la, lb, up, bottom, lc, ld)
+    let ld : 2 ^ length (zeros (suc a) run) ≡ 2 ^ (suc c + a) = ap (λ (k : ℕ). 2 ^ k) (let z : length (zeros (suc a) run) ≡ suc c + a = omega (arith, lu) in z) in
+    record {
+      cells = omega (arith, lz, lo, lu);
+      members_same = omega (arith, mo, mz, mu);
+      next_rank = omega (arith, here, none, climbs a (suc c));
+      masks = omega (arith, low, mask_zeros a [], la, lb, mask_zeros (suc a) run, bottom, lc, ld);
+    }
 
 -- below other cells
-same_length : (us xs ys : List Bool) → length ys ≡ length xs → length (us ++ ys) ≡ length (us ++ xs)
-same_length [] xs ys e = e
-same_length (u ∷ us) xs ys e = ap suc (same_length us xs ys e)
-
-same_members : (us xs ys : List Bool) → members ys ≡ members xs → members (us ++ ys) ≡ members (us ++ xs)
-same_members [] xs ys e = e
-same_members (true ∷ us) xs ys e = ap suc (same_members us xs ys e)
-same_members (false ∷ us) xs ys e = same_members us xs ys e
-
-next_rank : (us xs ys : List Bool) → length ys ≡ length xs → members ys ≡ members xs → rank ys ≡ suc (rank xs) → rank (us ++ ys) ≡ suc (rank (us ++ xs))
-next_rank [] xs ys l m e = e
-next_rank (true ∷ us) xs ys l m e =
-    let here = ap₂ (λ (n k : ℕ). binomial n (suc k)) (same_length us xs ys l) (same_members us xs ys m) in
-    let rest = next_rank us xs ys l m e in
-    omega (arith, here, rest)
-next_rank (false ∷ us) xs ys l m e = next_rank us xs ys l m e
-
-next_mask : (us xs ys : List Bool) (x y : ℕ) → length ys ≡ length xs → mask_of ys + x ≡ mask_of xs + y → mask_of (us ++ ys) + x ≡ mask_of (us ++ xs) + y
-next_mask [] xs ys x y l e = e
-next_mask (true ∷ us) xs ys x y l e =
-    let here : 2 ^ length (us ++ ys) ≡ 2 ^ length (us ++ xs) = ap (λ (k : ℕ). 2 ^ k) (same_length us xs ys l) in
-    let rest = next_mask us xs ys x y l e in
-    omega (arith, here, rest)
-next_mask (false ∷ us) xs ys x y l e = next_mask us xs ys x y l e
+next_below : (us xs ys : List Bool) (x y : ℕ) → IsNextPart xs ys x y → IsNextPart (us ++ xs) (us ++ ys) x y
+next_below [] xs ys x y h = h
+next_below (true ∷ us) xs ys x y h =
+    let r = next_below us xs ys x y h in
+    let here = ap₂ (λ (n k : ℕ). binomial n (suc k)) r.cells r.members_same in
+    let weight = ap (λ (k : ℕ). 2 ^ k) r.cells in
+    record {
+      cells = ap suc r.cells;
+      members_same = ap suc r.members_same;
+      next_rank = omega (arith, here, r.next_rank);
+      masks = omega (arith, weight, r.masks);
+    }
+next_below (false ∷ us) xs ys x y h =
+    let r = next_below us xs ys x y h in
+    record { cells = ap suc r.cells; members_same = r.members_same; next_rank = r.next_rank; masks = r.masks }
 
 -- the tests of a mask, in parts
 tests_zeros : (a m : ℕ) → ((i : ℕ) → i < a → bit_at m i ≡ 0) → tests_of a m ≡ zeros a []
@@ -203,17 +180,14 @@ next_is a c m r fits small low run none is =
     let old : tests_of 32 m ≡ us ++ low_part a c = ap (λ (k : ℕ). tests_of k m) (sym whole) ∙ split ∙ ap (λ (ts : List Bool). us ++ ts)
     (low_tests a c m low run none) in
     let number : mask_of (us ++ low_part a c) ≡ m = ap mask_of (sym old) ∙ mask_tests_small 32 m fits in
-    let step = next_mask us (low_part a c) (next_part a c) 1 (2 ^ a + 2 ^ c) (part_length a c) (part_mask a c) in
-    let new : mask_of (us ++ next_part a c) ≡ r = omega (arith, step, number, is) in
-    let size : length (us ++ next_part a c) ≡ 32 = same_length us (low_part a c) (next_part a c) (part_length a c) ∙ ap length (sym old) ∙ tests_length 32 m in
-    let tests : tests_of 32 r ≡ us ++ next_part a c =
-    ap₂ tests_of (sym size) (sym new) ∙ tests_mask (us ++ next_part a c) in
+    let step = next_below us (low_part a c) (next_part a c) 1 (2 ^ a + 2 ^ c) (next_parts a c) in
+    let new : mask_of (us ++ next_part a c) ≡ r = omega (arith, step.masks, number, is) in
+    let size : length (us ++ next_part a c) ≡ 32 = step.cells ∙ ap length (sym old) ∙ tests_length 32 m in
+    let tests : tests_of 32 r ≡ us ++ next_part a c = ap₂ tests_of (sym size) (sym new) ∙ tests_mask (us ++ next_part a c) in
     let below : r < 2 ^ 32 = subst (λ (k : ℕ). k < 2 ^ 32) new (subst (λ (k : ℕ). mask_of (us ++ next_part a c) < 2 ^ k) size
     (mask_below (us ++ next_part a c))) in
-    let rank_here : rank (tests_of 32 r) ≡ suc (rank (tests_of 32 m)) = ap rank tests ∙ next_rank us (low_part a c) (next_part a c) (part_length a c)
-    (part_members a c) (part_rank a c) ∙ ap (λ (ts : List Bool). suc (rank ts)) (sym old) in
-    let members_here : members (tests_of 32 r) ≡ members (tests_of 32 m) = ap members tests ∙ same_members us (low_part a c) (next_part a c)
-    (part_members a c) ∙ ap members (sym old) in
+    let rank_here : rank (tests_of 32 r) ≡ suc (rank (tests_of 32 m)) = ap rank tests ∙ step.next_rank ∙ ap (λ (ts : List Bool). suc (rank ts)) (sym old) in
+    let members_here : members (tests_of 32 r) ≡ members (tests_of 32 m) = ap members tests ∙ step.members_same ∙ ap members (sym old) in
     record {
       rank_is = omega (arith, rank_here);
       ones_are = sym (members_small 32 r below) ∙ members_here ∙ members_small 32 m fits;

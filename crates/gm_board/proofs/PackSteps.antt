@@ -1,155 +1,13 @@
 -- The steps of packing the opponent's pieces on the cells without the mover's, and of spreading them again.
-use Rattle.std.proofs.Common.{◌≡◌, ℕ, zero, suc, ◌+◌, ◌-◌, ◌*◌, ◌/◌, ◌%◌, ◌^◌, ◌<◌, ◌≤◌, Bool, true, false, eqb, List, [], ◌∷◌, length, refl, sym, ap, ap₂, ◌∙◌}
-use Rattle.std.proofs.Common.{subst, arith, add-one, pow_pos, lt_of_le_of_lt}
-use Rattle.std.specs.Prelude.{bit_and, count_ones}
-use Rattle.std.specs.Int.{bit_at, trailing_zeros, w32}
-use Rattle.std.proofs.Math.Nat.{mul-add, add-mul, two-pow-succ, div-eq_of_lt, mod-eq_of_lt}
-use Rattle.std.proofs.Math.Pow.{pow_mono}
-use Rattle.std.proofs.lemmas.Nat.{shr-shr, shr_split, mod-pow-add, mod-mul-add, div-mul-add, mod_below}
-use Rattle.std.proofs.lemmas.Nat.Bits.{shr_and_one, bit_at-lt}
-use Rattle.gm_board.specs.declared.cell.Cell.{Cell}
-use Rattle.gm_board.specs.Ranks.{members}
-use Rattle.gm_board.specs.laws.Ranks.{members_le}
-use Rattle.gm_board.specs.Masks.{has_cell, tests_of, mask_of, weight}
-use Rattle.gm_board.specs.laws.Masks.{tests_none, tests_more, tests_length, mask_cons, mask_below, weight_bit, members_small}
-use Rattle.gm_board.specs.Arrangements.{their_bits, their_cell, merge}
-use Rattle.gm_board.specs.Pieces.{cell_by, cells_of, their_tests, spread_mask}
-use Rattle.gm_board.specs.laws.Pieces.{cells_none, cells_more, apart_below}
+use Rattle.gm_board.proofs.Lower.{◌≡◌, ℕ, zero, suc, ◌+◌, ◌-◌, ◌*◌, ◌/◌, ◌%◌, ◌^◌, ◌<◌, ◌≤◌, Bool, true, false, List, [], ◌∷◌, length, refl, sym, ap, ap₂, ◌∙◌}
+use Rattle.gm_board.proofs.Lower.{subst, arith, add-one, lt_of_le_of_lt, bit_and, count_ones, bit_at, trailing_zeros, w32, two-pow-succ, mod-eq_of_lt, pow_mono}
+use Rattle.gm_board.proofs.Lower.{shr-shr, shr_split, div-mul-add, bit_at-lt, Cell, members, members_le, has_cell, tests_of, mask_of, tests_none, tests_more}
+use Rattle.gm_board.proofs.Lower.{tests_length, mask_cons, mask_below, weight_bit, members_small, members_skips, members_add, no_bit, their_bits, their_cell}
+use Rattle.gm_board.proofs.Lower.{merge, cell_by, cells_of, their_tests, cells_none, cells_more, free_length, apart_below}
+use Rattle.std.proofs.Math.Nat.{mul-add, add-mul, div-eq_of_lt}
+use Rattle.gm_board.specs.Pieces.{spread_mask}
 use Rattle.gm_board.specs.laws.NextCells.{cell_below, cell_one, cell_none}
 use Rattle.gm_board.proofs.LowestCells.{IsRest, rest_whole, lowest, nothing_left}
-
--- the opponent's pieces below `cell` are packed
-pub record IsPacked (mine theirs cell packed free : ℕ) : Type 0 where
-  pub is_free : free ≡ length (their_bits (cells_of cell mine theirs))
-  pub is_packed : packed ≡ mask_of (their_bits (cells_of cell mine theirs))
-
--- no cell is looked at yet
-pub packed_none : (mine theirs : ℕ) → IsPacked mine theirs 0 0 0
-packed_none mine theirs = record {
-  is_free = sym (ap (λ (cs : List Cell). length (their_bits cs)) (cells_none mine theirs));
-  is_packed = sym (ap (λ (cs : List Cell). mask_of (their_bits cs)) (cells_none mine theirs));
-}
-
-their_bits_mine : (a b : Bool) (cs : List Cell) → a ≡ true → their_bits (cell_by a b ∷ cs) ≡ their_bits cs
-their_bits_mine true b cs e = refl
-their_bits_mine false b cs e = cc
-
-their_bits_free : (a b : Bool) (cs : List Cell) → a ≡ false → their_bits (cell_by a b ∷ cs) ≡ b ∷ their_bits cs
-their_bits_free true b cs e = cc
-their_bits_free false true cs e = refl
-their_bits_free false false cs e = refl
-
--- a cell of the mover's
-pub packed_skip : (mine theirs cell packed free : ℕ) → IsPacked mine theirs cell packed free → has_cell mine cell ≡ true → IsPacked mine theirs (cell + 1)
-    packed free
-packed_skip mine theirs cell packed free h e =
-    let q : their_bits (cells_of (cell + 1) mine theirs) ≡ their_bits (cells_of cell mine theirs) =
-    ap (λ (k : ℕ). their_bits (cells_of k mine theirs)) (add-one cell) ∙ ap their_bits (cells_more cell mine theirs) ∙ their_bits_mine (has_cell mine cell)
-    (has_cell theirs cell) (cells_of cell mine theirs) e in
-    record { is_free = h.is_free ∙ sym (ap length q); is_packed = h.is_packed ∙ sym (ap mask_of q) }
-
--- another cell
-pub packed_more : (mine theirs cell packed free : ℕ) → IsPacked mine theirs cell packed free → has_cell mine cell ≡ false
-    → IsPacked mine theirs (cell + 1) (packed + bit_and (theirs / 2 ^ cell) 1 * 2 ^ free) (free + 1)
-packed_more mine theirs cell packed free h e =
-    let bs = their_bits (cells_of cell mine theirs) in
-    let q : their_bits (cells_of (cell + 1) mine theirs) ≡ has_cell theirs cell ∷ bs =
-    ap (λ (k : ℕ). their_bits (cells_of k mine theirs)) (add-one cell) ∙ ap their_bits (cells_more cell mine theirs) ∙ their_bits_free (has_cell mine cell)
-    (has_cell theirs cell) (cells_of cell mine theirs) e in
-    record {
-      is_free = (let z : free + 1 ≡ suc (length bs) = omega (arith, h.is_free) in z) ∙ sym (ap length q);
-      is_packed = sym (
-          ap mask_of q
-          ∙ mask_cons (has_cell theirs cell) bs
-          ∙ ap₂ (λ (x y : ℕ). x + y)
-          (ap₂ (λ (x k : ℕ). x * 2 ^ k) (weight_bit theirs cell ∙ sym (shr_and_one theirs cell)) (sym h.is_free))
-          (sym h.is_packed)
-          ∙ (let z : bit_and (theirs / 2 ^ cell) 1 * 2 ^ free + packed ≡ packed + bit_and (theirs / 2 ^ cell) 1 * 2 ^ free = omega arith in z));
-    }
-
--- ---- spreading
--- the number of cells below `cell` without the mover's
-pub free_below : ℕ → ℕ → ℕ
-free_below mine cell = cell - members (tests_of cell mine)
-
--- the opponent's pieces below `cell` are spread
-pub record IsSpread (mine packed cell theirs rest : ℕ) : Type 0 where
-  pub is_theirs : theirs ≡ spread_mask cell mine packed
-  pub is_rest : rest ≡ packed / 2 ^ free_below mine cell
-
-merge_length : (ms ts : List Bool) → length (their_tests (merge ms ts)) ≡ length ms
-merge_length [] ts = refl
-merge_length (true ∷ ms) ts = ap suc (merge_length ms ts)
-merge_length (false ∷ ms) [] = ap suc (merge_length ms [])
-merge_length (false ∷ ms) (true ∷ ts) = ap suc (merge_length ms ts)
-merge_length (false ∷ ms) (false ∷ ts) = ap suc (merge_length ms ts)
-
--- no cell is looked at yet
-pub spread_none : (mine packed : ℕ) → IsSpread mine packed 0 0 packed
-unfolding spread_mask free_below
-spread_none mine packed = record {
-  is_theirs = sym (ap (λ (bs : List Bool). mask_of (their_tests (merge bs (tests_of (0 - members bs) packed)))) (tests_none mine));
-  is_rest = sym (ap (λ (k : ℕ). packed / 2 ^ k) (let z : 0 - members (tests_of 0 mine) ≡ 0 = omega arith in z) ∙ whole packed);
-}
-  where
-    whole : (n : ℕ) → n / 1 ≡ n
-    whole n = omega arith
-
--- a cell of the mover's
-pub spread_skip : (mine packed cell theirs rest : ℕ) → IsSpread mine packed cell theirs rest → has_cell mine cell ≡ true → IsSpread mine packed (cell + 1)
-    theirs rest
-unfolding spread_mask free_below
-spread_skip mine packed cell theirs rest h e =
-    let ms = tests_of cell mine in
-    let q : tests_of (cell + 1) mine ≡ true ∷ ms = ap (λ (j : ℕ). tests_of j mine) (add-one cell) ∙ tests_more cell mine ∙ ap (λ (b : Bool). b ∷ ms) e in
-    let f : cell + 1 - members (tests_of (cell + 1) mine) ≡ cell - members ms = ap (λ (bs : List Bool). cell + 1 - members bs) q ∙
-    (let z : cell + 1 - suc (members ms) ≡ cell - members ms = omega arith in z) in
-    record {
-      is_theirs = h.is_theirs ∙ sym (ap₂ (λ (bs : List Bool) (k : ℕ). mask_of (their_tests (merge bs (tests_of k packed)))) q f);
-      is_rest = h.is_rest ∙ sym (ap (λ (k : ℕ). packed / 2 ^ k) f);
-    }
-
-their_tests_cell : (b : Bool) (cs : List Cell) → their_tests (their_cell b ∷ cs) ≡ b ∷ their_tests cs
-their_tests_cell true cs = refl
-their_tests_cell false cs = refl
-
--- another cell
-pub spread_more : (mine packed cell theirs rest : ℕ) → IsSpread mine packed cell theirs rest → has_cell mine cell ≡ false
-    → IsSpread mine packed (cell + 1) (theirs + bit_and rest 1 * 2 ^ cell) (rest / 2)
-unfolding spread_mask free_below
-spread_more mine packed cell theirs rest h e =
-    let ms = tests_of cell mine in
-    let k = cell - members ms in
-    let ts = tests_of k packed in
-    let q : tests_of (cell + 1) mine ≡ false ∷ ms = ap (λ (j : ℕ). tests_of j mine) (add-one cell) ∙ tests_more cell mine ∙ ap (λ (b : Bool). b ∷ ms) e in
-    let f : cell + 1 - members (tests_of (cell + 1) mine) ≡ suc k =
-    ap (λ (bs : List Bool). cell + 1 - members bs) q ∙ (let z : cell + 1 - members ms ≡ suc k = omega (arith, members_le ms, tests_length cell mine) in z) in
-    let w : weight (has_cell packed k) ≡ bit_and rest 1 =
-    weight_bit packed k ∙ sym (shr_and_one packed k) ∙ ap (λ (v : ℕ). bit_and v 1) (sym h.is_rest) in
-    record {
-      is_theirs = sym (
-          ap₂ (λ (bs : List Bool) (j : ℕ). mask_of (their_tests (merge bs (tests_of j packed)))) q f
-          ∙ ap (λ (us : List Bool). mask_of (their_tests (merge (false ∷ ms) us))) (tests_more k packed)
-          ∙ ap mask_of (their_tests_cell (has_cell packed k) (merge ms ts))
-          ∙ mask_cons (has_cell packed k) (their_tests (merge ms ts))
-          ∙ ap₂ (λ (x y : ℕ). x + y)
-          (ap₂ (λ (x j : ℕ). x * 2 ^ j) w (merge_length ms ts ∙ tests_length cell mine))
-          (sym h.is_theirs)
-          ∙ (let z : bit_and rest 1 * 2 ^ cell + theirs ≡ theirs + bit_and rest 1 * 2 ^ cell = omega arith in z));
-      is_rest =
-          ap (λ (v : ℕ). v / 2) h.is_rest
-          ∙ shr-shr packed k 1
-          ∙ ap (λ (j : ℕ). packed / 2 ^ j) ((let z : k + 1 ≡ suc k = omega arith in z) ∙ sym f);
-    }
-
--- ---- by the mover's own cells
--- a number's last n + 1 binary digits
-low_more : (t n : ℕ) → t % 2 ^ (n + 1) ≡ t % 2 ^ n + bit_and (t / 2 ^ n) 1 * 2 ^ n
-low_more t n =
-    ap (λ (k : ℕ). t % 2 ^ k) (let z : n + 1 ≡ 1 + n = omega arith in z)
-    ∙ mod-pow-add t 1 n
-    ∙ ap (λ (v : ℕ). v * 2 ^ n + t % 2 ^ n) (sym (shr_and_one t n))
-    ∙ (let z : bit_and (t / 2 ^ n) 1 * 2 ^ n + t % 2 ^ n ≡ t % 2 ^ n + bit_and (t / 2 ^ n) 1 * 2 ^ n = omega arith in z)
 
 -- twice as much of the higher digits
 twice : (a n : ℕ) → a * 2 ^ (n + 1) ≡ a * 2 ^ n + a * 2 ^ n
@@ -158,139 +16,95 @@ twice a n =
     ∙ ap (λ (v : ℕ). a * v) (two-pow-succ n)
     ∙ mul-add a (2 ^ n) (2 ^ n)
 
--- the cells below n are spread, and the pieces from there on stand as they did in the packed mask
-abbrev pub IsSpreadTo : ℕ → ℕ → ℕ → ℕ → Type 0
-IsSpreadTo mine packed n t = IsSpread mine packed n (t % 2 ^ n) (t / 2 ^ n)
+-- the digits of a number from n on, moved to k: the first and the others
+moved : (t n k : ℕ) → t / 2 ^ n * 2 ^ k ≡ bit_at t n * 2 ^ k + t / 2 ^ (n + 1) * 2 ^ (k + 1)
+moved t n k =
+    let a = t / 2 ^ (n + 1) in
+    let q : t / 2 ^ n ≡ bit_at t n + (a + a) = omega (arith, shr-shr t n 1) in
+    ap (λ (v : ℕ). v * 2 ^ k) q
+    ∙ add-mul (bit_at t n) (a + a) (2 ^ k)
+    ∙ ap (λ (v : ℕ). bit_at t n * 2 ^ k + v) (add-mul a a (2 ^ k) ∙ sym (twice a k))
 
--- nothing is spread yet
-pub spread_start : (mine packed : ℕ) → IsSpreadTo mine packed 0 packed
-spread_start mine packed =
-    let h = spread_none mine packed in
-    let l : packed % 1 < 1 = mod_below packed 1 (omega arith) in
-    let z : packed % 1 ≡ 0 = omega (arith, l) in
-    let w : packed / 1 ≡ packed = omega arith in
-    record { is_theirs = z ∙ h.is_theirs; is_rest = w ∙ h.is_rest }
-
-spread_free : (mine packed n t : ℕ) → IsSpreadTo mine packed n t → has_cell mine n ≡ false → IsSpreadTo mine packed (n + 1) t
-spread_free mine packed n t h e =
-    let m = spread_more mine packed n (t % 2 ^ n) (t / 2 ^ n) h e in
-    record { is_theirs = low_more t n ∙ m.is_theirs; is_rest = sym (shr-shr t n 1) ∙ m.is_rest }
-
--- cells without the mover's pieces, s of them
-pub spread_frees : (mine packed n s t : ℕ) → IsSpreadTo mine packed n t → ((i : ℕ) → i < s → has_cell mine (n + i) ≡ false) → IsSpreadTo mine packed (n + s) t
-spread_frees mine packed n zero t h f = subst (λ (k : ℕ). IsSpreadTo mine packed k t) (let e : n ≡ n + 0 = omega arith in e) h
-spread_frees mine packed n (suc s) t h f =
-    subst (λ (k : ℕ). IsSpreadTo mine packed k t) (let e : n + s + 1 ≡ n + suc s = omega arith in e)
-    (spread_free mine packed (n + s) t (spread_frees mine packed n s t h (λ i l. f i (omega arith))) (f s (omega arith)))
-
--- a cell of the mover's
-pub spread_own : (mine packed n t : ℕ) → IsSpreadTo mine packed n t → has_cell mine n ≡ true → IsSpreadTo mine packed (n + 1) (t + t / 2 ^ n * 2 ^ n)
-spread_own mine packed n t h e =
-    let m = spread_skip mine packed n (t % 2 ^ n) (t / 2 ^ n) h e in
-    let a = t / 2 ^ n in
-    let q : t + a * 2 ^ n ≡ a * 2 ^ (n + 1) + t % 2 ^ n = omega (arith, shr_split t n, twice a n) in
-    let low : t % 2 ^ n < 2 ^ n = mod_below t (2 ^ n) (pow_pos n) in
-    let b : t % 2 ^ n < 2 ^ (n + 1) = omega (arith, low, twice 1 n) in
-    record {
-      is_theirs = ap (λ (v : ℕ). v % 2 ^ (n + 1)) q ∙ mod-mul-add a (2 ^ (n + 1)) (t % 2 ^ n) b ∙ m.is_theirs;
-      is_rest = ap (λ (v : ℕ). v / 2 ^ (n + 1)) q ∙ div-mul-add a (2 ^ (n + 1)) (t % 2 ^ n) b ∙ m.is_rest;
-    }
-
--- all is spread
-pub spread_end : (cells mine packed t : ℕ) → IsSpreadTo mine packed cells t → mine < 2 ^ cells → packed < 2 ^ (cells - count_ones mine) → t ≡ spread_mask
-    cells mine packed
-unfolding free_below
-spread_end cells mine packed t h f g =
-    let k : free_below mine cells ≡ cells - count_ones mine = ap (λ (v : ℕ). cells - v) (members_small cells mine f) in
-    let z : t / 2 ^ cells ≡ 0 = h.is_rest ∙ ap (λ (v : ℕ). packed / 2 ^ v) k ∙ div-eq_of_lt g in
-    let w : t / 2 ^ cells * 2 ^ cells ≡ 0 = ap (λ (v : ℕ). v * 2 ^ cells) z ∙ (let u : 0 * 2 ^ cells ≡ 0 = omega arith in u) in
-    (let e : t ≡ t % 2 ^ cells = omega (arith, shr_split t cells, w) in e) ∙ h.is_theirs
-
--- the cells below n are packed, and the pieces from there on follow
-pub record IsPackedTo (mine theirs n free packed : ℕ) : Type 0 where
-  pub low : IsPacked mine theirs n (packed % 2 ^ free) free
-  pub high : packed / 2 ^ free ≡ theirs / 2 ^ n
-
--- nothing is packed yet
-pub packed_start : (mine theirs : ℕ) → IsPackedTo mine theirs 0 0 theirs
-packed_start mine theirs =
-    let l : theirs % 1 < 1 = mod_below theirs 1 (omega arith) in
-    let z : 0 ≡ theirs % 1 = omega (arith, l) in
-    record { low = subst (λ (v : ℕ). IsPacked mine theirs 0 v 0) z (packed_none mine theirs); high = refl }
-
-packed_free : (mine theirs n free packed : ℕ) → IsPackedTo mine theirs n free packed → has_cell mine n ≡ false → IsPackedTo mine theirs (n + 1) (free + 1)
-    packed
-packed_free mine theirs n free packed h e =
-    let m = packed_more mine theirs n (packed % 2 ^ free) free h.low e in
-    record {
-      low = subst (λ (v : ℕ). IsPacked mine theirs (n + 1) v (free + 1))
-          (ap (λ (v : ℕ). packed % 2 ^ free + bit_and v 1 * 2 ^ free) (sym h.high) ∙ sym (low_more packed free)) m;
-      high = sym (shr-shr packed free 1) ∙ ap (λ (v : ℕ). v / 2) h.high ∙ shr-shr theirs n 1;
-    }
-
--- cells without the mover's pieces, s of them
-pub packed_frees : (mine theirs n s free packed : ℕ) → IsPackedTo mine theirs n free packed → ((i : ℕ) → i < s → has_cell mine (n + i) ≡ false) → IsPackedTo
-    mine theirs (n + s) (free + s) packed
-packed_frees mine theirs n zero free packed h f =
-    subst (λ (k : ℕ). IsPackedTo mine theirs (n + 0) k packed) (let e : free ≡ free + 0 = omega arith in e)
-    (subst (λ (k : ℕ). IsPackedTo mine theirs k free packed) (let e : n ≡ n + 0 = omega arith in e) h)
-packed_frees mine theirs n (suc s) free packed h f =
-    subst (λ (k : ℕ). IsPackedTo mine theirs (n + suc s) k packed) (let e : free + s + 1 ≡ free + suc s = omega arith in e)
-    (subst (λ (k : ℕ). IsPackedTo mine theirs k (free + s + 1) packed) (let e : n + s + 1 ≡ n + suc s = omega arith in e)
-    (packed_free mine theirs (n + s) (free + s) packed (packed_frees mine theirs n s free packed h (λ i l. f i (omega arith))) (f s (omega arith))))
-
--- what the step takes away, and what it leaves
-pub record IsStepDown (theirs n free packed : ℕ) : Type 0 where
-  pub fits : theirs / 2 ^ n / 2 * 2 ^ free ≤ packed
-  pub left : packed - theirs / 2 ^ n / 2 * 2 ^ free ≡ theirs / 2 ^ n / 2 * 2 ^ free + packed % 2 ^ free
-
--- if the cell has no piece of the opponent's
-pub step_down : (mine theirs n free packed : ℕ) → IsPackedTo mine theirs n free packed → has_cell theirs n ≡ false → IsStepDown theirs n free packed
-step_down mine theirs n free packed h e =
-    let a = theirs / 2 ^ n / 2 in
-    let bit : theirs / 2 ^ n % 2 ≡ 0 = no_bit theirs n e in
-    let half : theirs / 2 ^ n ≡ a + a = omega (arith, bit) in
-    let q : packed / 2 ^ free * 2 ^ free ≡ a * 2 ^ free + a * 2 ^ free = ap (λ (v : ℕ). v * 2 ^ free) (h.high ∙ half) ∙ add-mul a a (2 ^ free) in
-    record { fits = omega (arith, shr_split packed free, q); left = omega (arith, shr_split packed free, q) }
+-- what doesn't change from n to c
+steady : (f : ℕ → ℕ) (n c : ℕ) → n ≤ c → ((i : ℕ) → i < c - n → f (n + i + 1) ≡ f (n + i)) → f c ≡ f n
+steady f n c l h = ap f (let e : c ≡ n + (c - n) = omega arith in e) ∙ same (c - n) h
   where
-    none : (v : ℕ) → v < 2 → eqb v 1 ≡ false → v ≡ 0
-    none zero l f = refl
-    none (suc zero) l f = cc
-    none (suc (suc v)) l f = absurd (omega arith)
+    same : (s : ℕ) → ((i : ℕ) → i < s → f (n + i + 1) ≡ f (n + i)) → f (n + s) ≡ f n
+    same zero g = ap f (let e : n + 0 ≡ n = omega arith in e)
+    same (suc s) g = ap f (let e : n + suc s ≡ n + s + 1 = omega arith in e) ∙ g s (omega arith) ∙ same s (λ i m. g i (omega arith))
 
-    no_bit : (m c : ℕ) → has_cell m c ≡ false → m / 2 ^ c % 2 ≡ 0
-    no_bit m c f = none (bit_at m c) (bit_at-lt m c) f
+-- ---- the cells below n without the mover's
+-- their number
+abbrev pub free_below : ℕ → ℕ → ℕ
+free_below mine n = n - members (tests_of n mine)
+
+next_tests : (mine n : ℕ) (b : Bool) → has_cell mine n ≡ b → tests_of (n + 1) mine ≡ b ∷ tests_of n mine
+next_tests mine n b e = ap (λ (j : ℕ). tests_of j mine) (add-one n) ∙ tests_more n mine ∙ ap (λ (x : Bool). x ∷ tests_of n mine) e
+
+free_same : (mine n : ℕ) → has_cell mine n ≡ true → free_below mine (n + 1) ≡ free_below mine n
+free_same mine n e = let q = ap members (next_tests mine n true e) in omega (arith, q)
+
+free_more : (mine n : ℕ) → has_cell mine n ≡ false → free_below mine (n + 1) ≡ free_below mine n + 1
+free_more mine n e = let q = ap members (next_tests mine n false e) in omega (arith, q, members_le (tests_of n mine), tests_length n mine)
+
+-- ---- packing
+-- the opponent's pieces below n packed, and those from there on behind them
+abbrev pub packed_to : ℕ → ℕ → ℕ → ℕ
+packed_to mine theirs n = mask_of (their_bits (cells_of n mine theirs)) + theirs / 2 ^ n * 2 ^ free_below mine n
+
+packed_none : (mine theirs : ℕ) → packed_to mine theirs 0 ≡ theirs
+packed_none mine theirs =
+    let m : mask_of (their_bits (cells_of 0 mine theirs)) ≡ 0 = ap (λ (cs : List Cell). mask_of (their_bits cs)) (cells_none mine theirs) in
+    let k : theirs / 1 * 2 ^ free_below mine 0 ≡ theirs / 1 * 1 = ap (λ (j : ℕ). theirs / 1 * 2 ^ j) (let z : free_below mine 0 ≡ 0 = omega arith in z) in
+    omega (arith, m, k)
+
+bits_mine : (a b : Bool) (cs : List Cell) → a ≡ true → their_bits (cell_by a b ∷ cs) ≡ their_bits cs
+bits_mine true b cs e = refl
+bits_mine false b cs e = cc
+
+bits_free : (a b : Bool) (cs : List Cell) → a ≡ false → their_bits (cell_by a b ∷ cs) ≡ b ∷ their_bits cs
+bits_free true b cs e = cc
+bits_free false true cs e = refl
+bits_free false false cs e = refl
+
+next_bits : (mine theirs n : ℕ) → their_bits (cells_of (n + 1) mine theirs) ≡ their_bits (cell_by (has_cell mine n) (has_cell theirs n) ∷ cells_of n mine theirs)
+next_bits mine theirs n = ap (λ (k : ℕ). their_bits (cells_of k mine theirs)) (add-one n) ∙ ap their_bits (cells_more n mine theirs)
+
+-- a cell without a piece of the mover's
+packed_free : (mine theirs n : ℕ) → has_cell mine n ≡ false → packed_to mine theirs (n + 1) ≡ packed_to mine theirs n
+packed_free mine theirs n e =
+    let bs = their_bits (cells_of n mine theirs) in
+    let k = free_below mine n in
+    let m : mask_of (their_bits (cells_of (n + 1) mine theirs)) ≡ bit_at theirs n * 2 ^ k + mask_of bs =
+    ap mask_of (next_bits mine theirs n ∙ bits_free (has_cell mine n) (has_cell theirs n) (cells_of n mine theirs) e)
+    ∙ mask_cons (has_cell theirs n) bs
+    ∙ ap₂ (λ (x j : ℕ). x * 2 ^ j + mask_of bs) (weight_bit theirs n) (free_length n mine theirs) in
+    let f = ap (λ (j : ℕ). theirs / 2 ^ (n + 1) * 2 ^ j) (free_more mine n e) in
+    omega (arith, m, f, moved theirs n k)
 
 -- a cell of the mover's
-pub packed_own : (mine theirs n free packed : ℕ) → IsPackedTo mine theirs n free packed → has_cell mine n ≡ true → has_cell theirs n ≡ false
-    → IsPackedTo mine theirs (n + 1) free (packed - theirs / 2 ^ n / 2 * 2 ^ free)
-packed_own mine theirs n free packed h e f =
-    let s = step_down mine theirs n free packed h f in
-    let a = theirs / 2 ^ n / 2 in
-    let b : packed % 2 ^ free < 2 ^ free = mod_below packed (2 ^ free) (pow_pos free) in
-    let m = packed_skip mine theirs n (packed % 2 ^ free) free h.low e in
-    record {
-      low = subst (λ (v : ℕ). IsPacked mine theirs (n + 1) v free) (sym (ap (λ (v : ℕ). v % 2 ^ free) s.left ∙ mod-mul-add a (2 ^ free) (packed % 2 ^ free)
-          b)) m;
-      high = ap (λ (v : ℕ). v / 2 ^ free) s.left ∙ div-mul-add a (2 ^ free) (packed % 2 ^ free) b ∙ shr-shr theirs n 1;
-    }
+packed_own : (mine theirs n : ℕ) → has_cell mine n ≡ true → has_cell theirs n ≡ false
+    → packed_to mine theirs (n + 1) + theirs / 2 ^ n / 2 * 2 ^ free_below mine n ≡ packed_to mine theirs n
+packed_own mine theirs n e f =
+    let k = free_below mine n in
+    let m = ap mask_of (next_bits mine theirs n ∙ bits_mine (has_cell mine n) (has_cell theirs n) (cells_of n mine theirs) e) in
+    let none : bit_at theirs n * 2 ^ k ≡ 0 * 2 ^ k = ap (λ (v : ℕ). v * 2 ^ k) (no_bit (bit_at theirs n) (bit_at-lt theirs n) f) in
+    let same = ap (λ (j : ℕ). theirs / 2 ^ (n + 1) * 2 ^ j) (free_same mine n e) in
+    let down = ap (λ (v : ℕ). v * 2 ^ k) (shr-shr theirs n 1) in
+    omega (arith, m, none, same, down, twice (theirs / 2 ^ (n + 1)) k, moved theirs n k)
 
--- all is packed
-pub packed_end : (cells mine theirs free packed : ℕ) → IsPackedTo mine theirs cells free packed → theirs < 2 ^ cells → packed ≡ mask_of
-    (their_bits (cells_of cells mine theirs))
-packed_end cells mine theirs free packed h l =
-    let z : packed / 2 ^ free ≡ 0 = h.high ∙ div-eq_of_lt l in
-    let w : packed / 2 ^ free * 2 ^ free ≡ 0 = ap (λ (v : ℕ). v * 2 ^ free) z ∙ (let u : 0 * 2 ^ free ≡ 0 = omega arith in u) in
-    (let e : packed ≡ packed % 2 ^ free = omega (arith, shr_split packed free, w) in e) ∙ h.low.is_packed
+packed_all : (cells mine theirs : ℕ) → theirs < 2 ^ cells → packed_to mine theirs cells ≡ mask_of (their_bits (cells_of cells mine theirs))
+packed_all cells mine theirs l =
+    let z : theirs / 2 ^ cells * 2 ^ free_below mine cells ≡ 0 * 2 ^ free_below mine cells = ap (λ (v : ℕ). v * 2 ^ free_below mine cells) (div-eq_of_lt l) in
+    omega (arith, z)
 
--- ---- the loops
 -- what holds before each of the mover's cells: those below some `next` are done, of which the mover has `passed`
 pub record IsPacking (cells mine theirs rest passed packed : ℕ) : Type 0 where
   pub next : ℕ
   pub within : next ≤ cells
-  pub passed_le : passed ≤ next
   pub is_rest : IsRest mine next rest
-  pub is_to : IsPackedTo mine theirs next (next - passed) packed
+  pub is_passed : passed ≡ members (tests_of next mine)
+  pub is_packed : packed ≡ packed_to mine theirs next
 
 -- what a turn does at a cell
 pub record IsPackTurn (cells mine theirs rest passed packed cell : ℕ) : Type 0 where
@@ -302,7 +116,13 @@ pub record IsPackTurn (cells mine theirs rest passed packed cell : ℕ) : Type 0
 
 -- nothing is packed yet
 pub packing : (cells mine theirs : ℕ) → IsPacking cells mine theirs mine 0 theirs
-packing cells mine theirs = record { next = 0; within = omega arith; passed_le = omega arith; is_rest = rest_whole mine; is_to = packed_start mine theirs }
+packing cells mine theirs = record {
+  next = 0;
+  within = omega arith;
+  is_rest = rest_whole mine;
+  is_passed = sym (ap members (tests_none mine));
+  is_packed = sym (packed_none mine theirs);
+}
 
 -- a turn
 pub pack_turn : (cells mine theirs rest passed packed : ℕ) → IsPacking cells mine theirs rest passed packed → mine < 2 ^ cells → bit_and mine theirs ≡ 0
@@ -314,23 +134,25 @@ pack_turn cells mine theirs rest passed packed h f a j g p =
     let own : has_cell mine c ≡ true = cell_one mine c z.has in
     let below : c < cells = cell_below mine cells c f own in
     let none : has_cell theirs c ≡ false = apart_below (c + 1) mine theirs a c (omega arith) own in
-    let to = subst (λ (k : ℕ). IsPackedTo mine theirs c k packed) (let e : n - passed + (c - n) ≡ c - passed = omega (arith, z.from, h.passed_le) in e)
-    (subst (λ (k : ℕ). IsPackedTo mine theirs k (n - passed + (c - n)) packed) (let e : n + (c - n) ≡ c = omega (arith, z.from) in e)
-    (packed_frees mine theirs n (c - n) (n - passed) packed h.is_to (λ i l. cell_none mine (n + i) (z.none i l)))) in
-    let d = step_down mine theirs c (c - passed) packed to none in
+    let at : n + (c - n) ≡ c = omega (arith, z.from) in
+    let count : members (tests_of c mine) ≡ passed = ap (λ (k : ℕ). members (tests_of k mine)) (sym at) ∙ members_skips n (c - n) mine z.none ∙ sym h.is_passed in
+    let to : packed_to mine theirs c ≡ packed = steady (packed_to mine theirs) n c z.from (λ i l. packed_free mine theirs (n + i) (cell_none mine (n + i)
+    (z.none i l))) ∙ sym h.is_packed in
+    let down : theirs / 2 ^ c / 2 * 2 ^ (c - passed) ≡ theirs / 2 ^ c / 2 * 2 ^ free_below mine c = ap (λ (k : ℕ). theirs / 2 ^ c / 2 * 2 ^ (c - k)) (sym count) in
+    let d = packed_own mine theirs c own none in
+    let fits : theirs / 2 ^ c / 2 * 2 ^ (c - passed) ≤ packed = omega (arith, down, d, to) in
     record {
       shift = below;
-      passed_le = omega (arith, h.passed_le, z.from);
-      whole = mod-eq_of_lt (lt_of_le_of_lt d.fits j);
-      fits = d.fits;
+      passed_le = omega (arith, count, members_le (tests_of c mine), tests_length c mine);
+      whole = mod-eq_of_lt (lt_of_le_of_lt fits j);
+      fits = fits;
       after = record {
         next = c + 1;
         within = omega (arith, below);
-        passed_le = omega (arith, h.passed_le, z.from);
         is_rest = z.left;
-        is_to = subst (λ (k : ℕ). IsPackedTo mine theirs (c + 1) k (packed - theirs / 2 ^ c / 2 * 2 ^ (c - passed)))
-            (let e : c - passed ≡ c + 1 - (passed + 1) = omega arith in e)
-            (packed_own mine theirs c (c - passed) packed to own none);
+        is_passed = sym (ap (λ (k : ℕ). members (tests_of k mine)) (add-one c) ∙ members_add c mine z.has ∙
+            (let e : suc (members (tests_of c mine)) ≡ passed + 1 = omega (arith, count) in e));
+        is_packed = omega (arith, down, d, to);
       };
     }
 
@@ -339,11 +161,83 @@ pub pack_done : (cells mine theirs rest passed packed : ℕ) → IsPacking cells
     mask_of (their_bits (cells_of cells mine theirs))
 pack_done cells mine theirs rest passed packed h l e =
     let n = h.next in
-    packed_end cells mine theirs (n - passed + (cells - n)) packed
-    (subst (λ (k : ℕ). IsPackedTo mine theirs k (n - passed + (cells - n)) packed) (let q : n + (cells - n) ≡ cells = omega (arith, h.within) in q)
-    (packed_frees mine theirs n (cells - n) (n - passed) packed h.is_to (λ i k. cell_none mine (n + i)
+    h.is_packed
+    ∙ sym (steady (packed_to mine theirs) n cells h.within (λ i k. packed_free mine theirs (n + i) (cell_none mine (n + i)
     (nothing_left mine n rest (n + i) h.is_rest e (omega arith)))))
-    l
+    ∙ packed_all cells mine theirs l
+
+-- ---- spreading
+merge_length : (ms ts : List Bool) → length (their_tests (merge ms ts)) ≡ length ms
+merge_length [] ts = refl
+merge_length (true ∷ ms) ts = ap suc (merge_length ms ts)
+merge_length (false ∷ ms) [] = ap suc (merge_length ms [])
+merge_length (false ∷ ms) (true ∷ ts) = ap suc (merge_length ms ts)
+merge_length (false ∷ ms) (false ∷ ts) = ap suc (merge_length ms ts)
+
+tests_cell : (b : Bool) (cs : List Cell) → their_tests (their_cell b ∷ cs) ≡ b ∷ their_tests cs
+tests_cell true cs = refl
+tests_cell false cs = refl
+
+spread_below : (n mine packed : ℕ) → spread_mask n mine packed < 2 ^ n
+unfolding spread_mask
+spread_below n mine packed =
+    let ms = tests_of n mine in
+    let ts = their_tests (merge ms (tests_of (n - members ms) packed)) in
+    subst (λ (k : ℕ). mask_of ts < 2 ^ k) (merge_length ms (tests_of (n - members ms) packed) ∙ tests_length n mine) (mask_below ts)
+
+-- what is spread fits the cells
+pub spread_fits : (cells mine packed : ℕ) → cells ≤ 32 → spread_mask cells mine packed < 2 ^ 32
+spread_fits cells mine packed w =
+    let p : 2 ^ cells ≤ 2 ^ 32 = pow_mono w in
+    omega (arith, spread_below cells mine packed, p)
+
+mask_same : (mine packed n : ℕ) → has_cell mine n ≡ true → spread_mask (n + 1) mine packed ≡ spread_mask n mine packed
+unfolding spread_mask
+mask_same mine packed n e = ap₂ (λ (bs : List Bool) (k : ℕ). mask_of (their_tests (merge bs (tests_of k packed)))) (next_tests mine n true e) (free_same mine n e)
+
+mask_more : (mine packed n : ℕ) → has_cell mine n ≡ false → spread_mask (n + 1) mine packed ≡ bit_at packed (free_below mine n) * 2 ^ n + spread_mask n mine
+    packed
+unfolding spread_mask
+mask_more mine packed n e =
+    let ms = tests_of n mine in
+    let k = free_below mine n in
+    let cs = merge ms (tests_of k packed) in
+    ap₂ (λ (bs : List Bool) (j : ℕ). mask_of (their_tests (merge bs (tests_of j packed)))) (next_tests mine n false e) (free_more mine n e ∙ add-one k)
+    ∙ ap (λ (us : List Bool). mask_of (their_tests (merge (false ∷ ms) us))) (tests_more k packed)
+    ∙ ap mask_of (tests_cell (has_cell packed k) cs)
+    ∙ mask_cons (has_cell packed k) (their_tests cs)
+    ∙ ap₂ (λ (x j : ℕ). x * 2 ^ j + mask_of (their_tests cs)) (weight_bit packed k) (merge_length ms (tests_of k packed) ∙ tests_length n mine)
+
+-- the pieces on the cells below n spread, and those from there on as they stand in the packed mask
+abbrev pub spread_to : ℕ → ℕ → ℕ → ℕ
+spread_to mine packed n = spread_mask n mine packed + packed / 2 ^ free_below mine n * 2 ^ n
+
+spread_none : (mine packed : ℕ) → spread_to mine packed 0 ≡ packed
+spread_none mine packed =
+    let k : packed / 2 ^ free_below mine 0 ≡ packed / 1 = ap (λ (j : ℕ). packed / 2 ^ j) (let z : free_below mine 0 ≡ 0 = omega arith in z) in
+    omega (arith, spread_below 0 mine packed, k)
+
+-- a cell without a piece of the mover's
+spread_free : (mine packed n : ℕ) → has_cell mine n ≡ false → spread_to mine packed (n + 1) ≡ spread_to mine packed n
+spread_free mine packed n e =
+    let f = ap (λ (j : ℕ). packed / 2 ^ j * 2 ^ (n + 1)) (free_more mine n e) in
+    omega (arith, mask_more mine packed n e, f, moved packed (free_below mine n) n)
+
+-- a cell of the mover's
+spread_own : (mine packed n : ℕ) → has_cell mine n ≡ true → spread_to mine packed n + spread_to mine packed n / 2 ^ n * 2 ^ n ≡ spread_to mine packed (n + 1)
+spread_own mine packed n e =
+    let q = packed / 2 ^ free_below mine n in
+    let same = ap (λ (j : ℕ). packed / 2 ^ j * 2 ^ (n + 1)) (free_same mine n e) in
+    let up : spread_to mine packed n / 2 ^ n ≡ q = ap (λ (v : ℕ). v / 2 ^ n) (let z : spread_to mine packed n ≡ q * 2 ^ n + spread_mask n mine packed = omega
+    arith in z) ∙ div-mul-add q (2 ^ n) (spread_mask n mine packed) (spread_below n mine packed) in
+    let part = ap (λ (v : ℕ). v * 2 ^ n) up in
+    omega (arith, mask_same mine packed n e, same, part, twice q n)
+
+spread_all : (cells mine packed : ℕ) → mine < 2 ^ cells → packed < 2 ^ (cells - count_ones mine) → spread_to mine packed cells ≡ spread_mask cells mine packed
+spread_all cells mine packed f g =
+    let k : packed / 2 ^ free_below mine cells ≡ 0 = ap (λ (v : ℕ). packed / 2 ^ (cells - v)) (members_small cells mine f) ∙ div-eq_of_lt g in
+    let z : packed / 2 ^ free_below mine cells * 2 ^ cells ≡ 0 * 2 ^ cells = ap (λ (v : ℕ). v * 2 ^ cells) k in
+    omega (arith, z)
 
 -- what holds before each of the mover's cells: those below some `next` are done
 pub record IsSpreading (cells mine packed rest theirs : ℕ) : Type 0 where
@@ -351,7 +245,7 @@ pub record IsSpreading (cells mine packed rest theirs : ℕ) : Type 0 where
   pub within : next ≤ cells
   pub fits : theirs < 2 ^ (32 + next)
   pub is_rest : IsRest mine next rest
-  pub is_to : IsSpreadTo mine packed next theirs
+  pub is_theirs : theirs ≡ spread_to mine packed next
 
 -- what a turn does at a cell
 pub record IsSpreadTurn (cells mine packed rest theirs cell : ℕ) : Type 0 where
@@ -362,7 +256,13 @@ pub record IsSpreadTurn (cells mine packed rest theirs cell : ℕ) : Type 0 wher
 
 -- nothing is spread yet
 pub spreading : (cells mine packed : ℕ) → packed < 2 ^ 32 → IsSpreading cells mine packed mine packed
-spreading cells mine packed l = record { next = 0; within = omega arith; fits = l; is_rest = rest_whole mine; is_to = spread_start mine packed }
+spreading cells mine packed l = record {
+  next = 0;
+  within = omega arith;
+  fits = l;
+  is_rest = rest_whole mine;
+  is_theirs = sym (spread_none mine packed);
+}
 
 -- a turn
 pub spread_turn : (cells mine packed rest theirs : ℕ) → IsSpreading cells mine packed rest theirs → cells ≤ 32 → mine < 2 ^ cells
@@ -373,8 +273,8 @@ spread_turn cells mine packed rest theirs h w f g p =
     let z = lowest mine n rest h.is_rest g p in
     let own : has_cell mine c ≡ true = cell_one mine c z.has in
     let below : c < cells = cell_below mine cells c f own in
-    let to = subst (λ (k : ℕ). IsSpreadTo mine packed k theirs) (let e : n + (c - n) ≡ c = omega (arith, z.from) in e)
-    (spread_frees mine packed n (c - n) theirs h.is_to (λ i l. cell_none mine (n + i) (z.none i l))) in
+    let to : spread_to mine packed c ≡ theirs = steady (spread_to mine packed) n c z.from (λ i l. spread_free mine packed (n + i) (cell_none mine (n + i)
+    (z.none i l))) ∙ sym h.is_theirs in
     let up = theirs / 2 ^ c * 2 ^ c in
     let part : up ≤ theirs = omega (arith, shr_split theirs c) in
     let e : 2 ^ (32 + (c + 1)) ≡ 2 ^ (32 + c) + 2 ^ (32 + c) = ap (λ (k : ℕ). 2 ^ k) (let q : 32 + (c + 1) ≡ suc (32 + c) = omega arith in q) ∙ two-pow-succ
@@ -391,7 +291,7 @@ spread_turn cells mine packed rest theirs h w f g p =
         within = omega (arith, below);
         fits = twofold;
         is_rest = z.left;
-        is_to = spread_own mine packed c theirs to own;
+        is_theirs = ap (λ (v : ℕ). v + v / 2 ^ c * 2 ^ c) (sym to) ∙ spread_own mine packed c own;
       };
     }
 
@@ -400,18 +300,7 @@ pub spread_done : (cells mine packed rest theirs : ℕ) → IsSpreading cells mi
     (cells - count_ones mine) → rest ≡ 0 → theirs ≡ spread_mask cells mine packed
 spread_done cells mine packed rest theirs h f g e =
     let n = h.next in
-    spread_end cells mine packed theirs
-    (subst (λ (k : ℕ). IsSpreadTo mine packed k theirs) (let q : n + (cells - n) ≡ cells = omega (arith, h.within) in q)
-    (spread_frees mine packed n (cells - n) theirs h.is_to (λ i k. cell_none mine (n + i) (nothing_left mine n rest (n + i) h.is_rest e (omega arith)))))
-    f g
-
--- what is spread fits the cells
-pub spread_fits : (cells mine packed : ℕ) → cells ≤ 32 → spread_mask cells mine packed < 2 ^ 32
-unfolding spread_mask
-spread_fits cells mine packed w =
-    let ms = tests_of cells mine in
-    let ts = tests_of (cells - members ms) packed in
-    let l : mask_of (their_tests (merge ms ts)) < 2 ^ cells = subst (λ (k : ℕ). mask_of (their_tests (merge ms ts)) < 2 ^ k)
-    (merge_length ms ts ∙ tests_length cells mine) (mask_below (their_tests (merge ms ts))) in
-    let p : 2 ^ cells ≤ 2 ^ 32 = pow_mono w in
-    omega (arith, l, p)
+    h.is_theirs
+    ∙ sym (steady (spread_to mine packed) n cells h.within (λ i k. spread_free mine packed (n + i) (cell_none mine (n + i)
+    (nothing_left mine n rest (n + i) h.is_rest e (omega arith)))))
+    ∙ spread_all cells mine packed f g

@@ -1,11 +1,8 @@
 -- The steps of making a number of digits, and of taking it apart again.
-use Rattle.std.proofs.Common.{◌≡◌, ℕ, zero, suc, ◌+◌, ◌*◌, ◌/◌, ◌%◌, ◌^◌, ◌<◌, ◌≤◌, List, [], ◌∷◌, ◌++◌, length, get_or, set, take, drop, sym, ap, ap₂, ◌∙◌}
-use Rattle.std.proofs.Common.{subst, arith, mod-lt, mul-le-mul_left, length-set, length-take, get_or-take, get_or-set_same, get_or-set_other, inl, inr}
-use Rattle.std.proofs.Common.{div-lt_iff_lt-mul}
-use Rattle.std.proofs.lemmas.Bool.{cases_eq}
-use Rattle.std.proofs.lemmas.Nat.{div-add-mod', mul-mod_first}
-use Rattle.std.proofs.lemmas.List.{take_more, take_all, drop_more, drop-set}
-use Rattle.gm_board.specs.Digits.{radix_size, digits_number, AreBelow, number_digits}
+use Rattle.gm_board.proofs.Lower.{◌≡◌, ℕ, zero, suc, ◌+◌, ◌*◌, ◌/◌, ◌%◌, ◌^◌, ◌<◌, ◌≤◌, List, [], ◌∷◌, ◌++◌, length, get_or, set, take, drop, sym, ap, ap₂, ◌∙◌}
+use Rattle.gm_board.proofs.Lower.{subst, arith, mod-lt, mul-le-mul_left, length-set, length-take, get_or-take, get_or-set_same, get_or-set_other, inl, inr}
+use Rattle.gm_board.proofs.Lower.{div-lt_iff_lt-mul, cases_eq, div-add-mod', mul-mod_first, take_more, take_all, drop_more, drop-set, radix_size, digits_number}
+use Rattle.gm_board.proofs.Lower.{AreBelow, number_digits}
 use Rattle.gm_board.specs.laws.Digits.{number_below, digits_back}
 
 size_push : (rs : List ℕ) (r : ℕ) → radix_size (rs ++ r ∷ []) ≡ radix_size rs * r

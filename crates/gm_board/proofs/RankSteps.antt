@@ -1,15 +1,9 @@
 -- The steps of ranking a mask, from its lowest cell up.
-use Rattle.std.proofs.Common.{◌≡◌, ℕ, suc, ◌+◌, ◌-◌, ◌*◌, ◌/◌, ◌%◌, ◌^◌, ◌<◌, ◌≤◌, length, sym, ap, ap₂, ◌∙◌, arith}
-use Rattle.std.specs.Prelude.{bit_and, count_ones}
-use Rattle.std.specs.Int.{bit_at, trailing_zeros, w32}
-use Rattle.std.proofs.lemmas.Nat.{shr_split, mod_below}
-use Rattle.std.proofs.lemmas.Nat.Bits.{bit_at-zero, bit_at_cat_low, bit_at_cat_high}
-use Rattle.gm_board.specs.Binomials.{binomial}
-use Rattle.gm_board.specs.laws.Binomials.{binomial_small}
-use Rattle.gm_board.specs.Ranks.{members, rank}
-use Rattle.gm_board.specs.laws.Ranks.{rank_below, members_le}
-use Rattle.gm_board.specs.Masks.{tests_of, mask_rank}
-use Rattle.gm_board.specs.laws.Masks.{tests_length, tests_same, mask_rank_at, members_ones, members_skips, rank_skips, members_add, rank_add}
+use Rattle.gm_board.proofs.Lower.{◌≡◌, ℕ, suc, ◌+◌, ◌-◌, ◌*◌, ◌/◌, ◌%◌, ◌^◌, ◌<◌, ◌≤◌, length, sym, ap, ap₂, ◌∙◌, arith, bit_and, count_ones, bit_at}
+use Rattle.gm_board.proofs.Lower.{trailing_zeros, w32, shr_split, mod_below, bit_at-zero, bit_at_cat_low, bit_at_cat_high, binomial, binomial_small, members}
+use Rattle.gm_board.proofs.Lower.{rank, rank_below, members_le, tests_of, tests_length, tests_same, mask_rank_at, members_ones, members_skips, rank_skips}
+use Rattle.gm_board.proofs.Lower.{members_add, rank_add}
+use Rattle.gm_board.specs.Masks.{mask_rank}
 use Rattle.gm_board.proofs.LowestCells.{IsRest, lowest, nothing_left}
 
 -- the cells below some `next` are counted, and `rest` has the others

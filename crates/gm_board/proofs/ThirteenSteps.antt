@@ -1,12 +1,7 @@
 -- The table of the subsets of thirteen cells.
-use Rattle.std.proofs.Common.{◌≡◌, ℕ, zero, suc, ◌+◌, ◌-◌, ◌<◌, ◌≤◌, List, [], ◌++◌, map, length, get_or, refl, sym, ap, ◌∙◌, arith, inl, inr, length-append}
-use Rattle.std.specs.List.{range_with_len}
-use Rattle.std.proofs.lemmas.Bool.{cases_lt}
-use Rattle.std.proofs.lemmas.List.{get_or_append_left, get_or-append-add}
-use Rattle.std.proofs.lemmas.List.FromFn.{get_or-map-range_with_len}
-use Rattle.gm_board.specs.Binomials.{binomial}
-use Rattle.gm_board.specs.laws.Binomials.{binomial_past}
-use Rattle.gm_board.specs.Masks.{mask_unrank}
+use Rattle.gm_board.proofs.Lower.{◌≡◌, ℕ, zero, suc, ◌+◌, ◌-◌, ◌<◌, ◌≤◌, List, [], ◌++◌, map, length, get_or, refl, sym, ap, ◌∙◌, arith, inl, inr}
+use Rattle.gm_board.proofs.Lower.{length-append, range_with_len, cases_lt, get_or_append_left, get_or-append-add, get_or-map-range_with_len, binomial}
+use Rattle.gm_board.proofs.Lower.{binomial_past, mask_unrank}
 use Rattle.gm_board.specs.declared.thirteens.TheConstants.{SUBSETS, STARTS}
 use Rattle.gm_board.proofs.FourSteps.{subsets, subsets_length, subsets_at, binomial_wide, mask_unrank_wide}
 use Rattle.gm_board.proofs.UnrankSteps.{IsUnranked}

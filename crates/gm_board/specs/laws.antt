@@ -22,3 +22,4 @@ pub mod SquareImages
 pub mod CellCounts
 pub mod Filters
 pub mod Lists
+pub mod Lower

@@ -46,9 +46,10 @@ impl<G: Game> Drop for Built<G> {
 
 /// Builds a game: the true table of each tier that it reaches, child tiers first. The order of tiers is made before the first read. Then each tier is read
 /// once: a text that `decode` and `check` accept is reused and not written; a text of version 1 that `decode_v1` and `check` accept is migrated, by one write
-/// of the tier's text; otherwise the tier is solved, and its text is written once. By `Plan::new` workers solve every tier, with the gate round each delivery
-/// and the source asked for each piece; by `Plan::fastest` they solve only tiers in which a move stays. While the text of a large tier that was solved is made,
-/// the next tier is solved ahead if there are several workers; its table is dropped if its entry is reused or migrated.
+/// of the tier's text; otherwise the tier is solved, and its text is written once. No text is made for a store that takes none. By `Plan::new` workers solve
+/// every tier, with the gate round each delivery and the source asked for each piece; by `Plan::fastest` they solve only tiers in which a move stays. While the
+/// text of a large tier that was solved is made, the next tier is solved ahead if there are several workers; its table is dropped if its entry is reused or
+/// migrated.
 ///
 /// Neither the tables nor the texts nor the number of deliveries depend on the plan, the gate or the source. Of a store that does not keep its map, such as a
 /// folder, nothing is promised about its texts, but the tables are true all the same. The store's count of failures rises exactly if the result is

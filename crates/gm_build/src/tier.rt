@@ -141,7 +141,7 @@ impl<R: Threads + Wait + Files + Sync, T: Gate, P: Source, O: Observer> Builder<
         }
     }
 
-    // Holds the table of a tier, and writes its text once. Returns what was done for the next tier while the text was made.
+    // Holds the table of a tier, and writes its text once if the store takes texts. Returns what was done for the next tier while the text was made.
     fn keep<G: Game + Send + Sync, S: Store>(
         &self,
         table: Table<G>,
@@ -159,6 +159,12 @@ impl<R: Threads + Wait + Files + Sync, T: Gate, P: Source, O: Observer> Builder<
         ensures count { S.failed store.new ≡ S.failed store.old + failures_in result }
     {
         let tier = table.tier();
+        if !store.takes_texts() {
+            return match tables.insert(table) {
+                Ok(()) => Ok(None),
+                Err(_refused) => Err(BuildError::OutOfMemory),
+            };
+        }
         if let Err(refused) = tables.insert(table) {
             // The next build reuses the text.
             let table = &refused.value;

@@ -9,7 +9,7 @@ use gm_json::asked::Asked as PositionJson;
 use gm_play::sides::Side;
 use gm_solver::plan::Plan;
 
-/// The place where the tables of a game are stored.
+/// The place of the tables of a game.
 #[derive(Clone, Copy)]
 pub enum TableLocation<'a> {
     /// Memory, only while the program runs.

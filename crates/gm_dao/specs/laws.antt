@@ -6,3 +6,4 @@ pub mod PlayFacts
 pub mod BeforeFacts
 pub mod DaoLaws
 pub mod TextLaws
+pub mod DaoPictured

@@ -1,2 +1,3 @@
 pub mod Dodgem
+pub mod DodgemPicture
 pub mod laws

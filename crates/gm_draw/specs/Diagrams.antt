@@ -1,14 +1,11 @@
 -- Diagrams: SVG documents of positions, byte by byte.
-use Rattle.std.specs.Prelude.{◌≡◌, ℕ, ◌+◌, ◌-◌, ◌*◌, ◌/◌, max, Bool, true, false, ◌||◌, ◌&&◌, ◌==◌, List, [], ◌∷◌, ◌++◌, count_by, nat_lt, slice_index, codes}
+use Rattle.std.specs.Prelude.{ℕ, ◌+◌, ◌-◌, ◌*◌, ◌/◌, max, Bool, true, false, ◌||◌, ◌&&◌, ◌==◌, List, [], ◌∷◌, ◌++◌, count_by, nat_lt, slice_index, codes}
 use Rattle.std.specs.Prelude.{if◌then◌else◌}
 use Rattle.std.specs.Fmt.{decimal}
 use Rattle.std.specs.List.{flat_map}
 use Rattle.gm_game.specs.declared.position.Position.{Position}
 use Rattle.gm_game.specs.declared.position.Solved.{Solved}
-use Rattle.gm_game.specs.Rules.{Rules}
 use Rattle.gm_game.specs.Texts.{text_of}
-use Rattle.gm_game.specs.Values.{IsTrueValue}
-use Rattle.gm_play.specs.PlayTexts.{IsReadAs}
 use Rattle.gm_draw.specs.declared.pictured.Style.{Style}
 use Rattle.gm_draw.specs.declared.pictured.Style.TheVariants.{Row, Crosses, Counters, Stones, Discs, Letters, Chess, Hounds}
 use Rattle.gm_draw.specs.Templates.{is_slot, spread}
@@ -278,11 +275,7 @@ svg_of style title board text drawing caption =
 abbrev pub caption_of : List ℕ → Solved → Bool → List ℕ
 caption_of mover s valued = mover ++ codes " to move" ++ (if valued then codes ": " ++ text_of s else [])
 
-module _ (r : Rules) (shown : Position → List ℕ) (move_shown : Position → ℕ → List ℕ) (picture : PictureSpec) where
-  -- the diagram of a position with this value
-  abbrev pub diagram_of : Bool → Position → Solved → List ℕ
-  diagram_of valued p s = svg_of picture.style picture.title picture.board (shown p) (drawn picture shown p) (caption_of (picture.mover p) s valued)
-
-  -- the diagram of the position with this text
-  abbrev pub IsDiagram : Bool → List ℕ → List ℕ → Type 0
-  IsDiagram valued text out = (p : Position) × IsReadAs r shown move_shown text p × (s : Solved) × IsTrueValue r p s × (out ≡ diagram_of valued p s)
+-- the diagram of a position with this value
+abbrev pub diagram_of : PictureSpec → (Position → List ℕ) → Bool → Position → Solved → List ℕ
+diagram_of picture shown valued p s =
+    svg_of picture.style picture.title picture.board (shown p) (drawn picture shown p) (caption_of (picture.mover p) s valued)

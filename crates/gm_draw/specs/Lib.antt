@@ -1,13 +1,10 @@
 pub mod Templates
 pub mod Chessboards
 pub mod Pictures
+pub mod GameSpecs
 pub mod Drawn
-pub mod Movers
 pub mod Points
-pub mod Games
 pub mod Pictured
-pub mod ShowTexts
 pub mod Diagrams
 pub mod Spots
-pub mod Sights
 pub mod laws

@@ -1,5 +1,5 @@
 -- Pictures: what a game looks like, and the drawings of its positions.
-use Rattle.std.specs.Prelude.{◌≡◌, ℕ, ◌-◌, ◌==◌, List, [], map, length, slice_index, slice_index_or, if◌then◌else◌}
+use Rattle.std.specs.Prelude.{◌≡◌, ℕ, ◌-◌, ◌==◌, List, [], map, length, slice_index, slice_index_or, codes, if◌then◌else◌}
 use Rattle.std.specs.Borrow.{Bor}
 use Rattle.gm_game.specs.declared.position.Position.{Position}
 use Rattle.gm_draw.specs.declared.pictured.Style.{Style}
@@ -28,6 +28,14 @@ pub record PictureSpec : Type 0 where
   pub mover : Position → List ℕ
   -- the description of how cells, positions and moves are written
   pub naming : List ℕ
+
+-- the side to move, in games whose positions are seen from the side to move
+abbrev pub x_moves : Position → List ℕ
+x_moves p = codes "x"
+
+-- the side to move, in games in which both sides have the same moves
+abbrev pub player_moves : Position → List ℕ
+player_moves p = codes "player"
 
 -- how positions are drawn
 abbrev pub layout_of : Style → Layout

@@ -1,41 +1,18 @@
--- The points of the boards: their names, in the order of the bytes of a position's text.
-use Rattle.std.specs.Prelude.{◌≡◌, ℕ, ◌+◌, ◌*◌, ◌⊎◌, Bool, true, not, ◌&&◌, ◌==◌, List, [], ◌∷◌, ◌++◌, map, length}
+-- The points of boards: their names, in the order of the bytes of a position's text.
+use Rattle.std.specs.Prelude.{◌≡◌, ℕ, ◌*◌, ◌⊎◌, Bool, true, not, ◌&&◌, ◌==◌, List, [], ◌∷◌, ◌++◌, map, length, codes}
 use Rattle.std.specs.Fmt.{decimal}
 use Rattle.std.specs.List.{Contains, list_all, list_any, range_with_len}
 use Rattle.std.specs.Str.{bytes_eq}
 use Rattle.gm_board.specs.Squares.{cell_text}
-use Rattle.gm_hare.specs.Texts.{point_name}
-use Rattle.gm_mutorere.specs.Texts.{point_text}
 
--- ---- the points of the games
+-- ---- points
 -- the cells of a square of side s, row by row
 unfoldable pub square_points : ℕ → List (List ℕ)
 square_points s = map (cell_text s) (range_with_len 0 (s * s))
 
--- the points of the ring, and its center
-abbrev pub ring_name : ℕ → List ℕ
-ring_name k = point_text k ∷ []
-
-unfoldable pub ring_points : List (List ℕ)
-ring_points = map ring_name (range_with_len 0 9)
-
--- the points of Pong Hau K'i, by their digits
-abbrev pub pong_name : ℕ → List ℕ
-pong_name k = (48 + k) ∷ []
-
-unfoldable pub pong_points : List (List ℕ)
-pong_points = map pong_name (range_with_len 0 5)
-
--- the points of Tapatan, by digits from 1 on
-abbrev pub tapatan_name : ℕ → List ℕ
-tapatan_name k = (49 + k) ∷ []
-
-unfoldable pub tapatan_points : List (List ℕ)
-tapatan_points = map tapatan_name (range_with_len 0 9)
-
--- the points of Hare and Hounds
-unfoldable pub hare_points : List (List ℕ)
-hare_points = map point_name (range_with_len 0 11)
+-- how cells and positions are written on a square
+abbrev pub square_naming : List ℕ
+square_naming = codes "A cell is its row and its column, as a1.\nA position is its cells, row by row: x for the\nside to move, o for the other, . where it is empty\n"
 
 -- the numbers below n
 unfoldable pub number_points : ℕ → List (List ℕ)

@@ -2,6 +2,8 @@
 ghost use Rattle.std.specs.Prelude.{◌≡◌, ◌≤◌, [], ◌∷◌, length};
 ghost use Rattle.gm_draw.specs.Chessboards.{chess_byte, chess_drawing, file_at as file_at_spec, rank_at as rank_at_spec, is_dark as is_dark_spec};
 ghost use Rattle.gm_draw.specs.Chessboards.{man_on as man_on_spec, man_at as man_at_spec, square_byte as square_byte_spec};
+ghost use Rattle.gm_draw.specs.Chessboards.{chess_board as chess_board_of, chess_points};
+ghost use Rattle.gm_draw.specs.Pictures.{texts};
 ghost use Rattle.gm_draw.specs.Templates.{spread};
 
 use crate::drawn::{DRAWING, Drawing};
@@ -9,17 +11,33 @@ use crate::svg::{next_x, next_y};
 use arrayvec::ArrayVec;
 
 /// The board, a template with a slot for each square.
-pub(crate) const BOARD: &[u8] =
+const BOARD: &[u8] =
     b"    a b c d e f g h\n8   A A A A A A A A\n7   A A A A A A A A\n6   A A A A A A A A\n5   A A A A A A A A\n4   A A A A A A A A\n3   A A A A A A A A\n2   A A A A A A A A\n1   A A A A A A A A";
 
 /// The names of the squares, from the eighth rank down.
-pub(crate) const SQUARES: &[&[u8]] = &[
+const SQUARES: &[&[u8]] = &[
     b"a8", b"b8", b"c8", b"d8", b"e8", b"f8", b"g8", b"h8", b"a7", b"b7", b"c7", b"d7", b"e7",
     b"f7", b"g7", b"h7", b"a6", b"b6", b"c6", b"d6", b"e6", b"f6", b"g6", b"h6", b"a5", b"b5",
     b"c5", b"d5", b"e5", b"f5", b"g5", b"h5", b"a4", b"b4", b"c4", b"d4", b"e4", b"f4", b"g4",
     b"h4", b"a3", b"b3", b"c3", b"d3", b"e3", b"f3", b"g3", b"h3", b"a2", b"b2", b"c2", b"d2",
     b"e2", b"f2", b"g2", b"h2", b"a1", b"b1", b"c1", b"d1", b"e1", b"f1", b"g1", b"h1",
 ];
+
+/// Returns the board of chess, a template with a slot for each square.
+#[tactic(auto, unfolding(crate::specs::Chessboards::chess_board))]
+pub fn chess_board() -> &'static [u8]
+    ensures { result.now ≡ chess_board_of }
+{
+    BOARD
+}
+
+/// Returns the names of its squares, from the eighth rank down.
+#[tactic(auto, unfolding(crate::specs::Chessboards::chess_points))]
+pub fn chess_squares() -> &'static [&'static [u8]]
+    ensures { texts result.now ≡ chess_points }
+{
+    SQUARES
+}
 
 // Returns the letter of the file of the square at a point.
 fn file_at(x: u64) -> u64

@@ -1,7 +1,7 @@
 //! Diagrams of positions for print: SVG documents.
 ghost use Rattle.std.specs.Prelude.{◌≡◌, ◌≤◌, ◌++◌, [], length, true, OnOk, IfOk};
 ghost use Rattle.gm_draw.specs.Diagrams.{start_of, svg_box, svg_size, svg_open, svg_title, svg_paper, svg_front, svg_net, svg_men, svg_back, svg_of, row_words};
-ghost use Rattle.gm_draw.specs.Diagrams.{over_all, under_all, caption_words, caption_of, diagram_of, IsDiagram};
+ghost use Rattle.gm_draw.specs.Diagrams.{over_all, under_all, caption_words, caption_of, diagram_of};
 ghost use Rattle.gm_draw.specs.Pictures.{drawn};
 ghost use Rattle.gm_draw.specs.Spots.{IsEachOnce};
 
@@ -12,37 +12,18 @@ use crate::pictured::{Pictured, Style};
 use crate::svg::{push_at, push_men, push_net, push_number, push_words};
 use gm_game::position::{Position, Solved};
 use gm_game::text::value_text;
-use gm_play::known::Known;
 use std::alloc::{AllocError, Global};
 
-/// Returns the SVG document of a position: its board with the men in their places, and under it the side to move. If `valued` is
-/// set, the true value follows.
-pub fn diagram_text<G: Pictured>(
-    alloc: Global,
-    known: &Known<'_, G>,
-    valued: bool,
-) -> Result<Vec<u8>, AllocError>
-    ensures { IfOk result (λ v. IsDiagram G.Game.rules G.shown G.move_shown G.picture valued
-        (G.shown known.now.position) v.items) }
-{
-    diagram::<G>(alloc, known.position, known.value(), valued)
-}
-
-/// Has no effect; its contract states that a diagram draws each man once. Over the net of the board, the man of each byte of a
-/// position's text is drawn once, at a point of its own.
-pub fn each_once<G: Pictured>(bytes: &[u8])
-    ensures { IsEachOnce G.picture.style bytes.now G.picture.board }
-{}
-
-// Returns the diagram of a legal position of this value.
-fn diagram<G: Pictured>(
+/// Returns the SVG document of a legal position of this value: its board with the men in their places, and under it the side to
+/// move. If `valued` is set, the value follows.
+pub fn diagram<G: Pictured>(
     alloc: Global,
     p: Position,
     value: Solved,
     valued: bool,
 ) -> Result<Vec<u8>, AllocError>
     requires { G.Game.rules.is_legal p ≡ true }
-    ensures { IfOk result (λ v. v.items ≡ diagram_of G.Game.rules G.shown G.move_shown G.picture valued p value) }
+    ensures { IfOk result (λ v. v.items ≡ diagram_of G.picture G.shown valued p value) }
 {
     let mut caption = Vec::new(alloc);
     let mut text = Vec::new(alloc);
@@ -57,6 +38,12 @@ fn diagram<G: Pictured>(
     }
 }
 
+/// Has no effect; its contract states that a diagram draws each man once. Over the net of the board, the man of each byte of a
+/// position's text is drawn once, at a point of its own.
+pub fn each_once<G: Pictured>(bytes: &[u8])
+    ensures { IsEachOnce G.picture.style bytes.now G.picture.board }
+{}
+
 // Writes the diagram of a legal position of this value, and its caption, into empty texts.
 fn push_diagram<G: Pictured>(
     text: &mut Vec<u8>,
@@ -68,7 +55,7 @@ fn push_diagram<G: Pictured>(
     requires legal { G.Game.rules.is_legal p ≡ true }
     requires empty { text.old.items ≡ [] }
     requires none { caption.old.items ≡ [] }
-    ensures { OnOk result (text.new.items ≡ diagram_of G.Game.rules G.shown G.move_shown G.picture valued p value) }
+    ensures { OnOk result (text.new.items ≡ diagram_of G.picture G.shown valued p value) }
 {
     push_caption(caption, mover::<G>(p), value, valued)?;
     push_svg::<G>(text, p, caption.as_slice())

@@ -1,21 +1,17 @@
 //! Boards for people: a drawing of each position of a game with its coordinates, the side to move, and the names of cells and
-//! moves.
+//! moves. Each game states what it looks like, by one record (`Pictured`).
 //!
-//! A drawing is plain ASCII of at most 50 columns. `specs/` has the drawings as templates, in which each capital letter stands for
-//! a byte of the position's text.
+//! A drawing is plain ASCII of at most 50 columns. Most games have a template, in which each capital letter stands for a byte of
+//! the position's text.
 #![tactic(auto)]
 
-pub mod boards;
-mod chessboard;
-pub mod chessmen;
+pub mod cells;
+pub mod chessboard;
 pub mod diagram;
 pub mod drawn;
 mod frame;
 pub mod markup;
 mod men;
+pub mod on_boards;
 pub mod pictured;
-pub mod points;
-pub mod rows;
-pub mod show;
-pub mod squares;
 mod svg;

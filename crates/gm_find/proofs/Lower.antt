@@ -2,7 +2,7 @@
 pub use Rattle.gm_find.specs.Finding.{Achieves, HasOnly, IsMatch, IsOnlyAfter, IsOnlyDefence, IsOnlyLine, IsOnlyWin, all_positions, positions_in}
 pub use Rattle.gm_find.specs.Founds.{IsFound, IsKnownAt, position_of}
 pub use Rattle.gm_find.specs.Lists.{AreThose, IsFirst}
-pub use Rattle.gm_find.specs.Reaching.{AreWaiting, IsGrown, key_of}
+pub use Rattle.gm_find.specs.Reaching.{IsSearched, key_of}
 pub use Rattle.gm_find.specs.Rows.{found_row}
 pub use Rattle.gm_find.specs.Samples.{ArePicked}
 pub use Rattle.gm_find.specs.declared.only.Aim.{Aim}

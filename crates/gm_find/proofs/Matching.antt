@@ -1,15 +1,13 @@
 -- What is known of sought positions.
-use Rattle.gm_find.proofs.Lower.{◌≡◌, ℕ, suc, ◌↔◌, inl, inr, eqb-true, Bool, true, false, List, ◌∷◌, [], length, refl, sym, ap, ◌∙◌, subst, arith, IsTrue}
+use Rattle.gm_find.proofs.Lower.{◌≡◌, ℕ, suc, ◌↔◌, inl, inr, eqb-true, Bool, true, false, List, ◌∷◌, [], length, refl, sym, ap, ◌∙◌, subst, arith}
 use Rattle.gm_find.proofs.Lower.{Option, None, Some, Contains, Position, Solved, Value, Win, IsGame, Rules, at, IsAscending, HasValue, IsTrueValue}
-use Rattle.gm_find.proofs.Lower.{HasValue_once, TableData, Aim, Keep, WinIn, Sought, AreThose, IsMatch, IsOnlyLine, Achieves}
+use Rattle.gm_find.proofs.Lower.{HasValue_once, TableData, Aim, Keep, WinIn, Sought, AreThose, IsMatch, Achieves}
 use Rattle.std.proofs.Common.{◌==◌, if◌then◌else◌}
 use Rattle.std.proofs.lemmas.Option.{same_Some}
-use Rattle.gm_game.specs.declared.limits.TheConstants.{REMOTENESS}
 use Rattle.gm_game.specs.declared.position.Phase.{Phase}
 use Rattle.gm_game.specs.declared.position.Phase.TheVariants.{WinLose, Ties}
 use Rattle.gm_game.specs.declared.position.Value.TheVariants.{Lose, Draw, Tie}
 use Rattle.gm_game.specs.Places.{StandsAt}
-use Rattle.gm_game.specs.Records.{IsRecord}
 use Rattle.gm_game.specs.Rules.{IsCanonical}
 use Rattle.gm_table.specs.Tables.{IsHeld}
 use Rattle.gm_find.specs.declared.sought.Span.{Span}
@@ -57,23 +55,11 @@ run_has r g entries q reached tier level phase is e held up exact = record {
   );
 }
 
--- a record that is there, or not
-pub no_match : (r : Rules) (q : Sought) (reached : Bool) (p : Position) → IsRecord r REMOTENESS (IsTrueValue r) p None → IsMatch r q reached p → ⊥
-no_match r q reached p h m = h m.canonical
-
 pub match_value : (r : Rules) (q : Sought) (reached : Bool) (p : Position) (s : Solved) → IsTrueValue r p s → IsMatch r q reached p → IsValueOf q s
 match_value r q reached p s h m =
     let (t, is, of) = m.value in
     let same = HasValue_once r p t.value s.value t.remoteness s.remoteness is h in
     (of.0 ∙ same.0, subst (IsAskedFor q.remoteness) same.1 of.1)
-
--- of what is fitting the whole line is left to ask
-pub line_left : (r : Rules) (q : Sought) (reached : Bool) (p : Position) (s : Solved) → IsCanonical r p → IsTrueValue r p s → IsFitting r q reached p s
-    → (IsTrue q.whole_line → IsOnlyLine r q.distinct p) ↔ IsMatch r q reached p
-line_left r q reached p s c h f = (
-  λ l. record { canonical = c; value = (s, h, f.0); choice = f.1.0; only = f.1.1; fastest = f.1.2; line = l; reaches = f.2 },
-  λ m. m.line,
-)
 
 -- what is sought is fitting
 pub fitting : (r : Rules) (q : Sought) (reached : Bool) (p : Position) (s : Solved) → IsTrueValue r p s → IsMatch r q reached p → IsFitting r q reached p s

@@ -1,8 +1,8 @@
 -- Moves that achieve an aim, up to symmetry, and wins in which there is one at each turn.
-use Rattle.gm_find.proofs.Lower.{◌≡◌, ℕ, zero, suc, ◌<◌, ◌≤◌, ◌+◌, ◌-◌, ◌↔◌, ◌⊎◌, inl, inr, Bool, IsTrue, List, [], ◌∷◌, ◌++◌, take, get_or, length, refl, sym}
+use Rattle.gm_find.proofs.Lower.{◌≡◌, ℕ, zero, suc, ◌<◌, ◌+◌, ◌-◌, ◌↔◌, ◌⊎◌, inl, inr, Bool, IsTrue, List, [], ◌∷◌, ◌++◌, take, get_or, length, refl, sym}
 use Rattle.gm_find.proofs.Lower.{◌∙◌, subst, arith, Option, None, Some, Contains, is_some, take_more, Contains-push_cases, Contains-append_left, Contains-push}
 use Rattle.gm_find.proofs.Lower.{Position, Solved, Value, Win, Rules, HasValue, IsTrueValue, HasValue_once, contains_none, contains_first, contains_later}
-use Rattle.gm_find.proofs.Lower.{contains_cases, Aim, Keep, WinIn, Achieves, HasOnly, IsOnlyWin, IsOnlyAfter, IsOnlyLine}
+use Rattle.gm_find.proofs.Lower.{contains_cases, Aim, Keep, Achieves, HasOnly, IsOnlyWin, IsOnlyAfter, IsOnlyLine}
 use Rattle.gm_find.specs.Finding.{AgreesWith, HasOnlyFastest, HasOnlyResult}
 
 -- c is the canonical position of the result of one of these moves that achieves the aim
@@ -23,9 +23,6 @@ contains_taken (suc k) (x ∷ xs) y c = elim (contains_cases x y (take k xs) c) 
 ]
 
 module _ (r : Rules) (aim : Aim) (p : Position) where
-  pub only_none : IsOnlySoFar r aim p [] None
-  only_none c (m, has, k, e) = absurd (contains_none m has)
-
   -- what one of these moves or one more leads to
   kept_cases : (ms : List ℕ) (m : ℕ) (d : Position) → IsAchievedAmong r aim p (ms ++ m ∷ []) d
       → IsAchievedAmong r aim p ms d ⊎ (Achieves r aim p m × (r.canonical (r.play p m) ≡ d))
@@ -70,13 +67,6 @@ win_is r p s n h v e = subst (λ (k : ℕ). HasValue r p Win k) e (subst (λ (x 
 
 pub is_win : (r : Rules) (p : Position) (s : Solved) (n : ℕ) → IsTrueValue r p s → HasValue r p Win n → (s.value ≡ Win) × (s.remoteness ≡ n)
 is_win r p s n h w = HasValue_once r p s.value Win s.remoteness n h w
-
--- the winner's last turn
-pub last_turn : (r : Rules) (d : Bool) (n : ℕ) (p : Position) → n ≤ 2 → IsOnlyWin r d n p
-last_turn r d zero p l = tt
-last_turn r d (suc zero) p l = tt
-last_turn r d (suc (suc zero)) p l = tt
-last_turn r d (suc (suc (suc n))) p l = absurd (omega arith)
 
 -- a turn before the last
 pub turn_parts : (r : Rules) (d : Bool) (n : ℕ) (p : Position) → 2 < n → IsOnlyWin r d n p → HasOnly r d (Keep Win) p ×

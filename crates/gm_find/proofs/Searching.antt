@@ -1,7 +1,9 @@
 -- What a search for reached positions keeps.
-use Rattle.gm_find.proofs.Lower.{◌≡◌, ℕ, ◌<◌, ◌+◌, ◌⊎◌, inl, inr, true, List, [], ◌∷◌, ◌++◌, length, take, get_or, refl, sym, ap, ◌∙◌, subst, arith, Contains}
-use Rattle.gm_find.proofs.Lower.{take_more, Contains-append_left, Contains-push_cases, Contains-push, Position, IsGame, Rules, map_from, map_in, contains_none}
-use Rattle.gm_find.proofs.Lower.{IsGrown, AreWaiting, key_of}
+use Rattle.gm_find.proofs.Lower.{◌≡◌, ℕ, ◌+◌, ◌⊎◌, inl, inr, true, List, [], ◌∷◌, ◌++◌, length, refl, sym, ap, ◌∙◌, subst, arith, Contains}
+use Rattle.gm_find.proofs.Lower.{◌↔◌, Contains-append_left, Contains-push_cases, Contains-push, Position, IsGame, Rules, map_from, map_in, contains_none}
+use Rattle.gm_find.proofs.Lower.{contains_cases, contains_first, contains_later, at, IsSearched, key_of}
+use Rattle.std.specs.Prelude.{IsPermutation}
+use Rattle.std.proofs.lemmas.List.Sorted.{Contains-permutation, IsPermutation-sym}
 use Rattle.gm_game.specs.Rules.{children, IsCanonicalChild}
 use Rattle.gm_play.specs.Lines.{position_after}
 use Rattle.gm_find.specs.Reaching.{IsPlay, IsReachedByPlay, AreReached}
@@ -43,10 +45,7 @@ module _ (r : Rules) (g : IsGame r) where
       let (m, listed, f) = child_move r q d own in
       (ms ++ m ∷ [], play_more r r.initial ms m h listed, ap r.canonical (after_more r r.initial ms m) ∙ f)
 
-  -- a set that has the canonical position of the start and the canonical children of its positions has all that is reached
-  abbrev IsClosedSet : (Position → Type 0) → Type 0
-  IsClosedSet S = (c d : Position) → S c → IsCanonicalChild r c d → S d
-
+  -- a set of keys that has the canonical position of the start and the canonical children of its positions has all that is reached
   reached_after : (ks : List (ℕ × ℕ)) (p : Position) (ms : List ℕ) → ((c d : Position) → Contains ks (key_of c) → IsCanonicalChild r c d → Contains ks
       (key_of d)) → r.is_legal p ≡ true → IsPlay r p ms → Contains ks (key_of (r.canonical p)) → Contains ks (key_of (r.canonical (position_after r p ms)))
   reached_after ks p [] closed l h has = has
@@ -55,121 +54,96 @@ module _ (r : Rules) (g : IsGame r) where
       let own = (g.canonical_children p (r.canonical (r.play p m)) l).1 child in
       reached_after ks (r.play p m) ms closed (g.play_legal p m l h.0) h.1 (closed (r.canonical p) (r.canonical (r.play p m)) has own)
 
--- what is found so far is reached, and the canonical children of all that isn't waiting are found
-pub record IsSearched (r : Rules) (ks : List (ℕ × ℕ)) (waiting : List Position) : Type 0 where
-  pub start : Contains ks (key_of (r.canonical r.initial))
-  pub sound : (c : Position) → Contains ks (key_of c) → IsReachedByPlay r c
-  pub inside : (c : Position) → Contains waiting c → Contains ks (key_of c)
-  pub closed : (c : Position) → Contains ks (key_of c) → Contains waiting c ⊎ ((d : Position) → IsCanonicalChild r c d → Contains ks (key_of d))
-
--- the last position that waits is found, and is reached
-pub last_reached : (r : Rules) (ks : List (ℕ × ℕ)) (waiting rest : List Position) (p : Position) → IsSearched r ks waiting → waiting ≡ rest ++ p ∷ [] →
-    IsReachedByPlay r p
-last_reached r ks waiting rest p h e = h.sound p (h.inside p (subst (λ (l : List Position). Contains l p) (sym e) (Contains-push rest p)))
-
--- a position that waited is closed, once its canonical children are found
-pub searched_more : (r : Rules) → IsGame r → (old new : List (ℕ × ℕ)) (waiting rest after : List Position) (p : Position) → IsSearched r old waiting →
-    waiting ≡ rest ++ p ∷ [] → IsGrown old new
-    → ((c : Position) → IsCanonicalChild r p c → Contains new (key_of c)) → ((c : Position) → Contains new (key_of c) → Contains old (key_of c) ⊎
-    IsCanonicalChild r p c)
-    → AreWaiting old rest new after → IsSearched r new after
-searched_more r g old new waiting rest after p h e grown children only waits = record {
-  start = grown (key_of (r.canonical r.initial)) h.start;
-  sound = λ c has. elim (only c has) [ inl o ↦ h.sound c o | inr k ↦ child_reached r g p c (last_reached r old waiting rest p h e) k ];
-  inside = λ c has. elim (waits.only c has) [
-    | inl o ↦ grown (key_of c) (h.inside c (subst (λ (l : List Position). Contains l c) (sym e) (Contains-append_left rest (p ∷ []) c o)))
-    | inr k ↦ k
+-- at first the start is left to find
+pub begins : (r : Rules) → IsGame r → (start : Position) → start ≡ r.canonical r.initial → IsSearched r [] [] (start ∷ [])
+begins r g start e = record {
+  start = inr (subst (Contains (start ∷ [])) e (contains_first start []));
+  sound = λ c f. elim f [
+    | inl k ↦ absurd (contains_none (key_of c) k)
+    | inr l ↦ elim (contains_cases start c [] l) [ inl same ↦ subst (IsReachedByPlay r) (sym e ∙ same) (start_reached r g) | inr n ↦ absurd (contains_none c n) ]
   ];
-  closed = λ c has. elim (waits.fresh c has) [
-    | inr o ↦ inl o
-    | inl o ↦ elim (h.closed c o) [
-      | inr all ↦ inr (λ d k. grown (key_of d) (all d k))
-      | inl was ↦ elim (Contains-push_cases rest p c (subst (λ (l : List Position). Contains l c) e was)) [
-        | inl still ↦ inl (waits.kept c still)
-        | inr f ↦ inr (λ d k. children d (subst (λ (x : Position). IsCanonicalChild r x d) (sym f) k))
+  inside = λ c w. absurd (contains_none c w);
+  closed = λ c k. absurd (contains_none (key_of c) k);
+}
+
+-- a position is found
+module _ (r : Rules) (keys : List (ℕ × ℕ)) (waiting left : List Position) (c : Position) (h : IsSearched r keys waiting (c ∷ left)) where
+  found_one : (new : List (ℕ × ℕ)) (waits : List Position) → ((k : ℕ × ℕ) → Contains keys k → Contains new k) → Contains new (key_of c)
+      → ((d : Position) → Contains new (key_of d) → Contains keys (key_of d) ⊎ ((c ≡ d) × Contains waits c))
+      → ((d : Position) → Contains waiting d → Contains waits d) → ((d : Position) → Contains waits d → Contains waiting d ⊎ (c ≡ d)) → IsSearched r new waits left
+  found_one new waits grown there only kept from =
+      let lift : (d : Position) → Contains keys (key_of d) ⊎ Contains (c ∷ left) d → Contains new (key_of d) ⊎ Contains left d = λ d f. elim f [
+        | inl k ↦ inl (grown (key_of d) k)
+        | inr l ↦ elim (contains_cases c d left l) [ inl e ↦ inl (subst (λ (x : Position). Contains new (key_of x)) e there) | inr t ↦ inr t ]
+      ] in
+      record {
+        start = lift (r.canonical r.initial) h.start;
+        sound = λ d f. elim f [
+          | inr t ↦ h.sound d (inr (contains_later c d left t))
+          | inl n ↦ elim (only d n) [ inl k ↦ h.sound d (inl k) | inr e ↦ h.sound d (inr (subst (Contains (c ∷ left)) e.0 (contains_first c left))) ]
+        ];
+        inside = λ d w. elim (from d w) [
+          | inl o ↦ grown (key_of d) (h.inside d o)
+          | inr e ↦ subst (λ (x : Position). Contains new (key_of x)) e there
+        ];
+        closed = λ d n. elim (only d n) [
+          | inr e ↦ inl (subst (Contains waits) e.0 e.1)
+          | inl k ↦ elim (h.closed d k) [ inl w ↦ inl (kept d w) | inr all ↦ inr (λ x child. lift x (all x child)) ]
+        ];
+      }
+
+  pub found_old : Contains keys (key_of c) → IsSearched r keys waiting left
+  found_old has = found_one keys waiting (λ k x. x) has (λ d n. inl n) (λ d w. w) (λ d w. inl w)
+
+  pub found_new : (new : List (ℕ × ℕ)) → IsPermutation (key_of c ∷ keys) new → IsSearched r new (waiting ++ c ∷ []) left
+  found_new new same =
+      found_one new (waiting ++ c ∷ []) (λ k x. Contains-permutation (key_of c ∷ keys) new k same (contains_later (key_of c) k keys x))
+      (Contains-permutation (key_of c ∷ keys) new (key_of c) same (contains_first (key_of c) keys))
+      (λ d n. elim (contains_cases (key_of c) (key_of d) keys
+      (Contains-permutation new (key_of c ∷ keys) (key_of d) (IsPermutation-sym (key_of c ∷ keys) new same) n)) [
+        | inl e ↦ inr (ap (λ (k : ℕ × ℕ). at k.0 k.1) e, Contains-push waiting c)
+        | inr o ↦ inl o
+      ])
+      (Contains-append_left waiting (c ∷ [])) (Contains-push_cases waiting c)
+
+module _ (r : Rules) (g : IsGame r) (keys : List (ℕ × ℕ)) where
+  -- the last position that waits is reached, and once it no longer waits, its canonical children are left to find
+  module _ (waiting : List Position) (p : Position) (h : IsSearched r keys (waiting ++ p ∷ []) []) where
+    last_reached : IsReachedByPlay r p
+    last_reached = h.sound p (inl (h.inside p (Contains-push waiting p)))
+
+    pub last_legal : r.is_legal p ≡ true
+    last_legal = reached_legal r g p last_reached
+
+    pub taken : (children : List Position) → ((d : Position) → Contains children d ↔ IsCanonicalChild r p d) → IsSearched r keys waiting children
+    taken children exact =
+        let found : (d : Position) → Contains keys (key_of d) ⊎ Contains [] d → Contains keys (key_of d) ⊎ Contains children d = λ d f. elim f [
+          | inl k ↦ inl k
+          | inr n ↦ absurd (contains_none d n)
+        ] in
+        record {
+          start = found (r.canonical r.initial) h.start;
+          sound = λ d f. elim f [ inl k ↦ h.sound d (inl k) | inr is ↦ child_reached r g p d last_reached ((exact d).0 is) ];
+          inside = λ d w. h.inside d (Contains-append_left waiting (p ∷ []) d w);
+          closed = λ d k. elim (h.closed d k) [
+            | inr all ↦ inr (λ x child. found x (all x child))
+            | inl w ↦ elim (Contains-push_cases waiting p d w) [
+              | inl still ↦ inl still
+              | inr e ↦ inr (λ x child. inr ((exact x).1 (subst (λ (y : Position). IsCanonicalChild r y x) (sym e) child)))
+            ]
+          ];
+        }
+
+  -- all is found once nothing waits
+  pub all_searched : (waiting : List Position) → IsSearched r keys waiting [] → length waiting ≡ 0 → AreReached r keys
+  all_searched waiting h l c = (
+    λ k. h.sound c (inl k),
+    λ (ms, play, e). subst (λ (q : Position). Contains keys (key_of q)) e (reached_after r g keys r.initial ms closed g.initial_legal play
+        (elim h.start [ inl k ↦ k | inr n ↦ absurd (contains_none (r.canonical r.initial) n) ])),
+  )
+    where
+      closed : (a d : Position) → Contains keys (key_of a) → IsCanonicalChild r a d → Contains keys (key_of d)
+      closed a d has k = elim (h.closed a has) [
+        | inl w ↦ absurd (let low = w.1 in omega arith)
+        | inr all ↦ elim (all d k) [ inl f ↦ f | inr n ↦ absurd (contains_none d n) ]
       ]
-    ]
-  ];
-}
-
--- all is found once nothing waits
-pub all_searched : (r : Rules) → IsGame r → (ks : List (ℕ × ℕ)) (waiting : List Position) → IsSearched r ks waiting → length waiting ≡ 0 → AreReached r ks
-all_searched r g ks waiting h l c = (
-  h.sound c,
-  λ (ms, play, e). subst (λ (q : Position). Contains ks (key_of q)) e (reached_after r g ks r.initial ms closed g.initial_legal play h.start),
-)
-  where
-    closed : (a d : Position) → Contains ks (key_of a) → IsCanonicalChild r a d → Contains ks (key_of d)
-    closed a d has k = elim (h.closed a has) [
-      | inl o ↦ absurd (none waiting a l o)
-      | inr all ↦ all d k
-    ]
-      where
-        none : (xs : List Position) (x : Position) → length xs ≡ 0 → Contains xs x → ⊥
-        none xs x e has = let b = has.1 in omega arith
-
--- at first the start alone is found
-pub searched_none : (r : Rules) → IsGame r → (old new : List (ℕ × ℕ)) (old_waiting waiting : List Position) → old ≡ [] → old_waiting ≡ [] → Contains new
-    (key_of (r.canonical r.initial))
-    → ((c : Position) → Contains new (key_of c) → Contains old (key_of c) ⊎ (r.canonical r.initial ≡ c)) → AreWaiting old old_waiting new waiting →
-    IsSearched r new waiting
-searched_none r g old new old_waiting waiting e f there only waits = record {
-  start = there;
-  sound = λ c has. elim (only c has) [
-    | inl o ↦ absurd (contains_none (key_of c) (subst (λ (l : List (ℕ × ℕ)). Contains l (key_of c)) e o))
-    | inr f ↦ subst (IsReachedByPlay r) f (start_reached r g)
-  ];
-  inside = λ c has. elim (waits.only c has) [
-    | inl o ↦ absurd (contains_none c (subst (λ (l : List Position). Contains l c) f o))
-    | inr k ↦ k
-  ];
-  closed = λ c has. elim (waits.fresh c has) [
-    | inl o ↦ absurd (contains_none (key_of c) (subst (λ (l : List (ℕ × ℕ)). Contains l (key_of c)) e o))
-    | inr o ↦ inl o
-  ];
-}
-
--- nothing more waits at first
-pub waiting_none : (ks : List (ℕ × ℕ)) (waiting : List Position) → AreWaiting ks waiting ks waiting
-waiting_none ks waiting = record { kept = λ c has. has; fresh = λ c has. inl has; only = λ c has. inl has }
-
--- two steps as one
-pub waiting_again : (a b c : List (ℕ × ℕ)) (x y z : List Position) → IsGrown b c → AreWaiting a x b y → AreWaiting b y c z → AreWaiting a x c z
-waiting_again a b c x y z grown h k = record {
-  kept = λ p has. k.kept p (h.kept p has);
-  fresh = λ p has. elim (k.fresh p has) [
-    | inr o ↦ inr o
-    | inl o ↦ elim (h.fresh p o) [ inl u ↦ inl u | inr v ↦ inr (k.kept p v) ]
-  ];
-  only = λ p has. elim (k.only p has) [
-    | inr o ↦ inr o
-    | inl o ↦ elim (h.only p o) [ inl u ↦ inl u | inr v ↦ inr (grown (key_of p) v) ]
-  ];
-}
-
--- a child more is found
-pub children_more : (cs : List Position) (old cur new : List (ℕ × ℕ)) (k : ℕ) (d : Position) → k < length cs
-    → IsGrown old cur × ((c : Position) → Contains (take k cs) c → Contains cur (key_of c)) ×
-    ((c : Position) → Contains cur (key_of c) → Contains old (key_of c) ⊎ Contains (take k cs) c)
-    → IsGrown cur new → Contains new (key_of (get_or cs k d)) → ((c : Position) → Contains new (key_of c) → Contains cur (key_of c) ⊎ (get_or cs k d ≡ c))
-    → IsGrown old new × ((c : Position) → Contains (take (k + 1) cs) c → Contains new (key_of c)) ×
-    ((c : Position) → Contains new (key_of c) → Contains old (key_of c) ⊎ Contains (take (k + 1) cs) c)
-children_more cs old cur new k d l (grown, there, only) more has one = (
-  λ q has_old. more q (grown q has_old),
-  λ c in_more. elim (Contains-push_cases (take k cs) (get_or cs k d) c (subst (λ (xs : List Position). Contains xs c) cut in_more)) [
-    | inl o ↦ more (key_of c) (there c o)
-    | inr e ↦ subst (λ (x : Position). Contains new (key_of x)) e has
-  ],
-  λ c in_new. elim (one c in_new) [
-    | inl o ↦ elim (only c o) [
-      | inl a ↦ inl a
-      | inr b ↦ inr (subst (λ (xs : List Position). Contains xs c) (sym cut)
-          (Contains-append_left (take k cs) (get_or cs k d ∷ []) c b))
-    ]
-    | inr e ↦ inr (subst (λ (xs : List Position). Contains xs c) (sym cut) (subst (Contains (take k cs ++ get_or cs k d ∷ [])) e
-        (Contains-push (take k cs) (get_or cs k d))))
-  ],
-)
-  where
-    cut : take (k + 1) cs ≡ take k cs ++ get_or cs k d ∷ []
-    cut = take_more cs k d l

@@ -1,6 +1,7 @@
 -- The positions that play from the start reaches.
 use Rattle.std.specs.Prelude.{◌≡◌, ℕ, ◌↔◌, ◌⊎◌, List, [], ◌∷◌}
 use Rattle.gm_find.specs.Lower.{Contains, Position, Rules}
+use Rattle.gm_game.specs.Rules.{IsCanonicalChild}
 use Rattle.gm_play.specs.Lines.{position_after}
 
 -- these moves can be played from p one after another
@@ -20,12 +21,10 @@ key_of p = (p.tier, p.index)
 abbrev pub AreReached : Rules → List (ℕ × ℕ) → Type 0
 AreReached r keys = (c : Position) → Contains keys (key_of c) ↔ IsReachedByPlay r c
 
--- the new list has each key of the old one
-abbrev pub IsGrown : List (ℕ × ℕ) → List (ℕ × ℕ) → Type 0
-IsGrown old new = (k : ℕ × ℕ) → Contains old k → Contains new k
-
--- what waited still does; what is found now waits; and nothing else does
-pub record AreWaiting (old : List (ℕ × ℕ)) (old_waiting : List Position) (new : List (ℕ × ℕ)) (new_waiting : List Position) : Type 0 where
-  pub kept : (c : Position) → Contains old_waiting c → Contains new_waiting c
-  pub fresh : (c : Position) → Contains new (key_of c) → Contains old (key_of c) ⊎ Contains new_waiting c
-  pub only : (c : Position) → Contains new_waiting c → Contains old_waiting c ⊎ Contains new (key_of c)
+-- a search in its midst: what is found or left to find is reached, the start among it; and so are the canonical children of all that is found and doesn't wait
+pub record IsSearched (r : Rules) (keys : List (ℕ × ℕ)) (waiting left : List Position) : Type 0 where
+  pub start : Contains keys (key_of (r.canonical r.initial)) ⊎ Contains left (r.canonical r.initial)
+  pub sound : (c : Position) → Contains keys (key_of c) ⊎ Contains left c → IsReachedByPlay r c
+  pub inside : (c : Position) → Contains waiting c → Contains keys (key_of c)
+  pub closed : (c : Position) → Contains keys (key_of c)
+      → Contains waiting c ⊎ ((d : Position) → IsCanonicalChild r c d → Contains keys (key_of d) ⊎ Contains left d)

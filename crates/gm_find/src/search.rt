@@ -1,11 +1,10 @@
 //! The search for the positions that play from the start reaches.
-ghost use Rattle.std.specs.Prelude.{◌≡◌, ◌⊎◌, [], true, IfOk, OnOk};
-ghost use Rattle.gm_find.specs.Lower.{Contains, Position};
-ghost use Rattle.gm_game.specs.Rules.{IsCanonicalChild};
-ghost use Rattle.gm_find.specs.Reaching.{AreReached, IsGrown, AreWaiting, key_of};
+ghost use Rattle.std.specs.Prelude.{◌≡◌, ◌∷◌, ◌++◌, [], List, true, IfOk, OnOk};
+ghost use Rattle.gm_find.specs.Lower.{Position};
+ghost use Rattle.gm_find.specs.Reaching.{AreReached, IsSearched};
 
 use gm_game::children::canonical_children;
-use gm_game::game::{Game, laws};
+use gm_game::game::Game;
 use gm_game::position::Position;
 use std::alloc::{AllocError, Global};
 use std::collections::HashSet;
@@ -27,7 +26,7 @@ pub(crate) fn search<G: Game>(alloc: Global) -> Result<HashSet<(u64, u64)>, Allo
     }
 }
 
-// Finds them all, from an empty set. A position stays on the stack until its children are found.
+// Finds them all, from an empty set.
 fn fill<G: Game>(
     found: &mut HashSet<(u64, u64)>,
     waiting: &mut Vec<Position>,
@@ -36,8 +35,7 @@ fn fill<G: Game>(
     requires waiting { waiting.old.items ≡ [] }
     ensures { OnOk result (AreReached G.rules found.new.keys) }
 {
-    laws::<G>();
-    find(found, waiting, G::canonical(G::initial()))?;
+    find::<G>(found, waiting, G::canonical(G::initial()))?;
     for _ in 0..usize::MAX {
         match waiting.pop() {
             None => return Ok(()),
@@ -47,35 +45,30 @@ fn fill<G: Game>(
     Err(AllocError)
 }
 
-// Finds the canonical children of a position.
+// Finds the canonical children of a position that has waited.
 fn find_children<G: Game>(
     found: &mut HashSet<(u64, u64)>,
     waiting: &mut Vec<Position>,
     p: Position,
 ) -> Result<(), AllocError>
     requires { G.rules.is_legal p ≡ true }
-    ensures grown { OnOk result (IsGrown found.old.keys found.new.keys) }
-    ensures children { OnOk result ((c : Position) → IsCanonicalChild G.rules p c → Contains found.new.keys (key_of c)) }
-    ensures only { OnOk result ((c : Position) → Contains found.new.keys (key_of c) → Contains found.old.keys (key_of c) ⊎ IsCanonicalChild G.rules p c) }
-    ensures waiting { OnOk result (AreWaiting found.old.keys waiting.old.items found.new.keys waiting.new.items) }
+    ensures { IsSearched G.rules found.old.keys (waiting.old.items ++ p ∷ []) [] → OnOk result (IsSearched G.rules found.new.keys waiting.new.items []) }
 {
     let children = canonical_children::<G>(p);
     for child in children.as_slice() {
-        find(found, waiting, *child)?;
+        find::<G>(found, waiting, *child)?;
     }
     Ok(())
 }
 
-// Finds a position.
-fn find(
+// Finds a position, which waits if it is new.
+fn find<G: Game>(
     found: &mut HashSet<(u64, u64)>,
     waiting: &mut Vec<Position>,
     c: Position,
 ) -> Result<(), AllocError>
-    ensures grown { OnOk result (IsGrown found.old.keys found.new.keys) }
-    ensures there { OnOk result (Contains found.new.keys (key_of c)) }
-    ensures only { OnOk result ((d : Position) → Contains found.new.keys (key_of d) → Contains found.old.keys (key_of d) ⊎ (c ≡ d)) }
-    ensures waiting { OnOk result (AreWaiting found.old.keys waiting.old.items found.new.keys waiting.new.items) }
+    ensures { (left : List Position) → IsSearched G.rules found.old.keys waiting.old.items (c ∷ left)
+        → OnOk result (IsSearched G.rules found.new.keys waiting.new.items left) }
 {
     match found.insert((c.tier, c.index)) {
         Ok(true) => Ok(waiting.push(c)?),

@@ -1,12 +1,7 @@
 -- The parents of a canonical position, from the boards before its board, and the laws of a game on boards.
-use Rattle.std.proofs.Common.{◌≡◌, ℕ, ◌≤◌, ◌<◌, ◌^◌, true, List, [], map, length, ◌⊎◌, inl, inr, refl, sym, ap, ◌∙◌, subst, arith, ◌↔◌}
-use Rattle.std.proofs.lemmas.List.{length-map}
+use Rattle.gm_game.proofs.Lower.{◌≡◌, ℕ, ◌≤◌, ◌<◌, ◌^◌, true, List, [], map, length, ◌⊎◌, inl, inr, refl, sym, ap, ◌∙◌, subst, arith, ◌↔◌, length-map, Position}
+use Rattle.gm_game.proofs.Lower.{PARENTS, at, IsAscending, IsParent, IsGame, put_all}
 use Rattle.std.specs.List.{Contains}
-use Rattle.gm_game.specs.declared.position.Position.{Position}
-use Rattle.gm_game.specs.declared.limits.TheConstants.{PARENTS}
-use Rattle.gm_game.specs.Rules.{at, IsAscending, IsParent}
-use Rattle.gm_game.specs.Laws.{IsGame}
-use Rattle.gm_game.specs.Ascending.{put_all}
 use Rattle.gm_game.specs.Boards.{BoardGame, position_of, board_of, least_index, least_image, rules_of, IsBoardGame, IsNumbered, IsSymmetric, IsBefore}
 use Rattle.gm_game.proofs.Lists.{map_in, map_from}
 use Rattle.gm_game.proofs.Putting.{put_all_ascending, put_all_from, put_all_later, put_all_few}

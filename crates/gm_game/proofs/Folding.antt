@@ -1,17 +1,8 @@
 -- The least and the greatest with one more record at the end, and how large they can be.
-use Rattle.std.proofs.Common.{◌≡◌, ℕ, zero, suc, ◌<◌, ◌≤◌, ◌+◌, ◌^◌, min, max, Bool, true, false, ◌&&◌, List, [], ◌∷◌, ◌++◌, map, take, length, get_or}
-use Rattle.std.proofs.Common.{Contains, IfSome, refl, ap, ◌∙◌, subst, arith, Option, None, Some, is_some}
-use Rattle.std.specs.List.{list_all}
-use Rattle.gm_game.specs.declared.position.Position.{Position}
-use Rattle.gm_game.specs.declared.position.Value.{Value}
-use Rattle.gm_game.specs.declared.position.Value.TheVariants.{Lose, Draw, Tie, Win}
-use Rattle.gm_game.specs.declared.position.End.{End}
-use Rattle.gm_game.specs.declared.position.Solved.{Solved}
-use Rattle.gm_game.specs.Rules.{Rules, children}
-use Rattle.gm_game.specs.Laws.{IsGame}
-use Rattle.gm_game.specs.Records.{solved, lost_in, tied_in, won_in, lesser, greater, least_of, all_won, from_end}
-use Rattle.gm_game.specs.Evaluation.{IsEvaluated, evaluate, evaluated}
-use Rattle.std.proofs.lemmas.List.{map_more, map-append}
+use Rattle.gm_game.proofs.Lower.{◌≡◌, ℕ, zero, suc, ◌<◌, ◌≤◌, ◌+◌, ◌^◌, min, max, Bool, true, false, ◌&&◌, List, [], ◌∷◌, ◌++◌, map, take, length, get_or}
+use Rattle.gm_game.proofs.Lower.{Contains, IfSome, refl, ap, ◌∙◌, subst, arith, Option, None, Some, is_some, list_all, Position, Value, Lose, Draw, Tie, Win}
+use Rattle.gm_game.proofs.Lower.{End, Solved, Rules, children, IsGame, solved, lost_in, tied_in, won_in, lesser, greater, least_of, all_won, from_end}
+use Rattle.gm_game.proofs.Lower.{IsEvaluated, evaluate, evaluated, map_more, map-append}
 use Rattle.gm_game.proofs.Lists.{contains_first, contains_later, map_in}
 use Rattle.gm_game.proofs.Symmetry.{child_legal}
 use Rattle.gm_game.proofs.Evaluated.{evaluated_true}

@@ -1,5 +1,5 @@
 -- The least of a list of numbers.
-use Rattle.std.proofs.Common.{◌≡◌, ℕ, ◌≤◌, min, List, [], ◌∷◌, ◌⊎◌, inl, inr, refl, sym, ◌∙◌, subst, arith, le_antisymm}
+use Rattle.gm_game.proofs.Lower.{◌≡◌, ℕ, ◌≤◌, min, List, [], ◌∷◌, ◌⊎◌, inl, inr, refl, sym, ◌∙◌, subst, arith, le_antisymm}
 use Rattle.std.specs.List.{Contains, fold}
 use Rattle.gm_game.proofs.Lists.{contains_cases, contains_later}
 

@@ -1,14 +1,13 @@
 -- What a mask picks from an ascending list.
-use Rattle.std.proofs.Common.{◌≡◌, ◌≢◌, ℕ, zero, suc, ◌+◌, ◌≤◌, ◌⊎◌, inl, inr, ⊎_elim, Bool, true, false, List, [], ◌∷◌, refl, ap, sym, subst, ◌∙◌, arith}
-use Rattle.std.proofs.Common.{if◌then◌else◌, true≢false, ◌==◌, Some}
-use Rattle.std.specs.List.{Contains, slice_get, AllByRecursion}
+use Rattle.gm_game.proofs.Lower.{◌≡◌, ◌≢◌, ℕ, zero, suc, ◌+◌, ◌≤◌, ◌⊎◌, inl, inr, ⊎_elim, Bool, true, false, List, [], ◌∷◌, refl, ap, sym, subst, ◌∙◌, arith}
+use Rattle.gm_game.proofs.Lower.{if◌then◌else◌, true≢false, ◌==◌, Some, slice_get, AllByRecursion, Position, is_before, is_same, with_position, AreAscending}
+use Rattle.std.specs.List.{Contains}
 use Rattle.std.specs.Int.{bit_at}
 use Rattle.std.proofs.lemmas.Bool.Decides.{Decides-eqb}
 use Rattle.std.proofs.lemmas.Nat.Bits.{bit_at-zero}
-use Rattle.gm_game.specs.declared.position.Position.{Position}
-use Rattle.gm_game.specs.Children.{is_before, is_same, with_position, AreAscending}
 use Rattle.gm_game.specs.Masks.{picked_from}
-use Rattle.gm_game.proofs.SetLemmas.{has_head, has_tail, has_cases, has_none, before_itself, before_not_same, all_there, is_same_itself}
+use Rattle.gm_game.proofs.Lists.{contains_first, contains_later, contains_cases}
+use Rattle.gm_game.proofs.SetLemmas.{has_none, before_itself, before_trans, before_not_same, all_there, is_same_itself, with_by}
 
 -- the step of `picked_from`
 pub picked_in : (k : ℕ) (q : Position) (qs : List Position) (m : ℕ) → bit_at m k ≡ 1 → picked_from k (q ∷ qs) m ≡ q ∷ picked_from (suc k) qs m
@@ -38,10 +37,10 @@ pub picked_of : (k : ℕ) (cs : List Position) (m : ℕ) (x : Position) → Cont
 picked_of k [] m x h = h
 picked_of k (q ∷ qs) m x h =
     ⊎_elim
-    (λ (e : bit_at m k ≡ 1). ⊎_elim (λ (s : q ≡ x). subst (λ (y : Position). Contains (q ∷ qs) y) s (has_head q qs))
-    (λ (t : Contains (picked_from (suc k) qs m) x). has_tail q x qs (picked_of (suc k) qs m x t))
-    (has_cases q x (picked_from (suc k) qs m) (subst (λ (l : List Position). Contains l x) (picked_in k q qs m e) h)))
-    (λ (ne : bit_at m k ≢ 1). has_tail q x qs (picked_of (suc k) qs m x (subst (λ (l : List Position). Contains l x) (picked_out k q qs m ne) h)))
+    (λ (e : bit_at m k ≡ 1). ⊎_elim (λ (s : q ≡ x). subst (λ (y : Position). Contains (q ∷ qs) y) s (contains_first q qs))
+    (λ (t : Contains (picked_from (suc k) qs m) x). contains_later q x qs (picked_of (suc k) qs m x t))
+    (contains_cases q x (picked_from (suc k) qs m) (subst (λ (l : List Position). Contains l x) (picked_in k q qs m e) h)))
+    (λ (ne : bit_at m k ≢ 1). contains_later q x qs (picked_of (suc k) qs m x (subst (λ (l : List Position). Contains l x) (picked_out k q qs m ne) h)))
     (bit_cases m k)
 
 -- a fact of each position of the list
@@ -56,8 +55,8 @@ picked_all P k (q ∷ qs) m all =
 -- a position at a place of an ascending list is there, after the first
 pub at_place : (cs : List Position) (i : ℕ) (c : Position) → slice_get cs i ≡ Some c → Contains cs c
 at_place [] i c e = absurd (cc)
-at_place (q ∷ qs) zero c e = let s : q ≡ c = cc in subst (λ (y : Position). Contains (q ∷ qs) y) s (has_head q qs)
-at_place (q ∷ qs) (suc i) c e = has_tail q c qs (at_place qs i c e)
+at_place (q ∷ qs) zero c e = let s : q ≡ c = cc in subst (λ (y : Position). Contains (q ∷ qs) y) s (contains_first q qs)
+at_place (q ∷ qs) (suc i) c e = contains_later q c qs (at_place qs i c e)
 
 -- bits that are the same from k on pick the same
 pub picked_same : (k : ℕ) (cs : List Position) (m n : ℕ) → ((i : ℕ) → k ≤ i → bit_at n i ≡ bit_at m i) → picked_from k cs n ≡ picked_from k cs m
@@ -74,19 +73,9 @@ picked_same k (q ∷ qs) m n h =
 pub with_front : (p : Position) (qs : List Position) → AllByRecursion (λ x. is_before p x ≡ true) qs → with_position p qs ≡ p ∷ qs
 with_front p [] all = refl
 with_front p (q ∷ qs) all =
-    elim (is_before q p) as (λ b. is_before q p ≡ b → (if b then q ∷ with_position p qs else (if is_same q p then q ∷ qs else p ∷ q ∷ qs)) ≡ p ∷ q ∷ qs) [
-      | true ↦ λ b. absurd (not_both p q all.0 b)
-      | false ↦ λ _. elim (is_same q p) as (λ s. is_same q p ≡ s → (if s then q ∷ qs else p ∷ q ∷ qs) ≡ p ∷ q ∷ qs) [
-        | true ↦ λ s. absurd (not_same p q all.0 s)
-        | false ↦ λ _. refl
-      ] refl
-    ] refl
-  where
-    not_both : (p q : Position) → is_before p q ≡ true → is_before q p ≡ true → ⊥
-    not_both p q a b = before_itself p (Rattle.gm_game.proofs.SetLemmas.before_trans p q p a b)
-
-    not_same : (p q : Position) → is_before p q ≡ true → is_same q p ≡ true → ⊥
-    not_same p q a s = before_itself p (subst (λ (x : Position). is_before p x ≡ true) (Rattle.gm_game.proofs.SetLemmas.is_same_means q p s) a)
+    with_by p q qs (λ (l : List Position). l ≡ p ∷ q ∷ qs) (λ b. absurd (before_itself p (before_trans p q p all.0 b)))
+    (λ s. absurd (before_itself p (subst (λ (x : Position). is_before p x ≡ true) s all.0)))
+    (λ _. refl)
 
 -- and one that comes after the first is put into the rest
 pub with_past : (p q : Position) (qs : List Position) → is_before q p ≡ true → with_position p (q ∷ qs) ≡ q ∷ with_position p qs
@@ -128,12 +117,12 @@ picked_has k zero (q ∷ qs) m c e b =
     let here : k + 0 ≡ k = omega arith in
     let s : q ≡ c = cc in
     subst (λ (l : List Position). Contains l c) (sym (picked_in k q qs m (subst (λ (j : ℕ). bit_at m j ≡ 1) here b)))
-    (subst (λ (y : Position). Contains (q ∷ picked_from (suc k) qs m) y) s (has_head q (picked_from (suc k) qs m)))
+    (subst (λ (y : Position). Contains (q ∷ picked_from (suc k) qs m) y) s (contains_first q (picked_from (suc k) qs m)))
 picked_has k (suc i) (q ∷ qs) m c e b =
     let here : k + suc i ≡ suc k + i = omega arith in
     let rec : Contains (picked_from (suc k) qs m) c = picked_has (suc k) i qs m c e (subst (λ (j : ℕ). bit_at m j ≡ 1) here b) in
     ⊎_elim
-    (λ (o : bit_at m k ≡ 1). subst (λ (l : List Position). Contains l c) (sym (picked_in k q qs m o)) (has_tail q c (picked_from (suc k) qs m) rec))
+    (λ (o : bit_at m k ≡ 1). subst (λ (l : List Position). Contains l c) (sym (picked_in k q qs m o)) (contains_later q c (picked_from (suc k) qs m) rec))
     (λ (ne : bit_at m k ≢ 1). subst (λ (l : List Position). Contains l c) (sym (picked_out k q qs m ne)) rec)
     (bit_cases m k)
 
@@ -155,6 +144,6 @@ picked_lacks k (suc i) (q ∷ qs) m c up e b h =
     (λ (o : bit_at m k ≡ 1). ⊎_elim
     (λ (s : q ≡ c). before_itself c (subst (λ (x : Position). is_before x c ≡ true) s before))
     (λ (t : Contains (picked_from (suc k) qs m) c). picked_lacks (suc k) i qs m c up.1 e b' t)
-    (has_cases q c (picked_from (suc k) qs m) (subst (λ (l : List Position). Contains l c) (picked_in k q qs m o) h)))
+    (contains_cases q c (picked_from (suc k) qs m) (subst (λ (l : List Position). Contains l c) (picked_in k q qs m o) h)))
     (λ (ne : bit_at m k ≢ 1). picked_lacks (suc k) i qs m c up.1 e b' (subst (λ (l : List Position). Contains l c) (picked_out k q qs m ne) h))
     (bit_cases m k)

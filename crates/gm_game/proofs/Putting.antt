@@ -1,11 +1,7 @@
 -- Numbers put into an ascending list, one at a time.
-use Rattle.std.proofs.Common.{◌≡◌, ℕ, ◌+◌, ◌<◌, ◌≤◌, true, false, ltb, eqb, List, [], ◌∷◌, length, get_or, zero, suc, lt-ltb, ◌⊎◌, inl, inr, refl, sym, subst}
-use Rattle.std.proofs.Common.{arith}
-use Rattle.std.proofs.lemmas.Bool.Decides.{nat_tests}
-use Rattle.std.proofs.lemmas.Bool.{cases_lt, cases_eq}
+use Rattle.gm_game.proofs.Lower.{◌≡◌, ℕ, ◌+◌, ◌<◌, ◌≤◌, true, false, ltb, eqb, List, [], ◌∷◌, length, get_or, zero, suc, lt-ltb, ◌⊎◌, inl, inr, refl, sym}
+use Rattle.gm_game.proofs.Lower.{subst, arith, nat_tests, cases_lt, cases_eq, IsAscending, put, put_all}
 use Rattle.std.specs.List.{Contains, insert}
-use Rattle.gm_game.specs.Rules.{IsAscending}
-use Rattle.gm_game.specs.Ascending.{put, put_all}
 use Rattle.gm_game.proofs.Lists.{contains_first, contains_later, contains_cases}
 
 -- put, where what is before the place is less and what is at it is greater
@@ -57,58 +53,52 @@ unfolding above
 put_above z x [] l a = l
 put_above z x (y ∷ ys) l a = grind (arith, nat_tests)
 
-pub put_ascending : (x : ℕ) (ys : List ℕ) → IsAscending ys → IsAscending (put x ys)
-put_ascending x [] s = tt
-put_ascending x (y ∷ ys) s = elim (cases_lt x y) [
-  | inl l ↦ rw (lt-ltb x y l) (l, s)
+-- x goes before the first number, is it, or goes past it
+put_by : (x y : ℕ) (ys : List ℕ) (P : List ℕ → Type 0) → (x < y → P (x ∷ y ∷ ys)) → (x ≡ y → P (y ∷ ys)) → (y < x → P (y ∷ put x ys)) → P (put x (y ∷ ys))
+put_by x y ys P first same past = elim (cases_lt x y) [
+  | inl l ↦ rw (lt-ltb x y l) (first l)
   | inr g ↦ elim (cases_eq x y) [
-    | inl e ↦ let a : ltb x y ≡ false = grind (arith, nat_tests) in let b : eqb x y ≡ true = grind (arith, nat_tests) in rw (a, b) s
-    | inr n ↦ let a : ltb x y ≡ false = grind (arith, nat_tests) in let b : eqb x y ≡ false = grind (arith, nat_tests) in
-        let r : IsAscending (y ∷ put x ys) = ascending_cons y (put x ys) (put_above y x ys (omega arith) (ascending_above y ys s))
-        (put_ascending x ys (ascending_tail y ys s)) in
-        rw (a, b) r
+    | inl e ↦ let a : ltb x y ≡ false = grind (arith, nat_tests) in let b : eqb x y ≡ true = grind (arith, nat_tests) in rw (a, b) (same e)
+    | inr n ↦ let a : ltb x y ≡ false = grind (arith, nat_tests) in let b : eqb x y ≡ false = grind (arith, nat_tests) in rw (a, b) (past (omega arith))
   ]
 ]
+
+pub put_ascending : (x : ℕ) (ys : List ℕ) → IsAscending ys → IsAscending (put x ys)
+put_ascending x [] s = tt
+put_ascending x (y ∷ ys) s =
+    put_by x y ys IsAscending (λ l. (l, s)) (λ _. s)
+    (λ l. ascending_cons y (put x ys) (put_above y x ys l (ascending_above y ys s)) (put_ascending x ys (ascending_tail y ys s)))
 
 pub put_has : (x : ℕ) (ys : List ℕ) → Contains (put x ys) x
 put_has x [] = contains_first x []
-put_has x (y ∷ ys) = elim (cases_lt x y) [
-  | inl l ↦ rw (lt-ltb x y l) (contains_first x (y ∷ ys))
-  | inr g ↦ elim (cases_eq x y) [
-    | inl e ↦ let a : ltb x y ≡ false = grind (arith, nat_tests) in let b : eqb x y ≡ true = grind (arith, nat_tests) in
-        rw (a, b) (subst (λ (z : ℕ). Contains (y ∷ ys) z) (sym e) (contains_first y ys))
-    | inr n ↦ let a : ltb x y ≡ false = grind (arith, nat_tests) in let b : eqb x y ≡ false = grind (arith, nat_tests) in
-        rw (a, b) (contains_later y x (put x ys) (put_has x ys))
-  ]
-]
+put_has x (y ∷ ys) =
+    put_by x y ys (λ (zs : List ℕ). Contains zs x) (λ _. contains_first x (y ∷ ys))
+    (λ e. subst (λ (z : ℕ). Contains (y ∷ ys) z) (sym e) (contains_first y ys))
+    (λ _. contains_later y x (put x ys) (put_has x ys))
 
 pub put_keeps : (x : ℕ) (ys : List ℕ) (z : ℕ) → Contains ys z → Contains (put x ys) z
 put_keeps x [] z c = contains_later x z [] c
-put_keeps x (y ∷ ys) z c = elim (cases_lt x y) [
-  | inl l ↦ rw (lt-ltb x y l) (contains_later x z (y ∷ ys) c)
-  | inr g ↦ elim (cases_eq x y) [
-    | inl e ↦ let a : ltb x y ≡ false = grind (arith, nat_tests) in let b : eqb x y ≡ true = grind (arith, nat_tests) in rw (a, b) c
-    | inr n ↦ let a : ltb x y ≡ false = grind (arith, nat_tests) in let b : eqb x y ≡ false = grind (arith, nat_tests) in
-        rw (a, b) (elim (contains_cases y z ys c) [
-          | inl e ↦ subst (λ (w : ℕ). Contains (y ∷ put x ys) w) e (contains_first y (put x ys))
-          | inr d ↦ contains_later y z (put x ys) (put_keeps x ys z d)
-        ])
-  ]
-]
+put_keeps x (y ∷ ys) z c =
+    put_by x y ys (λ (zs : List ℕ). Contains zs z) (λ _. contains_later x z (y ∷ ys) c) (λ _. c)
+    (λ _. elim (contains_cases y z ys c) [
+      | inl e ↦ subst (λ (w : ℕ). Contains (y ∷ put x ys) w) e (contains_first y (put x ys))
+      | inr d ↦ contains_later y z (put x ys) (put_keeps x ys z d)
+    ])
 
 pub put_adds : (x : ℕ) (ys : List ℕ) (z : ℕ) → Contains (put x ys) z → (x ≡ z) ⊎ Contains ys z
-put_adds x [] z c = contains_cases x z [] c
-put_adds x (y ∷ ys) z c = elim (cases_lt x y) [
-  | inl l ↦ contains_cases x z (y ∷ ys) (rw (lt-ltb x y l) at c)
-  | inr g ↦ elim (cases_eq x y) [
-    | inl e ↦ let a : ltb x y ≡ false = grind (arith, nat_tests) in let b : eqb x y ≡ true = grind (arith, nat_tests) in inr (rw (a, b) at c)
-    | inr n ↦ let a : ltb x y ≡ false = grind (arith, nat_tests) in let b : eqb x y ≡ false = grind (arith, nat_tests) in
-        elim (contains_cases y z (put x ys) (rw (a, b) at c)) [
-          | inl e ↦ inr (subst (λ (w : ℕ). Contains (y ∷ ys) w) e (contains_first y ys))
-          | inr d ↦ elim (put_adds x ys z d) [ inl e ↦ inl e | inr f ↦ inr (contains_later y z ys f) ]
-        ]
-  ]
-]
+put_adds x [] z = λ c. contains_cases x z [] c
+put_adds x (y ∷ ys) z =
+    put_by x y ys (λ (zs : List ℕ). Contains zs z → (x ≡ z) ⊎ Contains (y ∷ ys) z) (λ _ c. contains_cases x z (y ∷ ys) c) (λ _ c. inr c)
+    (λ _ c. elim (contains_cases y z (put x ys) c) [
+      | inl e ↦ inr (subst (λ (w : ℕ). Contains (y ∷ ys) w) e (contains_first y ys))
+      | inr d ↦ elim (put_adds x ys z d) [ inl e ↦ inl e | inr f ↦ inr (contains_later y z ys f) ]
+    ])
+
+-- a number more makes the list longer by one at most
+pub put_few : (x : ℕ) (ys : List ℕ) → length (put x ys) ≤ length ys + 1
+put_few x [] = omega arith
+put_few x (y ∷ ys) =
+    put_by x y ys (λ (zs : List ℕ). length zs ≤ length (y ∷ ys) + 1) (λ _. omega arith) (λ _. omega arith) (λ _. let h = put_few x ys in omega arith)
 
 pub put_all_ascending : (ys xs : List ℕ) → IsAscending ys → IsAscending (put_all ys xs)
 put_all_ascending ys [] s = s
@@ -130,18 +120,6 @@ put_all_later ys [] z c = absurd (omega (arith, c.1))
 put_all_later ys (x ∷ xs) z c = elim (contains_cases x z xs c) [
   | inl e ↦ put_all_first (put x ys) xs z (subst (λ (w : ℕ). Contains (put x ys) w) e (put_has x ys))
   | inr d ↦ put_all_later (put x ys) xs z d
-]
-
--- a number more makes the list longer by one at most
-pub put_few : (x : ℕ) (ys : List ℕ) → length (put x ys) ≤ length ys + 1
-put_few x [] = omega arith
-put_few x (y ∷ ys) = elim (cases_lt x y) [
-  | inl l ↦ rw (lt-ltb x y l) (omega arith)
-  | inr g ↦ elim (cases_eq x y) [
-    | inl e ↦ let a : ltb x y ≡ false = grind (arith, nat_tests) in let b : eqb x y ≡ true = grind (arith, nat_tests) in rw (a, b) (omega arith)
-    | inr n ↦ let a : ltb x y ≡ false = grind (arith, nat_tests) in let b : eqb x y ≡ false = grind (arith, nat_tests) in let h = put_few x ys in rw (a, b)
-        (omega arith)
-  ]
 ]
 
 pub put_all_few : (ys xs : List ℕ) → length (put_all ys xs) ≤ length ys + length xs

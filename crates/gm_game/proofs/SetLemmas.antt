@@ -1,16 +1,14 @@
 -- Sets of positions as ascending lists.
-use Rattle.std.proofs.Common.{◌≡◌, ℕ, zero, suc, ◌+◌, ◌≤◌, ◌⊎◌, inl, inr, ⊎_elim, Bool, true, false, List, [], ◌∷◌, take, length, refl, ap, sym, subst, ◌∙◌}
-use Rattle.std.proofs.Common.{arith, cond, if◌then◌else◌, true≢false}
-use Rattle.std.proofs.Common.{Some}
-use Rattle.std.specs.List.{slice_get, Contains, insert as insert_at, AllByRecursion, prefix_len, IsDistinct}
-use Rattle.std.proofs.lemmas.Bool.Decides.{nat_tests}
+use Rattle.gm_game.proofs.Lower.{◌≡◌, ℕ, zero, suc, ◌+◌, ◌≤◌, ◌⊎◌, inl, inr, ⊎_elim, Bool, true, false, List, [], ◌∷◌, take, length, refl, ap, sym, subst, ◌∙◌}
+use Rattle.gm_game.proofs.Lower.{arith, cond, if◌then◌else◌, true≢false, Some, slice_get, AllByRecursion, nat_tests, Position, at, is_before, is_same}
+use Rattle.gm_game.proofs.Lower.{false_from_ne_true}
+use Rattle.gm_game.proofs.Lower.{with_position, place_in, set_of, AreAscending}
+use Rattle.std.specs.List.{Contains, insert as insert_at, prefix_len, IsDistinct}
 use Rattle.std.specs.Bool.{Decides}
 use Rattle.std.specs.Cmp.{IsEquivalence}
 use Rattle.std.specs.Set.{is_member}
 use Rattle.std.proofs.lemmas.Map.Made.{length-le_from_is_member, is_member-Decides}
-use Rattle.gm_game.specs.declared.position.Position.{Position}
-use Rattle.gm_game.specs.Rules.{at}
-use Rattle.gm_game.specs.Children.{is_before, is_same, with_position, place_in, set_of, AreAscending}
+use Rattle.gm_game.proofs.Lists.{contains_first, contains_later, contains_cases}
 
 -- two positions with the same tier and index are one
 pub same_position : (p q : Position) → p.tier ≡ q.tier → p.index ≡ q.index → p ≡ q
@@ -31,66 +29,58 @@ before_or_after p q b s = grind (arith, nat_tests)
 pub before_trans : (p q x : Position) → is_before p q ≡ true → is_before q x ≡ true → is_before p x ≡ true
 before_trans p q x b c = grind (arith, nat_tests)
 
+pub before_itself : (p : Position) → is_before p p ≡ true → ⊥
+before_itself p b = grind (arith, nat_tests)
+
+not_before : (p q : Position) → is_before p q ≡ true → is_before q p ≡ false
+not_before p q b = grind (arith, nat_tests)
+
 -- membership
-pub has_head : (q : Position) (qs : List Position) → Contains (q ∷ qs) q
-has_head q qs = (0, omega arith, refl)
-
-pub has_tail : (q x : Position) (qs : List Position) → Contains qs x → Contains (q ∷ qs) x
-has_tail q x qs h = (suc h.0, omega arith, h.2)
-
-pub has_cases : (q x : Position) (qs : List Position) → Contains (q ∷ qs) x → (q ≡ x) ⊎ Contains qs x
-has_cases q x qs (zero, l, e) = inl e
-has_cases q x qs (suc k, l, e) = inr (k, omega arith, e)
-
 pub has_none : (x : Position) → Contains [] x → ⊥
 has_none x h = omega arith
 
--- a list with a position more
-pub has_new : (p : Position) (qs : List Position) → Contains (with_position p qs) p
-has_new p [] = has_head p []
-has_new p (q ∷ qs) =
-    elim (is_before q p) as (λ b. Contains (if b then q ∷ with_position p qs else (if is_same q p then q ∷ qs else p ∷ q ∷ qs)) p) [
-      | true ↦ has_tail q p _ (has_new p qs)
-      | false ↦ elim (is_same q p) as (λ s. is_same q p ≡ s → Contains (if s then q ∷ qs else p ∷ q ∷ qs) p) [
-        | true ↦ λ e. subst (λ (x : Position). Contains (q ∷ qs) x) (is_same_means q p e) (has_head q qs)
-        | false ↦ λ _. has_head p (q ∷ qs)
+-- a list with a position more, which goes past the first one, is it, or goes before it
+pub with_by : (p q : Position) (qs : List Position) (P : List Position → Type 0) → (is_before q p ≡ true → P (q ∷ with_position p qs)) → (q ≡ p → P (q ∷ qs))
+    → (is_before p q ≡ true → P (p ∷ q ∷ qs)) → P (with_position p (q ∷ qs))
+with_by p q qs P past same first =
+    elim (is_before q p) as (λ t. is_before q p ≡ t → P (if t then q ∷ with_position p qs else (if is_same q p then q ∷ qs else p ∷ q ∷ qs))) [
+      | true ↦ past
+      | false ↦ λ b. elim (is_same q p) as (λ t. is_same q p ≡ t → P (if t then q ∷ qs else p ∷ q ∷ qs)) [
+        | true ↦ λ s. same (is_same_means q p s)
+        | false ↦ λ s. first (before_or_after p q b s)
       ] refl
-    ]
+    ] refl
+
+pub has_new : (p : Position) (qs : List Position) → Contains (with_position p qs) p
+has_new p [] = contains_first p []
+has_new p (q ∷ qs) =
+    with_by p q qs (λ (l : List Position). Contains l p) (λ _. contains_later q p _ (has_new p qs))
+    (λ s. subst (λ (x : Position). Contains (q ∷ qs) x) s (contains_first q qs))
+    (λ _. contains_first p (q ∷ qs))
 
 pub has_old : (p x : Position) (qs : List Position) → Contains qs x → Contains (with_position p qs) x
 has_old p x [] h = absurd (has_none x h)
 has_old p x (q ∷ qs) h =
-    elim (is_before q p) as (λ b. Contains (if b then q ∷ with_position p qs else (if is_same q p then q ∷ qs else p ∷ q ∷ qs)) x) [
-      | true ↦ ⊎_elim (λ (e : q ≡ x). subst (λ (y : Position). Contains (q ∷ with_position p qs) y) e (has_head q _))
-          (λ (t : Contains qs x). has_tail q x _ (has_old p x qs t)) (has_cases q x qs h)
-      | false ↦ elim (is_same q p) as (λ s. Contains (if s then q ∷ qs else p ∷ q ∷ qs) x) [
-        | true ↦ h
-        | false ↦ has_tail p x (q ∷ qs) h
-      ]
-    ]
+    with_by p q qs (λ (l : List Position). Contains l x)
+    (λ _. ⊎_elim (λ (e : q ≡ x). subst (λ (y : Position). Contains (q ∷ with_position p qs) y) e (contains_first q _))
+    (λ (t : Contains qs x). contains_later q x _ (has_old p x qs t)) (contains_cases q x qs h))
+    (λ _. h)
+    (λ _. contains_later p x (q ∷ qs) h)
 
 pub with_cases : (p x : Position) (qs : List Position) → Contains (with_position p qs) x → (p ≡ x) ⊎ Contains qs x
-with_cases p x [] = λ h. has_cases p x [] h
+with_cases p x [] = λ h. contains_cases p x [] h
 with_cases p x (q ∷ qs) =
-    elim (is_before q p) as (λ b. Contains (if b then q ∷ with_position p qs else (if is_same q p then q ∷ qs else p ∷ q ∷ qs)) x → (p ≡ x) ⊎ Contains
-    (q ∷ qs) x) [
-      | true ↦ λ h. ⊎_elim (λ (e : q ≡ x). inr (subst (λ (y : Position). Contains (q ∷ qs) y) e (has_head q qs)))
-          (λ (t : Contains (with_position p qs) x). ⊎_elim (λ (e : p ≡ x). inl e) (λ (o : Contains qs x). inr (has_tail q x qs o)) (with_cases p x qs t))
-          (has_cases q x _ h)
-      | false ↦ elim (is_same q p) as (λ s. Contains (if s then q ∷ qs else p ∷ q ∷ qs) x → (p ≡ x) ⊎ Contains (q ∷ qs) x) [
-        | true ↦ λ h. inr h
-        | false ↦ λ h. has_cases p x (q ∷ qs) h
-      ]
-    ]
+    with_by p q qs (λ (l : List Position). Contains l x → (p ≡ x) ⊎ Contains (q ∷ qs) x)
+    (λ _ h. ⊎_elim (λ (e : q ≡ x). inr (subst (λ (y : Position). Contains (q ∷ qs) y) e (contains_first q qs)))
+    (λ (t : Contains (with_position p qs) x). ⊎_elim (λ (e : p ≡ x). inl e) (λ (o : Contains qs x). inr (contains_later q x qs o)) (with_cases p x qs t))
+    (contains_cases q x _ h))
+    (λ _ h. inr h)
+    (λ _ h. contains_cases p x (q ∷ qs) h)
 
 -- a fact of each position
 pub all_with : (P : Position → Type 0) (p : Position) (qs : List Position) → P p → AllByRecursion P qs → AllByRecursion P (with_position p qs)
 all_with P p [] here all = (here, tt)
-all_with P p (q ∷ qs) here all =
-    elim (is_before q p) as (λ b. AllByRecursion P (if b then q ∷ with_position p qs else (if is_same q p then q ∷ qs else p ∷ q ∷ qs))) [
-      | true ↦ (all.0, all_with P p qs here all.1)
-      | false ↦ elim (is_same q p) as (λ s. AllByRecursion P (if s then q ∷ qs else p ∷ q ∷ qs)) [ true ↦ all | false ↦ (here, all) ]
-    ]
+all_with P p (q ∷ qs) here all = with_by p q qs (AllByRecursion P) (λ _. (all.0, all_with P p qs here all.1)) (λ _. all) (λ _. (here, all))
 
 pub all_after : (p q : Position) (qs : List Position) → is_before p q ≡ true → AllByRecursion (λ x. is_before q x ≡ true) qs → AllByRecursion
     (λ x. is_before p x ≡ true) qs
@@ -100,13 +90,8 @@ all_after p q (x ∷ qs) b all = (before_trans p q x b all.0, all_after p q qs b
 pub ascending_with : (p : Position) (qs : List Position) → AreAscending qs → AreAscending (with_position p qs)
 ascending_with p [] up = (tt, tt)
 ascending_with p (q ∷ qs) up =
-    elim (is_before q p) as (λ b. is_before q p ≡ b → AreAscending (if b then q ∷ with_position p qs else (if is_same q p then q ∷ qs else p ∷ q ∷ qs))) [
-      | true ↦ λ b. (all_with (λ x. is_before q x ≡ true) p qs b up.0, ascending_with p qs up.1)
-      | false ↦ λ b. elim (is_same q p) as (λ s. is_same q p ≡ s → AreAscending (if s then q ∷ qs else p ∷ q ∷ qs)) [
-        | true ↦ λ _. up
-        | false ↦ λ s. let pq : is_before p q ≡ true = before_or_after p q b s in ((pq, all_after p q qs pq up.0), up)
-      ] refl
-    ] refl
+    with_by p q qs AreAscending (λ b. (all_with (λ x. is_before q x ≡ true) p qs b up.0, ascending_with p qs up.1)) (λ _. up)
+    (λ b. ((b, all_after p q qs b up.0), up))
 
 place_more : (p q : Position) (qs : List Position) → is_before q p ≡ true → place_in p (q ∷ qs) ≡ suc (place_in p qs)
 place_more p q qs b =
@@ -121,52 +106,51 @@ place_none p q qs b =
 pub with_there_at : (p : Position) (qs : List Position) → slice_get qs (place_in p qs) ≡ Some p → with_position p qs ≡ qs
 with_there_at p [] e = absurd (cc)
 with_there_at p (q ∷ qs) e =
-    elim (is_before q p) as (λ b. is_before q p ≡ b → (if b then q ∷ with_position p qs else (if is_same q p then q ∷ qs else p ∷ q ∷ qs)) ≡ q ∷ qs) [
-      | true ↦ λ b. ap (λ (l : List Position). q ∷ l) (with_there_at p qs (ap (λ (k : ℕ). slice_get (q ∷ qs) k) (sym (place_more p q qs b)) ∙ e))
-      | false ↦ λ b. let s : Some q ≡ Some p = ap (λ (k : ℕ). slice_get (q ∷ qs) k) (sym (place_none p q qs b)) ∙ e in let t : q ≡ p = cc in
-          ap (λ (t : Bool). if t then q ∷ qs else p ∷ q ∷ qs) (subst (λ (y : Position). is_same q y ≡ true) t (is_same_itself q))
-    ] refl
+    with_by p q qs (λ (l : List Position). l ≡ q ∷ qs)
+    (λ b. ap (λ (l : List Position). q ∷ l) (with_there_at p qs (ap (λ (k : ℕ). slice_get (q ∷ qs) k) (sym (place_more p q qs b)) ∙ e)))
+    (λ _. refl)
+    (λ b. let s : Some q ≡ Some p = ap (λ (k : ℕ). slice_get (q ∷ qs) k) (sym (place_none p q qs (not_before p q b))) ∙ e in let t : q ≡ p = cc in
+    absurd (before_itself p (subst (λ (y : Position). is_before p y ≡ true) t b)))
 
 -- and any other is inserted there
 pub with_insert_at : (p : Position) (qs : List Position) → (slice_get qs (place_in p qs) ≡ Some p → ⊥) → with_position p qs ≡ insert_at qs (place_in p qs) p
 with_insert_at p [] absent = refl
 with_insert_at p (q ∷ qs) absent =
-    elim (is_before q p) as (λ b. is_before q p ≡ b → (if b then q ∷ with_position p qs else (if is_same q p then q ∷ qs else p ∷ q ∷ qs)) ≡ insert_at
-    (q ∷ qs) (place_in p (q ∷ qs)) p) [
-      | true ↦ λ b. let m = place_more p q qs b in
-          ap (λ (l : List Position). q ∷ l) (with_insert_at p qs (λ e. absent (ap (λ (k : ℕ). slice_get (q ∷ qs) k) m ∙ e))) ∙ ap
-          (λ (n : ℕ). insert_at (q ∷ qs) n p) (sym m)
-      | false ↦ λ b. let m = place_none p q qs b in elim (is_same q p) as (λ s. is_same q p ≡ s → (if s then q ∷ qs else p ∷ q ∷ qs) ≡ insert_at (q ∷ qs)
-          (place_in p (q ∷ qs)) p) [
-            | true ↦ λ s. absurd (absent (ap (λ (k : ℕ). slice_get (q ∷ qs) k) m ∙ ap Some (is_same_means q p s)))
-            | false ↦ λ _. ap (λ (n : ℕ). insert_at (q ∷ qs) n p) (sym m)
-          ] refl
-    ] refl
+    with_by p q qs (λ (l : List Position). l ≡ insert_at (q ∷ qs) (place_in p (q ∷ qs)) p)
+    (λ b. let m = place_more p q qs b in
+    ap (λ (l : List Position). q ∷ l) (with_insert_at p qs (λ e. absent (ap (λ (k : ℕ). slice_get (q ∷ qs) k) m ∙ e))) ∙ ap
+    (λ (n : ℕ). insert_at (q ∷ qs) n p) (sym m))
+    (λ s. let m = place_none p q qs (false_from_ne_true (is_before q p) (λ b. before_itself p (subst (λ (x : Position). is_before x p ≡ true) s b))) in
+    absurd (absent (ap (λ (k : ℕ). slice_get (q ∷ qs) k) m ∙ ap Some s)))
+    (λ b. ap (λ (n : ℕ). insert_at (q ∷ qs) n p) (sym (place_none p q qs (not_before p q b))))
 
 -- a new position makes the list longer by one
 pub length_with : (p : Position) (qs : List Position) → (Contains qs p → ⊥) → length (with_position p qs) ≡ length qs + 1
 length_with p [] absent = refl
 length_with p (q ∷ qs) absent =
-    elim (is_before q p) as (λ b. length (if b then q ∷ with_position p qs else (if is_same q p then q ∷ qs else p ∷ q ∷ qs)) ≡ length (q ∷ qs) + 1) [
-      | true ↦ let e : length (with_position p qs) ≡ length qs + 1 = length_with p qs (λ h. absent (has_tail q p qs h)) in omega arith
-      | false ↦ elim (is_same q p) as (λ s. is_same q p ≡ s → length (if s then q ∷ qs else p ∷ q ∷ qs) ≡ length (q ∷ qs) + 1) [
-        | true ↦ λ s. absurd (absent (subst (λ (x : Position). Contains (q ∷ qs) x) (is_same_means q p s) (has_head q qs)))
-        | false ↦ λ _. omega arith
-      ] refl
-    ]
+    with_by p q qs (λ (l : List Position). length l ≡ length (q ∷ qs) + 1)
+    (λ _. let e : length (with_position p qs) ≡ length qs + 1 = length_with p qs (λ h. absent (contains_later q p qs h)) in omega arith)
+    (λ s. absurd (absent (subst (λ (x : Position). Contains (q ∷ qs) x) s (contains_first q qs))))
+    (λ _. omega arith)
+
+-- and any grows it by one at most
+pub length_with_le : (p : Position) (qs : List Position) → length (with_position p qs) ≤ length qs + 1
+length_with_le p [] = omega arith
+length_with_le p (q ∷ qs) =
+    with_by p q qs (λ (l : List Position). length l ≤ length (q ∷ qs) + 1) (λ _. let l = length_with_le p qs in omega arith) (λ _. omega arith) (λ _. omega arith)
 
 -- the set of a list has its positions
 pub set_has : (ps : List Position) (x : Position) → Contains ps x → Contains (set_of ps) x
 set_has [] x h = h
 set_has (p ∷ ps) x h =
     ⊎_elim (λ (e : p ≡ x). subst (λ (y : Position). Contains (with_position p (set_of ps)) y) e (has_new p (set_of ps)))
-    (λ (t : Contains ps x). has_old p x (set_of ps) (set_has ps x t)) (has_cases p x ps h)
+    (λ (t : Contains ps x). has_old p x (set_of ps) (set_has ps x t)) (contains_cases p x ps h)
 
 pub has_set : (ps : List Position) (x : Position) → Contains (set_of ps) x → Contains ps x
 has_set [] x h = h
 has_set (p ∷ ps) x h =
-    ⊎_elim (λ (e : p ≡ x). subst (λ (y : Position). Contains (p ∷ ps) y) e (has_head p ps))
-    (λ (t : Contains (set_of ps) x). has_tail p x ps (has_set ps x t)) (with_cases p x (set_of ps) h)
+    ⊎_elim (λ (e : p ≡ x). subst (λ (y : Position). Contains (p ∷ ps) y) e (contains_first p ps))
+    (λ (t : Contains (set_of ps) x). contains_later p x ps (has_set ps x t)) (with_cases p x (set_of ps) h)
 
 pub ascending_set : (ps : List Position) → AreAscending (set_of ps)
 ascending_set [] = tt
@@ -220,18 +204,6 @@ has_all xs ys up within same x there =
           (λ h. true≢false (sym ((is_member-Decides is_same_decides xs x).1 h) ∙ e)) in omega arith)
     ] refl
 
-pub before_itself : (p : Position) → is_before p p ≡ true → ⊥
-before_itself p b = grind (arith, nat_tests)
-
 pub all_there : (P : Position → Type 0) (qs : List Position) (x : Position) → AllByRecursion P qs → Contains qs x → P x
 all_there P [] x all h = absurd (has_none x h)
-all_there P (q ∷ qs) x all h = ⊎_elim (λ (e : q ≡ x). subst P e all.0) (λ (t : Contains qs x). all_there P qs x all.1 t) (has_cases q x qs h)
-
--- the length of a list with a position more grows by one at most
-pub length_with_le : (p : Position) (qs : List Position) → length (with_position p qs) ≤ length qs + 1
-length_with_le p [] = omega arith
-length_with_le p (q ∷ qs) =
-    elim (is_before q p) as (λ b. length (if b then q ∷ with_position p qs else (if is_same q p then q ∷ qs else p ∷ q ∷ qs)) ≤ length (q ∷ qs) + 1) [
-      | true ↦ let l = length_with_le p qs in omega arith
-      | false ↦ elim (is_same q p) as (λ s. length (if s then q ∷ qs else p ∷ q ∷ qs) ≤ length (q ∷ qs) + 1) [ true ↦ omega arith | false ↦ omega arith ]
-    ]
+all_there P (q ∷ qs) x all h = ⊎_elim (λ (e : q ≡ x). subst P e all.0) (λ (t : Contains qs x). all_there P qs x all.1 t) (contains_cases q x qs h)

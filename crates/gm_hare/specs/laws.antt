@@ -4,3 +4,4 @@ pub mod HoundFacts
 pub mod MoveFacts
 pub mod PointFacts
 pub mod TextLaws
+pub mod HarePictured

@@ -3,4 +3,5 @@
 
 pub mod hare;
 pub mod hunt;
+pub mod picture;
 pub mod points;

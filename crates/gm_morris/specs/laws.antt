@@ -4,3 +4,4 @@ pub mod BoardFacts
 pub mod MoveFacts
 pub mod MorrisLaws
 pub mod TextLaws
+pub mod NinePictured

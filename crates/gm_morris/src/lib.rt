@@ -3,4 +3,5 @@
 #![tactic(auto)]
 
 pub mod games;
+pub mod picture;
 pub mod variant;

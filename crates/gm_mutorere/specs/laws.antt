@@ -2,3 +2,4 @@
 pub mod RingTables
 pub mod RingFacts
 pub mod RingLaws
+pub mod RingPictured

@@ -1,3 +1,5 @@
+pub mod ShowTexts
+pub mod Sights
 pub mod Listings
 pub mod Scripts
 pub mod Heads

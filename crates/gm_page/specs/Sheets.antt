@@ -10,7 +10,7 @@ use Rattle.gm_find.specs.declared.found.Found.{Found}
 use Rattle.gm_find.specs.declared.sought.Sought.{Sought}
 use Rattle.gm_find.specs.declared.sought.Choice.{Choice}
 use Rattle.gm_find.specs.Founds.{AreChosen}
-use Rattle.gm_draw.specs.Diagrams.{IsDiagram}
+use Rattle.gm_page.specs.ShowTexts.{IsDiagram}
 use Rattle.gm_page.specs.declared.solution.TheConstants.{SOLUTION_MOVES}
 use Rattle.gm_page.specs.declared.parts.TheConstants.{SHEET_FRONT, SHEET_DIAGRAMS, SHEET_SOLUTIONS, SHEET_BACK}
 

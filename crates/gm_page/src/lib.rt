@@ -1,8 +1,10 @@
-//! Pages for any browser: the positions of a page, its lines of data, and the viewer around them; sheets of diagrams for people to solve, each with its solution.
+//! Positions for people: boards on a terminal; pages for any browser, with the positions of a page, its lines of data and the viewer around them; sheets of
+//! diagrams to solve, each with its solution.
 //!
 //! `specs/` has the definitions that contracts cite, and `proofs/` has the facts that follow from them.
 #![tactic(auto)]
 
+pub mod boards;
 pub mod engine;
 pub mod front;
 mod head;
@@ -12,6 +14,7 @@ pub mod parts;
 mod rows;
 pub mod script;
 pub mod sheet;
+pub mod show;
 pub mod solution;
 pub mod viewer_asking;
 pub mod viewer_boards;

@@ -4,8 +4,8 @@ ghost use Rattle.gm_page.specs.Lower.{All, flat_map};
 ghost use Rattle.gm_page.specs.Sheets.{Entry, entry_text, answer_text, heading, lists, sheet_of, IsEntry, AreEntries, IsSheet, IsKnownAt};
 
 use crate::parts::{SHEET_BACK, SHEET_DIAGRAMS, SHEET_FRONT, SHEET_SOLUTIONS};
+use crate::show::diagram_text;
 use crate::solution::solution_text;
-use gm_draw::diagram::diagram_text;
 use gm_draw::markup::push_escaped;
 use gm_draw::pictured::Pictured;
 use gm_find::choice::find_some;

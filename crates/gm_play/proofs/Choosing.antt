@@ -12,17 +12,23 @@ farther_unless Draw k than h = tt
 farther_unless Tie k than h = elim (cases_lt k than) [ inl l ↦ absurd (h l) | inr l ↦ l ]
 farther_unless Win k than h = elim (cases_lt k than) [ inl l ↦ absurd (h l) | inr l ↦ l ]
 
-nearer_all : (value : Value) (k than other : ℕ) → IsNearer value k than → IsNoFarther value than other → IsNoFarther value k other
+nearer_all : (value : Value) (k than other : ℕ) → IsNearer value k than → IsNoFarther value than other → IsNearer value k other
 nearer_all Lose k than other a b = omega arith
 nearer_all Draw k than other a b = absurd a
 nearer_all Tie k than other a b = omega arith
 nearer_all Win k than other a b = omega arith
 
-nearer_apart : (value : Value) (k than : ℕ) → IsNearer value k than → IsNoFarther value than k → ⊥
-nearer_apart Lose k than a b = omega arith
-nearer_apart Draw k than a b = a
-nearer_apart Tie k than a b = omega arith
-nearer_apart Win k than a b = omega arith
+nearer_no_farther : (value : Value) (k than : ℕ) → IsNearer value k than → IsNoFarther value k than
+nearer_no_farther Lose k than a = omega arith
+nearer_no_farther Draw k than a = tt
+nearer_no_farther Tie k than a = omega arith
+nearer_no_farther Win k than a = omega arith
+
+never_nearer : (value : Value) (k : ℕ) → IsNearer value k k → ⊥
+never_nearer Lose k a = omega arith
+never_nearer Draw k a = a
+never_nearer Tie k a = omega arith
+never_nearer Win k a = omega arith
 
 same_far : (value : Value) (k : ℕ) → IsNoFarther value k k
 same_far Lose k = omega arith
@@ -37,71 +43,46 @@ module _ (r : Rules) (p : Position) (value : Value) (front : List ℕ) (m : ℕ)
   goes_once : (n k l : ℕ) → m ≡ n → Goes m k → Goes n l → k ≡ l
   goes_once n k l e a b = (HasValue_once r (r.play p m) (wanted_from value) (wanted_from value) k l a (subst (λ (x : ℕ). Goes x l) (sym e) b)).1
 
-  -- the move goes elsewhere
-  best_kept : (c k : ℕ) → IsBestOf r p value front c k → ((l : ℕ) → Goes m l → ⊥) → IsBestOf r p value (front ++ m ∷ []) c k
-  best_kept c k b none = record {
+  -- the choice stays where the move leads no nearer
+  best_stays : (c k : ℕ) → IsBestOf r p value front c k → ((l : ℕ) → Goes m l → IsNoFarther value k l) → IsBestOf r p value (front ++ m ∷ []) c k
+  best_stays c k b far = record {
     there = Contains-append_left front (m ∷ []) c b.there;
     reaches = b.reaches;
     no_better = λ n l has v. elim (Contains-push_cases front m n has) [
       | inl i ↦ b.no_better n l i v
-      | inr e ↦ absurd
-          (none l (subst (λ (x : ℕ). Goes x l) (sym e) v))
+      | inr e ↦ far l (subst (λ (x : ℕ). Goes x l) (sym e) v)
     ];
-    first = λ n has v. elim (Contains-push_cases front m n has) [ inl i ↦ b.first n i v | inr e ↦ absurd (none k (subst (λ (x : ℕ). Goes x k) (sym e) v)) ];
+    first = λ n has v. elim (Contains-push_cases front m n has) [ inl i ↦ b.first n i v | inr e ↦ (let l = above c b.there in omega arith) ];
   }
 
   none_kept : ((n k : ℕ) → Contains front n → Goes n k → ⊥) → ((l : ℕ) → Goes m l → ⊥) → (n k : ℕ) → Contains (front ++ m ∷ []) n → Goes n k → ⊥
   none_kept before none n k has v = elim (Contains-push_cases front m n has) [ inl i ↦ before n k i v | inr e ↦ none k (subst (λ (x : ℕ). Goes x k) (sym e) v) ]
 
-  -- it is the first that goes there
-  best_first : (k : ℕ) → ((n l : ℕ) → Contains front n → Goes n l → ⊥) → Goes m k → IsBestOf r p value (front ++ m ∷ []) m k
-  best_first k before goes = record {
+  -- the move is chosen where it leads nearer than all before it
+  best_new : (k : ℕ) → ((n l : ℕ) → Contains front n → Goes n l → IsNearer value k l) → Goes m k → IsBestOf r p value (front ++ m ∷ []) m k
+  best_new k before goes = record {
     there = Contains-push front m;
     reaches = goes;
     no_better = λ n l has v. elim (Contains-push_cases front m n has) [
-      | inl i ↦ absurd (before n l i v)
-      | inr e ↦ subst (IsNoFarther value k)
-          (goes_once n k l e goes v) (same_far value k)
-    ];
-    first = λ n has v. elim (Contains-push_cases front m n has) [ inl i ↦ absurd (before n k i v) | inr e ↦ omega arith ];
-  }
-
-  -- it is better
-  best_new : (c old k : ℕ) → IsBestOf r p value front c old → Goes m k → IsNearer value k old → IsBestOf r p value (front ++ m ∷ []) m k
-  best_new c old k b goes near = record {
-    there = Contains-push front m;
-    reaches = goes;
-    no_better = λ n l has v. elim (Contains-push_cases front m n has) [
-      | inl i ↦ nearer_all value k old l near (b.no_better n l i v)
+      | inl i ↦ nearer_no_farther value k l (before n l i v)
       | inr e ↦ subst (IsNoFarther value k) (goes_once n k l e goes v) (same_far value k)
     ];
-    first = λ n has v. elim (Contains-push_cases front m n has) [ inl i ↦ absurd (nearer_apart value k old near (b.no_better n k i v)) | inr e ↦ omega arith ];
-  }
-
-  -- it is not
-  best_old : (c old k : ℕ) → IsBestOf r p value front c old → Goes m k → (IsNearer value k old → ⊥) → IsBestOf r p value (front ++ m ∷ []) c old
-  best_old c old k b goes far = record {
-    there = Contains-append_left front (m ∷ []) c b.there;
-    reaches = b.reaches;
-    no_better = λ n l has v. elim (Contains-push_cases front m n has) [
-      | inl i ↦ b.no_better n l i v
-      | inr e ↦ subst (IsNoFarther value old) (goes_once n k l e goes v) (farther_unless value k old far)
-    ];
-    first = λ n has v. elim (Contains-push_cases front m n has) [ inl i ↦ b.first n i v | inr e ↦ (let l = above c b.there in omega arith) ];
+    first = λ n has v. elim (Contains-push_cases front m n has) [ inl i ↦ absurd (never_nearer value k (before n k i v)) | inr e ↦ omega arith ];
   }
 
   chosen : (best : Option Choice) (c : Choice) (k : ℕ) → IsChoice r p value front best → Goes m k → Chooses value best m k c → IsBestOf r p value
       (front ++ m ∷ []) c.number c.remoteness
-  chosen None c k before goes e = subst (λ (x : Choice). IsBestOf r p value (front ++ m ∷ []) x.number x.remoteness) (sym e) (best_first k before goes)
+  chosen None c k before goes e = subst (λ (x : Choice). IsBestOf r p value (front ++ m ∷ []) x.number x.remoteness) (sym e) (best_new k (λ n l i v. absurd (before n l i v)) goes)
   chosen (Some old) c k b goes (inl (near, e)) = subst (λ (x : Choice). IsBestOf r p value (front ++ m ∷ []) x.number x.remoteness) (sym e)
-      (best_new old.number old.remoteness k b goes near)
+      (best_new k (λ n l i v. nearer_all value k old.remoteness l near (b.no_better n l i v)) goes)
   chosen (Some old) c k b goes (inr (far, e)) = subst (λ (x : Choice). IsBestOf r p value (front ++ m ∷ []) x.number x.remoteness) (sym e)
-      (best_old old.number old.remoteness k b goes far)
+      (best_stays old.number old.remoteness b (λ l v. subst (IsNoFarther value old.remoteness) (goes_once m k l refl goes v)
+      (farther_unless value k old.remoteness far)))
 
   -- the choice after the move
   pub considered : (best new : Option Choice) → IsChoice r p value front best → Considers r p value m best new → IsChoice r p value (front ++ m ∷ []) new
   considered best None b (e, none) = none_kept (subst (IsChoice r p value front) e b) none
-  considered best (Some c) b (inl (e, none)) = best_kept c.number c.remoteness (subst (IsChoice r p value front) e b) none
+  considered best (Some c) b (inl (e, none)) = best_stays c.number c.remoteness (subst (IsChoice r p value front) e b) (λ l v. absurd (none l v))
   considered best (Some c) b (inr (k, goes, chooses)) = chosen best c k b goes chooses
 
 -- a move that goes elsewhere changes nothing

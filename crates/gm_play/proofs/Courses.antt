@@ -1,219 +1,188 @@
--- What the computer's best moves guarantee in a dialogue, for any input.
-use Rattle.gm_play.proofs.Lower.{◌≡◌, ◌≢◌, ℕ, ◌+◌, ◌<◌, ◌≤◌, Bool, true, false, List, [], ◌∷◌, ◌++◌, length, codes, Option, None, Some, IfSome, refl, arith}
-use Rattle.gm_play.proofs.Lower.{◌==◌, if◌then◌else◌, Contains, find, bytes_eq, Position, End, Lose, Win, Rules, IsGame, HasValue, Side, You, Computer}
-use Rattle.gm_play.proofs.Lower.{IsBestMove, IsWonIn, IsEven, IsReached, Advice, IsKnown, Said, Course, before, after_move, ends, place, asks_or_ends}
-use Rattle.gm_play.proofs.Lower.{persons_turn, moves_or_ends, computers_turn, turn, without_return, answer_to, reply, unmoved, course_with, course_after}
-use Rattle.gm_play.proofs.Lower.{course, Question}
+-- What holds of a dialogue for any input: its last line is that of its end, and what the computer's best moves guarantee.
+use Rattle.gm_play.proofs.Lower.{◌≡◌, ◌≢◌, ℕ, ◌+◌, ◌≤◌, Bool, true, false, List, [], ◌∷◌, ◌++◌, length, codes, Option, None, Some, IfSome, refl, sym, subst, arith}
+use Rattle.gm_play.proofs.Lower.{append_assoc, append-nil, inl, inr, ◌==◌, if◌then◌else◌, Contains, find, bytes_eq, Position, End, Rules, IsGame, text_of, Side}
+use Rattle.gm_play.proofs.Lower.{You, Computer, IsBestMove, IsWonIn, IsEven, IsReached, Advice, IsKnown, Said, Course, before, after_move, ends, asks, game_over}
+use Rattle.gm_play.proofs.Lower.{place, asks_or_ends, persons_turn, moves_or_ends, computers_turn, turn, without_return, answer_to, reply, closing, dialogue}
+use Rattle.gm_play.proofs.Lower.{text_after, unmoved, course_with, course_after, course, First, Again, Question}
 use Rattle.gm_game.specs.declared.position.End.TheVariants.{Lose as EndLose, Tie as EndTie, Win as EndWin}
-use Rattle.gm_play.specs.Dialogue.{course_from}
+use Rattle.gm_play.specs.Endings.{winner, over}
+use Rattle.gm_play.specs.Dialogue.{talk, course_from}
 use Rattle.gm_play.specs.Courses.{IsWonCourse, IsUnlostCourse}
+use Rattle.gm_play.specs.LastLines.{EndsWon, EndsUnlost}
+use Rattle.gm_play.proofs.Ending.{EndsLine, IsClosed, closed_after, ends_after, won_line, unlost_line}
 use Rattle.gm_play.proofs.Keeping.{reply_won, best_won, won_at, IsSafe, even_safe, reply_safe, best_safe, not_lost}
 use Rattle.gm_play.proofs.Reaching.{reached_reached, played_reached}
 use Rattle.gm_play.proofs.Reading.{find_is}
+
+-- what holds of the positions of a game, up to a bound, and of its end, however the person replies to the best moves
+record IsKept (r : Rules) (X : Type 0) (At : X → Position → Side → Type 0) (Few : X → ℕ → Type 0) (Ends : Option Side → Type 0) : Type 0 where
+  pub none : (x : X) → Few x 0
+  pub over : (x : X) (p : Position) (s : Side) (e : End) → At x p s → r.primitive p ≡ Some e → Ends (winner s e)
+  pub replied : (x : X) (p : Position) (m : ℕ) → r.is_legal p ≡ true → Contains (r.moves p) m → At x p You
+      → (y : X) × At y (r.play p m) Computer × ((j : ℕ) → Few y j → Few x (1 + j))
+  pub best : (x : X) (p : Position) (m : ℕ) → IsBestMove r p (Some m) → At x p Computer → (y : X) × At y (r.play p m) You × ((j : ℕ) → Few y j → Few x (1 + j))
 
 module _ (r : Rules) (g : IsGame r) (shown : Position → List ℕ) (move_shown : Position → ℕ → List ℕ) (k : Advice) (seen : Question → Position → List ℕ)
     (tier : ℕ) (known : IsKnown r tier k) where
   step : (p : Position) (m : ℕ) → IsReached r tier p → Contains (r.moves p) m → IsReached r tier (r.play p m)
   step p m h has = reached_reached r tier p (r.play p m) h (played_reached r g p m h.0 has)
 
-  -- a part of a dialogue preserves a win within n moves
-  record IsWinning (n : ℕ) (said : Said) : Type 0 where
-    pub left : ℕ
-    pub few : said.moves + left ≤ n
-    pub asked : IfSome said.asked (λ q. IsReached r tier q × HasValue r q Lose left)
-    pub ending : IfSome said.ending (λ w. w ≡ Some Computer)
+  place_ends : (p : Position) → EndsLine (place r shown move_shown k seen p)
+  place_ends p = (shown p ++ codes " " ++ text_of (k.value p), refl)
 
-  wins_after_text : (t : List ℕ) (n : ℕ) (said : Said) → IsWinning n said → IsWinning n (before t said)
-  wins_after_text t n said w = record { left = w.left; few = w.few; asked = w.asked; ending = w.ending }
+  abbrev Talk : Position → List ℕ → List ℕ → List ℕ
+  Talk = talk r shown move_shown k seen (closing r shown move_shown k seen)
 
-  wins_after_move : (j n : ℕ) (said : Said) → j < n → IsWinning j said → IsWinning n (after_move said)
-  wins_after_move j n said l w = record { left = w.left; few = omega (arith, l, w.few); asked = w.asked; ending = w.ending }
+  module _ (X : Type 0) (At : X → Position → Side → Type 0) (Few : X → ℕ → Type 0) (Ends : Option Side → Type 0) (kept : IsKept r X At Few Ends) where
+    -- the course of a game, and the text of its dialogue
+    abbrev IsFine : X → Course → List ℕ → Type 0
+    IsFine x c t = Few x c.moves × IfSome c.ending Ends × IsClosed c.ending t
 
-  person_case : (p : Position) (n : ℕ) (o : Option End) → IsReached r tier p → HasValue r p Lose n → r.primitive p ≡ o → IsWinning n
-      (asks_or_ends r shown move_shown k seen p o)
-  person_case p n None l h e = record { left = n; few = omega arith; asked = (l, h); ending = tt }
-  person_case p n (Some EndLose) l h e = record { left = 0; few = omega arith; asked = tt; ending = refl }
-  person_case p n (Some EndTie) l h e = absurd (let w = won_at r g p You n (Some EndTie) h e (λ x. absurd (cc)) in cc)
-  person_case p n (Some EndWin) l h e = absurd (let w = won_at r g p You n (Some EndWin) h e (λ x. absurd (cc)) in cc)
+    abbrev IsAsked : X → Position → Type 0
+    IsAsked x q = IsReached r tier q × At x q You
 
-  person_wins : (p : Position) (n : ℕ) → IsReached r tier p → HasValue r p Lose n → IsWinning n (persons_turn r shown move_shown k seen p)
-  person_wins p n l h = wins_after_text (place r shown move_shown k seen p) n (asks_or_ends r shown move_shown k seen p (r.primitive p))
-      (person_case p n (r.primitive p) l h refl)
+    -- if what follows the question of a part of a dialogue is fine, then so is the whole
+    abbrev IsOpen : X → Said → Type 0
+    IsOpen x said = (f : Position → List ℕ) (h : Position → Course) → ((y : X) (q : Position) → IsAsked y q → IsFine y (h q) (f q))
+        → IsFine x (course_after said h) (said.text ++ text_after f said.asked)
 
-  computer_case : (p : Position) (n : ℕ) (o : Option End) (b : Option ℕ) → IsReached r tier p → HasValue r p Win n → r.primitive p ≡ o → IsBestMove r p b →
-      IsWinning n (moves_or_ends r shown move_shown k seen p o b)
-  computer_case p n (Some EndWin) b l h e best = record { left = 0; few = omega arith; asked = tt; ending = refl }
-  computer_case p n (Some EndTie) b l h e best = absurd (let w = won_at r g p Computer n (Some EndTie) h e (λ x. absurd (cc)) in cc)
-  computer_case p n (Some EndLose) b l h e best = absurd (let w = won_at r g p Computer n (Some EndLose) h e (λ x. absurd (cc)) in cc)
-  computer_case p n None None l h e best = absurd (best e)
-  computer_case p n None (Some m) l h e best =
-      let (j, few, v) = best_won r g p m n best h in
-      let line = codes "computer" ++ codes ": " ++ move_shown p m ++ codes "\n" in
-      let next = persons_turn r shown move_shown k seen (r.play p m) in
-      wins_after_move j n (before line next) few (wins_after_text line j next (person_wins (r.play p m) j (step p m l best.1.best.there) v))
+    open_before : (x : X) (pre : List ℕ) (said : Said) → EndsLine pre → IsOpen x said → IsOpen x (before pre said)
+    open_before x pre said l is f h next =
+        let t = is f h next in (
+          t.0,
+          t.1,
+          subst (IsClosed (course_after said h).ending) (sym (append_assoc pre said.text (text_after f said.asked)))
+              (closed_after pre (said.text ++ text_after f said.asked) (course_after said h).ending l t.2),
+        )
 
-  computer_wins : (p : Position) (n : ℕ) → IsReached r tier p → HasValue r p Win n → IsWinning n (computers_turn r shown move_shown k seen p)
-  computer_wins p n l h = wins_after_text (place r shown move_shown k seen p) n (moves_or_ends r shown move_shown k seen p (r.primitive p) (k.best p))
-      (computer_case p n (r.primitive p) (k.best p) l h refl (known p l).1)
+    moved : (x y : X) (said : Said) (o : Option Position) (h : Position → Course) (t : List ℕ) → ((j : ℕ) → Few y j → Few x (1 + j))
+        → IsFine y (course_with said o h) t → IsFine x (course_with (after_move said) o h) t
+    moved x y said None h t more is = (more said.moves is.0, is.1, is.2)
+    moved x y said (Some q) h t more is =
+        let e : 1 + (said.moves + (h q).moves) ≡ (1 + said.moves) + (h q).moves = omega arith in
+        (subst (Few x) e (more (said.moves + (h q).moves) is.0), is.1, is.2)
 
-  reply_case : (p : Position) (n : ℕ) (line : List ℕ) (c : Bool) (o : Option ℕ) → IsReached r tier p → HasValue r p Lose n → find
-      (λ m. bytes_eq (move_shown p m) (without_return line)) (r.moves p) ≡ o
-      → IsWinning n (if c then ends (codes "bye\n") else answer_to r shown move_shown k seen p o)
-  reply_case p n line true o l h e = record { left = 0; few = omega arith; asked = tt; ending = tt }
-  reply_case p n line false None l h e = record { left = n; few = omega arith; asked = (l, h); ending = tt }
-  reply_case p n line false (Some m) l h e =
-      let has = (find_is (λ x. bytes_eq (move_shown p x) (without_return line)) (r.moves p) m e).0 in
-      let (j, few, v) = reply_won r g p m n l.0 has h in
-      wins_after_move j n (computers_turn r shown move_shown k seen (r.play p m)) few (computer_wins (r.play p m) j (step p m l has) v)
+    open_move : (x y : X) (said : Said) → ((j : ℕ) → Few y j → Few x (1 + j)) → IsOpen y said → IsOpen x (after_move said)
+    open_move x y said more is f h next = moved x y said said.asked h (said.text ++ text_after f said.asked) more (is f h next)
 
-  reply_wins : (p : Position) (n : ℕ) (line : List ℕ) → IsReached r tier p → HasValue r p Lose n → IsWinning n (reply r shown move_shown k seen p line)
-  reply_wins p n line l h =
-      let text = without_return line in
-      reply_case p n line (bytes_eq text (codes "quit")) (find (λ m. bytes_eq (move_shown p m) text) (r.moves p)) l h refl
+    open_asked : (x : X) (p : Position) (t : List ℕ) → EndsLine t → IsAsked x p → IsOpen x (asks t p)
+    open_asked x p t l a f h next =
+        let n = next x p a in
+        let e : (h p).moves ≡ 0 + (h p).moves = omega arith in
+        (subst (Few x) e n.0, n.1, closed_after t (f p) (h p).ending l n.2)
 
-  -- and so does the course of the game
-  after_wins : (said : Said) (o : Option Position) (f : Position → Course) (n left : ℕ) → said.moves + left ≤ n → IfSome o
-      (λ q. IsReached r tier q × HasValue r q Lose left) → IfSome said.ending (λ w. w ≡ Some Computer)
-      → ((q : Position) → IsReached r tier q → HasValue r q Lose left → IsWonCourse left (f q)) → IsWonCourse n (course_with said o f)
-  after_wins said None f n left few a e h = (omega (arith, few), e)
-  after_wins said (Some q) f n left few a e h = (let t = h q a.0 a.1 in (omega (arith, few, t.0), t.1))
+    open_over : (x : X) (p : Position) (s : Side) (e : End) → At x p s → r.primitive p ≡ Some e → IsOpen x (game_over s e)
+    open_over x p s e a o f h next = (kept.none x, kept.over x p s e a o, inl (append-nil (over s e)))
 
-  end_wins : (p : Position) (line : List ℕ) (n : ℕ) (c : Bool) → IsReached r tier p → HasValue r p Lose n → IsWonCourse n
-      (if c then unmoved else course_after (reply r shown move_shown k seen p line) (λ q. unmoved))
-  end_wins p line n true l h = (omega arith, tt)
-  end_wins p line n false l h =
-      let said = reply r shown move_shown k seen p line in
-      let w = reply_wins p n line l h in
-      after_wins said said.asked (λ q. unmoved) n w.left w.few w.asked w.ending (λ q _ _. (omega arith, tt))
+    asks_line : (q : Question) (p : Position) → EndsLine (seen q p ++ codes "your move?\n")
+    asks_line q p = ends_after (seen q p) (codes "your move?\n") (codes "your move?", refl)
 
-  byte_wins : (bs line : List ℕ) (p : Position) (n b : ℕ) (c : Bool)
-      → ((l : List ℕ) (q : Position) (j : ℕ) → IsReached r tier q → HasValue r q Lose j → IsWonCourse j (course_from r shown move_shown k seen q l bs))
-      → IsReached r tier p → HasValue r p Lose n
-      → IsWonCourse n (if c then course_after (reply r shown move_shown k seen p line) (λ q. course_from r shown move_shown k seen q [] bs) else course_from
-      r shown move_shown k seen p (line ++ b ∷ []) bs)
-  byte_wins bs line p n b true rest l h =
-      let said = reply r shown move_shown k seen p line in
-      let w = reply_wins p n line l h in
-      after_wins said said.asked (λ q. course_from r shown move_shown k seen q [] bs) n w.left w.few w.asked w.ending (λ q a v. rest [] q w.left a v)
-  byte_wins bs line p n b false rest l h = rest (line ++ b ∷ []) p n l h
+    person_case : (x : X) (p : Position) (o : Option End) → r.primitive p ≡ o → IsAsked x p → IsOpen x (asks_or_ends r shown move_shown k seen p o)
+    person_case x p None e a = open_asked x p (seen First p ++ codes "your move?\n") (asks_line First p) a
+    person_case x p (Some end) e a = open_over x p You end a.1 e
 
-  from_wins : (bytes line : List ℕ) (p : Position) (n : ℕ) → IsReached r tier p → HasValue r p Lose n → IsWonCourse n
-      (course_from r shown move_shown k seen p line bytes)
-  unfolding course_from
-  from_wins [] line p n l h = end_wins p line n (length line == 0) l h
-  from_wins (b ∷ bs) line p n l h = byte_wins bs line p n b (b == 10) (λ m q j. from_wins bs m q j) l h
+    person_open : (x : X) (p : Position) → IsAsked x p → IsOpen x (persons_turn r shown move_shown k seen p)
+    person_open x p a = open_before x (place r shown move_shown k seen p) (asks_or_ends r shown move_shown k seen p (r.primitive p)) (place_ends p)
+        (person_case x p (r.primitive p) refl a)
 
-  turn_wins : (p : Position) (s : Side) (n : ℕ) → IsReached r tier p → IsWonIn r p s n → IsWinning n (turn r shown move_shown k seen p s)
-  turn_wins p You n l h = person_wins p n l h
-  turn_wins p Computer n l h = computer_wins p n l h
+    computer_case : (x : X) (p : Position) (o : Option End) (b : Option ℕ) → r.primitive p ≡ o → IsBestMove r p b → IsReached r tier p → At x p Computer
+        → IsOpen x (moves_or_ends r shown move_shown k seen p o b)
+    computer_case x p (Some end) b e best l a = open_over x p Computer end a e
+    computer_case x p None None e best l a = absurd (best e)
+    computer_case x p None (Some m) e best l a =
+        let (y, at, more) = kept.best x p m best a in
+        let line = codes "computer" ++ codes ": " ++ move_shown p m ++ codes "\n" in
+        let next = persons_turn r shown move_shown k seen (r.play p m) in
+        open_move x y (before line next) more (open_before y line next (codes "computer" ++ codes ": " ++ move_shown p m, refl)
+        (person_open y (r.play p m) (step p m l best.1.best.there, at)))
 
-  -- from a win of the computer's side
-  pub course_won : (start : Position) (first : Side) (n : ℕ) (bytes : List ℕ) → IsReached r tier start → IsWonIn r start first n → IsWonCourse n
-      (course r shown move_shown k seen start first bytes)
-  course_won start first n bytes l h =
-      let said = turn r shown move_shown k seen start first in
-      let w = turn_wins start first n l h in
-      after_wins said said.asked (λ q. course_from r shown move_shown k seen q [] bytes) n w.left w.few w.asked w.ending
-      (λ q a v. from_wins bytes [] q w.left a v)
+    computer_open : (x : X) (p : Position) → IsReached r tier p → At x p Computer → IsOpen x (computers_turn r shown move_shown k seen p)
+    computer_open x p l a =
+        open_before x (place r shown move_shown k seen p) (moves_or_ends r shown move_shown k seen p (r.primitive p) (k.best p)) (place_ends p)
+        (computer_case x p (r.primitive p) (k.best p) refl (known p l).1 l a)
 
-  -- a part of a dialogue does not let the computer's side lose
-  record IsKeeping (said : Said) : Type 0 where
-    pub asked : IfSome said.asked (λ q. IsReached r tier q × IsSafe r g q You)
-    pub ending : IfSome said.ending (λ w. w ≢ Some You)
+    reply_case : (x : X) (p : Position) (line : List ℕ) (c : Bool) (o : Option ℕ)
+        → find (λ m. bytes_eq (move_shown p m) (without_return line)) (r.moves p) ≡ o → IsAsked x p
+        → IsOpen x (if c then ends (codes "bye\n") else answer_to r shown move_shown k seen p o)
+    reply_case x p line true o e a = λ f h next. (kept.none x, tt, inl (inl (append-nil (codes "bye\n"))))
+    reply_case x p line false None e a =
+        open_asked x p (codes "not a move\n" ++ seen Again p ++ codes "your move?\n")
+        (ends_after (codes "not a move\n") (seen Again p ++ codes "your move?\n") (asks_line Again p)) a
+    reply_case x p line false (Some m) e a =
+        let has = (find_is (λ n. bytes_eq (move_shown p n) (without_return line)) (r.moves p) m e).0 in
+        let (y, at, more) = kept.replied x p m a.0.0 has a.1 in
+        open_move x y (computers_turn r shown move_shown k seen (r.play p m)) more (computer_open y (r.play p m) (step p m a.0 has) at)
 
-  keeps_after_text : (t : List ℕ) (said : Said) → IsKeeping said → IsKeeping (before t said)
-  keeps_after_text t said w = record { asked = w.asked; ending = w.ending }
+    reply_open : (x : X) (p : Position) (line : List ℕ) → IsAsked x p → IsOpen x (reply r shown move_shown k seen p line)
+    reply_open x p line a =
+        let text = without_return line in
+        reply_case x p line (bytes_eq text (codes "quit")) (find (λ m. bytes_eq (move_shown p m) text) (r.moves p)) refl a
 
-  keeps_after_move : (said : Said) → IsKeeping said → IsKeeping (after_move said)
-  keeps_after_move said w = record { asked = w.asked; ending = w.ending }
+    -- the input ends, or goes on
+    end_fine : (x : X) (p : Position) (line : List ℕ) (c : Bool) → IsAsked x p
+        → IsFine x (if c then unmoved else course_after (reply r shown move_shown k seen p line) (λ q. unmoved))
+        (if c then codes "input ended\n" else (reply r shown move_shown k seen p line).text ++ text_after (λ q. codes "input ended\n")
+        (reply r shown move_shown k seen p line).asked)
+    end_fine x p line true a = (kept.none x, tt, inr (inl refl))
+    end_fine x p line false a = reply_open x p line a (λ q. codes "input ended\n") (λ q. unmoved) (λ y q b. (kept.none y, tt, inr (inl refl)))
 
-  nobody : None ≡ Some You → ⊥
-  nobody e = absurd (cc)
+    byte_fine : (bs line : List ℕ) (x : X) (p : Position) (b : ℕ) (c : Bool)
+        → ((m : List ℕ) (y : X) (q : Position) → IsAsked y q → IsFine y (course_from r shown move_shown k seen q m bs) (Talk q m bs)) → IsAsked x p
+        → IsFine x (if c then course_after (reply r shown move_shown k seen p line) (λ q. course_from r shown move_shown k seen q [] bs) else course_from r
+        shown move_shown k seen p (line ++ b ∷ []) bs)
+        (if c then (reply r shown move_shown k seen p line).text ++ text_after (λ q. Talk q [] bs) (reply r shown move_shown k seen p line).asked else Talk p
+        (line ++ b ∷ []) bs)
+    byte_fine bs line x p b true rest a = reply_open x p line a (λ q. Talk q [] bs) (λ q. course_from r shown move_shown k seen q [] bs) (rest [])
+    byte_fine bs line x p b false rest a = rest (line ++ b ∷ []) x p a
 
-  not_you : Some Computer ≡ Some You → ⊥
-  not_you e = absurd (cc)
+    from_fine : (bytes line : List ℕ) (x : X) (p : Position) → IsAsked x p → IsFine x (course_from r shown move_shown k seen p line bytes) (Talk p line bytes)
+    unfolding course_from talk
+    from_fine [] line x p a = end_fine x p line (length line == 0) a
+    from_fine (b ∷ bs) line x p a = byte_fine bs line x p b (b == 10) (λ m y q. from_fine bs m y q) a
 
-  person_keeps_case : (p : Position) (o : Option End) → IsReached r tier p → IsSafe r g p You → r.primitive p ≡ o → IsKeeping
-      (asks_or_ends r shown move_shown k seen p o)
-  person_keeps_case p None l h e = record { asked = (l, h); ending = tt }
-  person_keeps_case p (Some EndLose) l h e = record { asked = tt; ending = not_you }
-  person_keeps_case p (Some EndTie) l h e = record { asked = tt; ending = nobody }
-  person_keeps_case p (Some EndWin) l h e = record { asked = tt; ending = λ w. not_lost r g p You h e }
+    turn_open : (x : X) (p : Position) (s : Side) → IsReached r tier p → At x p s → IsOpen x (turn r shown move_shown k seen p s)
+    turn_open x p You l a = person_open x p (l, a)
+    turn_open x p Computer l a = computer_open x p l a
 
-  person_keeps : (p : Position) → IsReached r tier p → IsSafe r g p You → IsKeeping (persons_turn r shown move_shown k seen p)
-  person_keeps p l h = keeps_after_text (place r shown move_shown k seen p) (asks_or_ends r shown move_shown k seen p (r.primitive p))
-      (person_keeps_case p (r.primitive p) l h refl)
+    fine : (x : X) (start : Position) (first : Side) (bytes : List ℕ) → IsReached r tier start → At x start first
+        → IsFine x (course r shown move_shown k seen start first bytes) (dialogue r shown move_shown k seen start first bytes)
+    fine x start first bytes l a = turn_open x start first l a (λ q. Talk q [] bytes) (λ q. course_from r shown move_shown k seen q [] bytes) (from_fine bytes [])
 
-  computer_keeps_case : (p : Position) (o : Option End) (b : Option ℕ) → IsReached r tier p → IsSafe r g p Computer → r.primitive p ≡ o → IsBestMove r p b →
-      IsKeeping (moves_or_ends r shown move_shown k seen p o b)
-  computer_keeps_case p (Some EndWin) b l h e best = record { asked = tt; ending = not_you }
-  computer_keeps_case p (Some EndTie) b l h e best = record { asked = tt; ending = nobody }
-  computer_keeps_case p (Some EndLose) b l h e best = record { asked = tt; ending = λ w. not_lost r g p Computer h e }
-  computer_keeps_case p None None l h e best = absurd (best e)
-  computer_keeps_case p None (Some m) l h e best =
-      let b = best.1 in
-      let safe = best_safe r g p m b.value b.own b.remoteness b.is_value b.best.reaches h in
-      let line = codes "computer" ++ codes ": " ++ move_shown p m ++ codes "\n" in
-      let next = persons_turn r shown move_shown k seen (r.play p m) in
-      keeps_after_move (before line next) (keeps_after_text line next (person_keeps (r.play p m) (step p m l b.best.there) safe))
+  -- a win of the computer's side within n moves
+  won_over : (n : ℕ) (p : Position) (s : Side) (e : End) → IsWonIn r p s n → r.primitive p ≡ Some e → winner s e ≡ Some Computer
+  won_over n p You EndLose a o = refl
+  won_over n p Computer EndWin a o = refl
+  won_over n p You EndTie a o = absurd (let w = won_at r g p You n (Some EndTie) a o (λ x. absurd (cc)) in cc)
+  won_over n p You EndWin a o = absurd (let w = won_at r g p You n (Some EndWin) a o (λ x. absurd (cc)) in cc)
+  won_over n p Computer EndTie a o = absurd (let w = won_at r g p Computer n (Some EndTie) a o (λ x. absurd (cc)) in cc)
+  won_over n p Computer EndLose a o = absurd (let w = won_at r g p Computer n (Some EndLose) a o (λ x. absurd (cc)) in cc)
 
-  computer_keeps : (p : Position) → IsReached r tier p → IsSafe r g p Computer → IsKeeping (computers_turn r shown move_shown k seen p)
-  computer_keeps p l h = keeps_after_text (place r shown move_shown k seen p) (moves_or_ends r shown move_shown k seen p (r.primitive p) (k.best p))
-      (computer_keeps_case p (r.primitive p) (k.best p) l h refl (known p l).1)
+  pub course_won : (start : Position) (first : Side) (n : ℕ) (bytes : List ℕ) → IsReached r tier start → IsWonIn r start first n
+      → IsWonCourse n (course r shown move_shown k seen start first bytes) × EndsWon (dialogue r shown move_shown k seen start first bytes)
+  course_won start first n bytes l a =
+      let t = fine ℕ (λ n p s. IsWonIn r p s n) (λ n j. j ≤ n) (λ w. w ≡ Some Computer) record {
+        none = λ n. omega arith;
+        over = won_over;
+        replied = λ n p m legal has h. (let (j, few, v) = reply_won r g p m n legal has h in (j, v, λ i low. omega arith));
+        best = λ n p m b h. (let (j, few, v) = best_won r g p m n b h in (j, v, λ i low. omega arith));
+      } n start first bytes l a in
+      ((t.0, t.1), won_line (course r shown move_shown k seen start first bytes).ending (dialogue r shown move_shown k seen start first bytes) t.1 t.2)
 
-  reply_keeps_case : (p : Position) (line : List ℕ) (c : Bool) (o : Option ℕ) → IsReached r tier p → IsSafe r g p You → find
-      (λ m. bytes_eq (move_shown p m) (without_return line)) (r.moves p) ≡ o
-      → IsKeeping (if c then ends (codes "bye\n") else answer_to r shown move_shown k seen p o)
-  reply_keeps_case p line true o l h e = record { asked = tt; ending = tt }
-  reply_keeps_case p line false None l h e = record { asked = (l, h); ending = tt }
-  reply_keeps_case p line false (Some m) l h e =
-      let has = (find_is (λ x. bytes_eq (move_shown p x) (without_return line)) (r.moves p) m e).0 in
-      keeps_after_move (computers_turn r shown move_shown k seen (r.play p m)) (computer_keeps (r.play p m) (step p m l has) (reply_safe r g p m l.0 has h))
+  -- neither side wins: the computer's side does not lose
+  safe_over : (x : Unit {0}) (p : Position) (s : Side) (e : End) → IsSafe r g p s → r.primitive p ≡ Some e → winner s e ≢ Some You
+  safe_over x p s EndTie a o = λ w. absurd (cc)
+  safe_over x p You EndLose a o = λ w. absurd (cc)
+  safe_over x p You EndWin a o = λ w. not_lost r g p You a o
+  safe_over x p Computer EndLose a o = λ w. not_lost r g p Computer a o
+  safe_over x p Computer EndWin a o = λ w. absurd (cc)
 
-  reply_keeps : (p : Position) (line : List ℕ) → IsReached r tier p → IsSafe r g p You → IsKeeping (reply r shown move_shown k seen p line)
-  reply_keeps p line l h =
-      let text = without_return line in
-      reply_keeps_case p line (bytes_eq text (codes "quit")) (find (λ m. bytes_eq (move_shown p m) text) (r.moves p)) l h refl
-
-  after_keeps : (said : Said) (o : Option Position) (f : Position → Course) → IfSome o (λ q. IsReached r tier q × IsSafe r g q You) → IfSome said.ending
-      (λ w. w ≢ Some You)
-      → ((q : Position) → IsReached r tier q → IsSafe r g q You → IsUnlostCourse (f q)) → IsUnlostCourse (course_with said o f)
-  after_keeps said None f a e h = e
-  after_keeps said (Some q) f a e h = h q a.0 a.1
-
-  end_keeps : (p : Position) (line : List ℕ) (c : Bool) → IsReached r tier p → IsSafe r g p You → IsUnlostCourse
-      (if c then unmoved else course_after (reply r shown move_shown k seen p line) (λ q. unmoved))
-  end_keeps p line true l h = tt
-  end_keeps p line false l h =
-      let said = reply r shown move_shown k seen p line in
-      let w = reply_keeps p line l h in
-      after_keeps said said.asked (λ q. unmoved) w.asked w.ending (λ q _ _. tt)
-
-  byte_keeps : (bs line : List ℕ) (p : Position) (b : ℕ) (c : Bool)
-      → ((l : List ℕ) (q : Position) → IsReached r tier q → IsSafe r g q You → IsUnlostCourse (course_from r shown move_shown k seen q l bs))
-      → IsReached r tier p → IsSafe r g p You
-      → IsUnlostCourse (if c then course_after (reply r shown move_shown k seen p line) (λ q. course_from r shown move_shown k seen q [] bs) else
-      course_from r shown move_shown k seen p (line ++ b ∷ []) bs)
-  byte_keeps bs line p b true rest l h =
-      let said = reply r shown move_shown k seen p line in
-      let w = reply_keeps p line l h in
-      after_keeps said said.asked (λ q. course_from r shown move_shown k seen q [] bs) w.asked w.ending (λ q a v. rest [] q a v)
-  byte_keeps bs line p b false rest l h = rest (line ++ b ∷ []) p l h
-
-  from_keeps : (bytes line : List ℕ) (p : Position) → IsReached r tier p → IsSafe r g p You → IsUnlostCourse
-      (course_from r shown move_shown k seen p line bytes)
-  unfolding course_from
-  from_keeps [] line p l h = end_keeps p line (length line == 0) l h
-  from_keeps (b ∷ bs) line p l h = byte_keeps bs line p b (b == 10) (λ m q. from_keeps bs m q) l h
-
-  turn_keeps : (p : Position) (s : Side) → IsReached r tier p → IsSafe r g p s → IsKeeping (turn r shown move_shown k seen p s)
-  turn_keeps p You l h = person_keeps p l h
-  turn_keeps p Computer l h = computer_keeps p l h
-
-  -- from a tie or a draw
-  pub course_even : (start : Position) (first : Side) (bytes : List ℕ) → IsReached r tier start → IsEven r start → IsUnlostCourse
-      (course r shown move_shown k seen start first bytes)
-  course_even start first bytes l h =
-      let said = turn r shown move_shown k seen start first in
-      let w = turn_keeps start first l (even_safe r g start first h) in
-      after_keeps said said.asked (λ q. course_from r shown move_shown k seen q [] bytes) w.asked w.ending (λ q a v. from_keeps bytes [] q a v)
+  pub course_even : (start : Position) (first : Side) (bytes : List ℕ) → IsReached r tier start → IsEven r start
+      → IsUnlostCourse (course r shown move_shown k seen start first bytes) × EndsUnlost (dialogue r shown move_shown k seen start first bytes)
+  course_even start first bytes l even =
+      let t = fine (Unit {0}) (λ x. IsSafe r g) (λ x j. Unit {0}) (λ w. w ≢ Some You) record {
+        none = λ x. tt;
+        over = safe_over;
+        replied = λ x p m legal has h. (tt, reply_safe r g p m legal has h, λ j few. tt);
+        best = λ x p m b h. (tt, best_safe r g p m b.1.value b.1.own b.1.remoteness b.1.is_value b.1.best.reaches h, λ j few. tt);
+      } tt start first bytes l (even_safe r g start first even) in
+      (t.1, unlost_line (course r shown move_shown k seen start first bytes).ending (dialogue r shown move_shown k seen start first bytes) t.1 t.2)

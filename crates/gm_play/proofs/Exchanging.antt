@@ -1,5 +1,5 @@
 -- Moves with their best answers.
-use Rattle.gm_play.proofs.Lower.{◌≡◌, ℕ, ◌+◌, ◌<◌, ◌≤◌, true, List, [], ◌∷◌, ◌++◌, length, take, get_or, None, Some, refl, sym, ap, ap₂, subst, ◌∙◌, arith}
+use Rattle.gm_play.proofs.Lower.{◌≡◌, ℕ, ◌+◌, ◌<◌, ◌≤◌, true, List, [], ◌∷◌, ◌++◌, length, take, get_or, Some, refl, sym, ap, ap₂, subst, ◌∙◌, arith}
 use Rattle.gm_play.proofs.Lower.{take_more, take_all, map-append, flat_map-append, All-push, Position, IsGame, Rules, IsTrueValue, IsBestMove, MoveValue}
 use Rattle.gm_play.proofs.Lower.{after_best, AreExchangeRows}
 use Rattle.std.proofs.lemmas.List.{append-nil}
@@ -44,20 +44,5 @@ with_answer r g x m legal value best a l v =
       left = l ∙ ap (left_after r q) (sym a);
       left_legal = subst (λ (z : Position). r.is_legal z ≡ true) (sym l) (g.play_legal q m legal best.1.best.there);
       value = subst (λ (z : Position). IsTrueValue r z x.value) (sym l) (subst (IsTrueValue r (r.play q m)) (sym v) next);
-      nearer = v ∙ ap (value_left x.made.result) (sym a);
-    }
-
--- if the move has ended the game
-pub without_answer : (r : Rules) (x : Exchange) → r.is_legal x.made.position ≡ true → IsTrueValue r x.made.position x.made.result → IsBestMove r
-    x.made.position None → x.answer ≡ None
-    → x.left ≡ x.made.position → x.value ≡ x.made.result → IsExchange r x
-without_answer r x legal value best a l v =
-    let q = x.made.position in
-    record {
-      legal = legal;
-      answer = subst (IsBestMove r q) (sym a) best;
-      left = l ∙ ap (left_after r q) (sym a);
-      left_legal = subst (λ (z : Position). r.is_legal z ≡ true) (sym l) legal;
-      value = subst (λ (z : Position). IsTrueValue r z x.value) (sym l) (subst (IsTrueValue r q) (sym v) value);
       nearer = v ∙ ap (value_left x.made.result) (sym a);
     }

@@ -1,15 +1,16 @@
 -- Where all that it rests on is held, a position has a best move, or it has ended.
 use Rattle.gm_play.proofs.Lower.{◌≡◌, ℕ, ◌<◌, ◌⊎◌, inl, inr, Bool, true, false, List, [], ◌∷◌, ◌++◌, Option, None, Some, refl, sym, subst, ◌∙◌, arith}
-use Rattle.gm_play.proofs.Lower.{append_assoc, append-nil, IsSome, IfSome, is_some, Contains, option_map, cases_lt, Position, End, Value, Lose, Draw, Tie, Win}
-use Rattle.gm_play.proofs.Lower.{Solved, Rules, IsAscending, IsGame, HasValue, IsTrueValue, contains_none, contains_first, contains_later, contains_cases}
-use Rattle.gm_play.proofs.Lower.{map_from, HasValue_once, TableData, IsHeld, AreHeld, AreTables, table_of, value_in, value_known, value_true, Choice}
+use Rattle.gm_play.proofs.Lower.{append_assoc, append-nil, is_some, Contains, option_map, cases_lt, Position, End, Value, Lose, Draw, Tie, Win}
+use Rattle.gm_play.proofs.Lower.{Solved, Rules, IsAscending, IsGame, HasValue, IsTrueValue, contains_none, contains_first, contains_later}
+use Rattle.gm_play.proofs.Lower.{length, length-append, map_from, HasValue_once, TableData, IsHeld, AreHeld, AreTables, table_of, Choice}
 use Rattle.gm_play.proofs.Lower.{wanted_from, IsNearer, IsChoice, Considers, IsBestMove}
 use Rattle.std.proofs.Common.{◌&&◌}
 use Rattle.std.specs.List.{list_all}
 use Rattle.std.proofs.lemmas.Bool.{and_parts, and_from}
 use Rattle.gm_game.proofs.Lists.{all_from, all_in}
 use Rattle.gm_play.proofs.Choosing.{considered, goes_elsewhere}
-use Rattle.gm_play.proofs.Wanted.{best_is, children_known}
+use Rattle.std.proofs.Math.Seq.{get_or-append_seam, take-append_seam}
+use Rattle.gm_play.proofs.Wanted.{all_below, best_is, children_known, own_known}
 
 same_value : (a b : Value) → (a ≡ b) ⊎ (a ≡ b → ⊥)
 same_value Lose Lose = inl refl
@@ -35,21 +36,12 @@ nearer Draw k than = inr (λ h. h)
 nearer Tie k than = elim (cases_lt k than) [ inl l ↦ inl l | inr l ↦ inr (λ h. omega (arith, h, l)) ]
 nearer Win k than = elim (cases_lt k than) [ inl l ↦ inl l | inr l ↦ inr (λ h. omega (arith, h, l)) ]
 
--- the first of two parts is below what follows it
-head_below : (x : ℕ) (xs : List ℕ) (m : ℕ) (ms : List ℕ) → IsAscending (x ∷ (xs ++ m ∷ ms)) → x < m
-head_below x [] m ms up = up.0
-head_below x (y ∷ ys) m ms up = (let l = head_below y ys m ms up.1 in omega (arith, l, up.0))
-
-tail_ascends : (x : ℕ) (xs : List ℕ) → IsAscending (x ∷ xs) → IsAscending xs
-tail_ascends x [] up = tt
-tail_ascends x (y ∷ ys) up = up.1
-
+-- what stands before a number is below it
 front_below : (front : List ℕ) (m : ℕ) (ms : List ℕ) → IsAscending (front ++ m ∷ ms) → (n : ℕ) → Contains front n → n < m
-front_below [] m ms up n has = absurd (contains_none n has)
-front_below (x ∷ xs) m ms up n has = elim (contains_cases x n xs has) [
-  | inl e ↦ subst (λ (y : ℕ). y < m) e (head_below x xs m ms up)
-  | inr i ↦ front_below xs m ms (tail_ascends x (xs ++ m ∷ ms) up) n i
-]
+front_below front m ms up n has =
+    let here = subst (λ (l : List ℕ). Contains l n) (sym (take-append_seam front (m ∷ ms))) has in
+    let low = all_below (front ++ m ∷ ms) (length front) up (omega (arith, length-append front (m ∷ ms))) n here in
+    omega (arith, low, get_or-append_seam front m ms 0)
 
 middle : (front : List ℕ) (m : ℕ) (ms : List ℕ) → Contains (front ++ m ∷ ms) m
 middle [] m ms = contains_first m ms
@@ -81,19 +73,12 @@ module _ (r : Rules) (p : Position) (v : Value) where
       choose up known ms (front ++ m ∷ []) (append_assoc front (m ∷ []) ms ∙ e) new (considered r p v front m above best new h c)
 
 module _ (r : Rules) (g : IsGame r) (entries : List TableData) (tables : AreTables r entries) where
-  own_true : (p : Position) (o : Option Solved) → IsSome o → IfSome o (IsTrueValue r p) → (s : Solved) × IsTrueValue r p s
-  own_true p None is h = absurd (cc)
-  own_true p (Some s) is h = (s, h)
-
-  own_value : (p : Position) → r.is_legal p ≡ true → IsHeld entries p.tier → (s : Solved) × IsTrueValue r p s
-  own_value p l own = own_true p (value_in r entries p) ((value_known r g entries p tables).1 (l, own)) (value_true r g entries p tables)
-
   best_open : (p : Position) (o : Option End) → r.is_legal p ≡ true → IsHeld entries p.tier → AreHeld r entries p.tier → r.primitive p ≡ o → (b : Option ℕ)
       × IsBestMove r p b
   best_open p (Some x) l own held e = (None, λ n. absurd (cc))
   best_open p None l own held e =
       let children = children_known r g entries tables p l own held in
-      let (s, is) = own_value p l own in
+      let (s, is) = own_known r g entries tables p l own in
       let (o, h) = choose r p s.value (g.moves_ascending p l) (λ m has. children (r.play p m) (map_from (r.play p) (r.moves p) m has)) (r.moves p) [] refl
       None (λ n k has w. contains_none n has) in
       (option_map (λ (c : Choice). c.number) o, best_is r g p l e children s.value s.remoteness is o h)

@@ -25,7 +25,7 @@ pub use Rattle.gm_play.specs.Lines.{IsLine, IsPlayed, IsReplied, LeadsTo, WinsWi
 pub use Rattle.gm_play.specs.MoveValues.{AreMoveValues, IsMoveValue, worth_from}
 pub use Rattle.gm_play.specs.PlayTexts.{IsMoveOf, after_best, move_row, row, rows_from}
 pub use Rattle.gm_play.specs.Reached.{AreAllHeld, IsBelow, IsReached}
-pub use Rattle.gm_play.specs.Sessions.{AppendsPart, Says}
+pub use Rattle.gm_play.specs.Sessions.{AppendsPart, Speaks}
 pub use Rattle.gm_play.specs.Sides.{HasLost, HasWon, IsEven, IsWonIn}
 pub use Rattle.gm_play.specs.Why.{AreExchangeRows}
 pub use Rattle.gm_play.specs.declared.best_moves.Choice.{Choice}
@@ -34,7 +34,6 @@ pub use Rattle.gm_play.specs.declared.play_line.PlayLine.{PlayLine}
 pub use Rattle.gm_play.specs.declared.session.TheConstants.{KEPT, SESSION_BYTES}
 pub use Rattle.gm_play.specs.declared.sides.Side.{Side}
 pub use Rattle.gm_play.specs.declared.sides.Side.TheVariants.{Computer, You}
-pub use Rattle.gm_play.specs.declared.streams.Unwritten.{Unwritten}
 pub use Rattle.gm_play.specs.declared.view.Question.{Question}
 pub use Rattle.gm_play.specs.declared.view.Question.TheVariants.{Again, First}
 pub use Rattle.gm_table.proofs.ValueLemmas.{value_known, value_true}

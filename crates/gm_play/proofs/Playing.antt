@@ -1,12 +1,13 @@
 -- A line of play, move by move.
 use Rattle.gm_play.proofs.Lower.{◌≡◌, ◌≢◌, ℕ, ◌+◌, ◌<◌, ◌≤◌, ◌⊎◌, inl, inr, true, List, [], ◌∷◌, ◌++◌, length, Option, None, Some, refl, sym, ap, ◌∙◌, subst}
-use Rattle.gm_play.proofs.Lower.{arith, append_assoc, append-nil, drop, get_or, drop_more, drop_all, MatchOption, Contains, Position, Rules, IsGame, TableData}
-use Rattle.gm_play.proofs.Lower.{Side, You, Computer, PlayLine, IsBestMove, AreAllHeld, position_after, side_after, IsLine, LeadsTo, IsPlayed, IsReplied}
+use Rattle.gm_play.proofs.Lower.{arith, append_assoc, append-nil, length-append, drop, get_or, drop_more, drop_all, MatchOption, Contains, Position, Rules, IsGame, TableData}
+use Rattle.gm_play.proofs.Lower.{Side, You, Computer, PlayLine, IsBestMove, AreAllHeld, side_after, IsLine, LeadsTo, IsPlayed, IsReplied}
 use Rattle.std.specs.Prelude.{IfSome}
 use Rattle.gm_play.specs.Sides.{other}
 use Rattle.gm_play.specs.Lines.{one_more, IsAnswered}
 use Rattle.gm_play.proofs.Keeping.{best_once}
 use Rattle.gm_play.proofs.Held.{held_after}
+use Rattle.gm_play.proofs.Walking.{after_push}
 
 -- the state of a line after some moves: its continuations from here are those of the line from the start
 pub record OnLine (r : Rules) (start : Position) (first : Side) (replies rest : List ℕ) (line : PlayLine) : Type 0 where
@@ -16,17 +17,9 @@ pub record OnLine (r : Rules) (start : Position) (first : Side) (replies rest : 
   pub goes : (ms : List ℕ) → IsLine r line.position line.side rest ms → IsLine r start first replies (moves ++ ms)
   pub only : (ms : List ℕ) → IsLine r start first replies ms → (left : List ℕ) × IsLine r line.position line.side rest left
 
-position_push : (r : Rules) (p : Position) (ms : List ℕ) (m : ℕ) → position_after r p (ms ++ m ∷ []) ≡ r.play (position_after r p ms) m
-position_push r p [] m = refl
-position_push r p (x ∷ xs) m = position_push r (r.play p x) xs m
-
 side_push : (s : Side) (ms : List ℕ) (m : ℕ) → side_after s (ms ++ m ∷ []) ≡ other (side_after s ms)
 side_push s [] m = refl
 side_push s (x ∷ xs) m = side_push (other s) xs m
-
-length_push : (ms : List ℕ) (m : ℕ) → length (ms ++ m ∷ []) ≡ length ms + 1
-length_push [] m = refl
-length_push (x ∷ xs) m = let e = length_push xs m in omega arith
 
 module _ (r : Rules) (g : IsGame r) (start : Position) (first : Side) (replies : List ℕ) where
   pub begins : (line : PlayLine) → line.position ≡ start → line.side ≡ first → line.moves ≡ 0 → r.is_legal start ≡ true → OnLine r start first replies
@@ -41,9 +34,9 @@ module _ (r : Rules) (g : IsGame r) (start : Position) (first : Side) (replies :
 
   leads_push : (moves : List ℕ) (line : PlayLine) (m : ℕ) → LeadsTo r start first moves line → LeadsTo r start first (moves ++ m ∷ []) (one_more r line m)
   leads_push moves line m h = record {
-    position = ap (λ (q : Position). r.play q m) h.position ∙ sym (position_push r start moves m);
+    position = ap (λ (q : Position). r.play q m) h.position ∙ sym (after_push r start moves m);
     side = ap other h.side ∙ sym (side_push first moves m);
-    number = (let e = h.number in let k = length_push moves m in omega arith);
+    number = (let e = h.number in let k = length-append moves (m ∷ []) in omega arith);
   }
 
   module _ (rest : List ℕ) (line : PlayLine) (on : OnLine r start first replies rest line) where

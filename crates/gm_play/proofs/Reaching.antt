@@ -1,5 +1,5 @@
 -- The positions and tiers that play can reach.
-use Rattle.gm_play.proofs.Lower.{◌≡◌, ℕ, zero, suc, inl, inr, true, List, Option, None, Some, IfSome, refl, sym, subst, Contains, Position, Rules, IsGame}
+use Rattle.gm_play.proofs.Lower.{◌≡◌, ℕ, zero, suc, inl, inr, true, List, refl, sym, subst, Contains, Position, Rules, IsGame}
 use Rattle.gm_play.proofs.Lower.{TableData, IsBelow, IsReached, AreAllHeld}
 
 below_below : (r : Rules) (n a b m c : ℕ) → IsBelow r n a b → IsBelow r m b c → (j : ℕ) × IsBelow r j a c
@@ -23,8 +23,3 @@ reached_by r g p m l has q e = subst (IsReached r p.tier) (sym e) (played_reache
 -- what is held from a position that is reached
 pub held_from : (r : Rules) (entries : List TableData) (tier : ℕ) (p : Position) → AreAllHeld r entries tier → IsReached r tier p → AreAllHeld r entries p.tier
 held_from r entries tier p held (l, (n, h)) j t k = (let (i, b) = below_below r n tier p.tier j t h k in held i t b)
-
-pub reached_option : (r : Rules) (tier : ℕ) (p : Position) (o : Option Position) → IsReached r tier p → IfSome o (IsReached r p.tier) → IfSome o
-    (IsReached r tier)
-reached_option r tier p None h t = tt
-reached_option r tier p (Some q) h t = reached_reached r tier p q h t

@@ -1,7 +1,7 @@
 -- The lines that a person writes.
 use Rattle.gm_play.proofs.Lower.{◌≡◌, ℕ, Bool, true, false, List, [], ◌∷◌, ◌++◌, codes, length, Option, None, Some, refl, sym, ap, ap₂, ◌∙◌, subst, inl, inr}
 use Rattle.gm_play.proofs.Lower.{◌==◌, if◌then◌else◌, Contains, find, bytes_eq, Position, Rules, contains_none, contains_first, contains_later, contains_cases}
-use Rattle.gm_play.proofs.Lower.{Advice, Said, ends, after_move, computers_turn, without_return, answer_to, reply, text_after, closing, Question}
+use Rattle.gm_play.proofs.Lower.{Advice, Said, ends, after_move, computers_turn, without_return, answer_to, reply, text_after, closing, Question, Speaks}
 use Rattle.std.proofs.Common.{cond}
 use Rattle.std.specs.Prelude.{◌↔◌}
 use Rattle.std.proofs.lemmas.Slice.Eq.{bytes_eq-Decides}
@@ -86,3 +86,7 @@ module _ (r : Rules) (shown : Position → List ℕ) (move_shown : Position → 
       ≡ closing r shown move_shown k seen p line
   closing_is h = ap (λ (b : Bool). if b then codes "input ended\n" else (reply r shown move_shown k seen p line).text ++ after_reply
       (reply r shown move_shown k seen p line).asked) (sym h)
+
+  pub closes : (length line == 0) ≡ false → {text : List ℕ} {asked : Option Position} → Speaks r k (reply r shown move_shown k seen p line) text asked
+      → text ++ after_reply asked ≡ closing r shown move_shown k seen p line
+  closes some {text} {asked} h = ap₂ (λ (t : List ℕ) (o : Option Position). t ++ after_reply o) h.0 h.1 ∙ closing_is some

@@ -67,9 +67,6 @@ rows_all done all h = sym (append-nil done) ∙ h
 pub row_named : (done more a b d x : List ℕ) → more ≡ done ++ row a b d → a ≡ x → more ≡ done ++ row x b d
 row_named done more a b d x h e = h ∙ ap (λ (l : List ℕ). done ++ row l b d) e
 
-pub same_row : (done a b d x y z : List ℕ) → a ≡ x → b ≡ y → d ≡ z → done ++ row a b d ≡ done ++ row x y z
-same_row done a b d x y z e f g = rw (e, f, g) refl
-
 -- the text of some things, and of one more
 pub flat_more : {X : Type 0} (f : X → List ℕ) (xs : List X) (i : ℕ) (d : X) (old new piece : List ℕ) → i < length xs → old ≡ flat_map f (take i xs) → new ≡
     old ++ piece → piece ≡ f (get_or xs i d)

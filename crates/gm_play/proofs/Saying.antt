@@ -1,13 +1,13 @@
 -- Turns, by the state of the game.
-use Rattle.gm_play.proofs.Lower.{◌≡◌, ℕ, true, List, ◌++◌, codes, Option, None, Some, refl, sym, ap, ◌∙◌, subst, IfOk, OnErr, Appends, Position, Solved, End}
-use Rattle.gm_play.proofs.Lower.{Rules, text_of, IsTrueValue, You, Computer, IsGame, Unwritten, AppendsPart, Says, Advice, Said, IsKnown, before, after_move}
-use Rattle.gm_play.proofs.Lower.{game_over, asks, place, asks_or_ends, persons_turn, moves_or_ends, IsBestMove, IsReached, First, Question}
+use Rattle.gm_play.proofs.Lower.{◌≡◌, ◌≤◌, ℕ, true, List, ◌++◌, length, codes, Option, None, Some, sym, ap, ◌∙◌, subst, arith, append_assoc, refl, Position, Solved, End}
+use Rattle.gm_play.proofs.Lower.{Rules, IsTrueValue, Side, You, Computer, IsGame, Speaks, Advice, IsKnown, before, place, asks_or_ends, persons_turn}
+use Rattle.gm_play.proofs.Lower.{moves_or_ends, computers_turn, IsBestMove, Question}
+use Rattle.gm_play.specs.Endings.{over_line}
 use Rattle.std.specs.Result.{is_ok}
 use Rattle.std.specs.Prelude.{Result, Ok, Err}
 use Rattle.gm_play.specs.declared.answers.AnswerError.{AnswerError}
 use Rattle.gm_play.specs.declared.answers.AnswerError.TheVariants.{Illegal, NotHeld}
 use Rattle.gm_game.proofs.Checker.{IsTrueValue_once}
-use Rattle.gm_play.proofs.Parts.{part_is, part_longer, text_is, done_by, stops_in}
 use Rattle.gm_play.proofs.Keeping.{best_once}
 use Rattle.gm_play.proofs.Reaching.{own_reached, reached_by}
 use Rattle.gm_play.proofs.Knowing.{known_from}
@@ -16,82 +16,54 @@ use Rattle.gm_play.proofs.Knowing.{known_from}
 pub value_known : (r : Rules) (k : Advice) (p : Position) (s : Solved) → r.is_legal p ≡ true → IsKnown r p.tier k → IsTrueValue r p s → s ≡ k.value p
 value_known r k p s l known h = IsTrueValue_once r p s (k.value p) h (known p (own_reached r p l)).0
 
-module _ (r : Rules) (shown : Position → List ℕ) (move_shown : Position → ℕ → List ℕ) (k : Advice) (seen : Question → Position → List ℕ) (p : Position) where
-  pub place_is : (f b : List ℕ) → f ≡ shown p → b ≡ text_of (k.value p) → f ++ codes " " ++ b ++ codes "\n" ≡ place r shown move_shown k seen p
-  place_is f b e d = ap (λ (x : List ℕ). x ++ codes " " ++ b ++ codes "\n") e ∙ ap (λ (x : List ℕ). shown p ++ codes " " ++ x ++ codes "\n") d
+-- four texts, from the last
+pub nested : (a b c d : List ℕ) → a ++ b ++ c ++ d ≡ a ++ (b ++ (c ++ d))
+nested a b c d = append_assoc (a ++ b) c d ∙ append_assoc a b (c ++ d)
 
-  pub person_ends : (e : End) → r.primitive p ≡ Some e → game_over You e ≡ asks_or_ends r shown move_shown k seen p (r.primitive p)
-  person_ends e h = ap (asks_or_ends r shown move_shown k seen p) (sym h)
+pub over_short : (w : Option Side) → length (over_line w) ≤ 32
+over_short None = omega arith
+over_short (Some You) = omega arith
+over_short (Some Computer) = omega arith
 
-  pub person_is_asked : r.primitive p ≡ None → asks (seen First p ++ codes "your move?\n") p ≡ asks_or_ends r shown move_shown k seen p (r.primitive p)
-  person_is_asked h = ap (asks_or_ends r shown move_shown k seen p) (sym h)
+module _ (r : Rules) (shown : Position → List ℕ) (move_shown : Position → ℕ → List ℕ) (k : Advice) (seen : Question → Position → List ℕ) (p : Position)
+    (text : List ℕ) (asked : Option Position) where
+  -- the turns, by whether the game has ended
+  pub person_is : (front : List ℕ) (o : Option End) → r.primitive p ≡ o
+      → Speaks r k (before front (before (place r shown move_shown k seen p) (asks_or_ends r shown move_shown k seen p o))) text asked
+      → Speaks r k (before front (persons_turn r shown move_shown k seen p)) text asked
+  person_is front o e h =
+      subst (λ (x : Option End). Speaks r k (before front (before (place r shown move_shown k seen p) (asks_or_ends r shown move_shown k seen p x))) text asked)
+      (sym e) h
 
-  pub computer_ends : (e : End) → r.primitive p ≡ Some e → game_over Computer e ≡ moves_or_ends r shown move_shown k seen p (r.primitive p) (k.best p)
-  computer_ends e h = ap (λ (o : Option End). moves_or_ends r shown move_shown k seen p o (k.best p)) (sym h)
+  pub computer_is : (o : Option End) → r.primitive p ≡ o
+      → Speaks r k (before (place r shown move_shown k seen p) (moves_or_ends r shown move_shown k seen p o (k.best p))) text asked
+      → Speaks r k (computers_turn r shown move_shown k seen p) text asked
+  computer_is o e h =
+      subst (λ (x : Option End). Speaks r k (before (place r shown move_shown k seen p) (moves_or_ends r shown move_shown k seen p x (k.best p))) text asked)
+      (sym e) h
 
   -- the best move is the known one
   best_is_known : (m : ℕ) (o : Option ℕ) → IsBestMove r p (Some m) → IsBestMove r p o → k.best p ≡ o → k.best p ≡ Some m
   best_is_known m None a b e = absurd (b a.0)
   best_is_known m (Some n) a b e = e ∙ ap Some (best_once r p n m b a)
 
-  pub best_known : (m : ℕ) → r.is_legal p ≡ true → IsKnown r p.tier k → IsBestMove r p (Some m) → k.best p ≡ Some m
-  best_known m l known h = best_is_known m (k.best p) h (known p (own_reached r p l)).1 refl
-
-  -- the line on a move
-  abbrev pub move_line : ℕ → List ℕ
-  move_line m = codes "computer" ++ codes ": " ++ move_shown p m ++ codes "\n"
-
-  pub computer_moves : (m : ℕ) → r.is_legal p ≡ true → IsKnown r p.tier k → IsBestMove r p (Some m)
-      → after_move (before (move_line m) (persons_turn r shown move_shown k seen (r.play p m))) ≡ moves_or_ends r shown move_shown k seen p (r.primitive p)
-      (k.best p)
-  computer_moves m l known h =
-      ap (λ (o : Option End). moves_or_ends r shown move_shown k seen p o (Some m)) (sym h.0)
-      ∙ ap (moves_or_ends r shown move_shown k seen p (r.primitive p)) (sym (best_known m l known h))
-
--- the result of the best move is reached
-pub best_reached : (r : Rules) (p : Position) (m : ℕ) → r.is_legal p ≡ true → IsBestMove r p (Some m) → IsGame r → (q : Position) → q ≡ r.play p m →
-    IsReached r p.tier q
-best_reached r p m legal best game q e = reached_by r game p m legal best.1.best.there q e
-
--- the best move is made: its line, and then the person's turn
-module _ (r : Rules) (shown : Position → List ℕ) (move_shown : Position → ℕ → List ℕ) (k : Advice) (seen : Question → Position → List ℕ) (p : Position) (m : ℕ)
-    (legal : r.is_legal p ≡ true) (known : IsKnown r p.tier k) (best : IsBestMove r p (Some m)) (text : List ℕ) (is : text ≡ move_shown p m) where
-  abbrev next : Position → Said
-  next q = persons_turn r shown move_shown k seen q
-
-  abbrev goes_on : Said
-  goes_on = moves_or_ends r shown move_shown k seen p (r.primitive p) (k.best p)
-
-  same : after_move (before (move_line r shown move_shown k seen p m) (next (r.play p m))) ≡ goes_on
-  same = computer_moves r shown move_shown k seen p m legal known best
-
-  line_is : codes "computer" ++ codes ": " ++ text ++ codes "\n" ≡ move_line r shown move_shown k seen p m
-  line_is = ap (λ (t : List ℕ). codes "computer" ++ codes ": " ++ t ++ codes "\n") is
-
-  known_next : (q : Position) → q ≡ r.play p m → IsGame r → IsKnown r q.tier k
-  known_next q e game = known_from r p.tier k q known (best_reached r p m legal best game q e)
-
-  pub move_cut : (a b : Option (List ℕ)) → AppendsPart a b (codes "computer" ++ codes ": " ++ text ++ codes "\n") → AppendsPart a b goes_on.text
-  move_cut a b h =
-      part_is a b (move_line r shown move_shown k seen p m ++ (next (r.play p m)).text) goes_on.text (ap (λ (s : Said). s.text) same)
-      (part_longer a b (move_line r shown move_shown k seen p m) (next (r.play p m)).text (part_is a b _ _ line_is h))
-
-  module _ (game : IsGame r) (a b c : Option (List ℕ)) (q : Position) (there : q ≡ r.play p m) (call : Result (Option Position) Unwritten)
-      (written : Appends a b (codes "computer" ++ codes ": " ++ text ++ codes "\n")) where
-    line_written : Appends a b (move_line r shown move_shown k seen p m)
-    line_written = text_is a b _ _ line_is written
-
-    pub move_done : (IsKnown r q.tier k → IfOk call (Says b c (next q))) → IfOk call (Says a c goes_on)
-    move_done h =
-        subst (λ (s : Said). IfOk call (Says a c s)) same
-        (done_by a b c (move_line r shown move_shown k seen p m) (next (r.play p m)) (next q) line_written (ap next there) (next q).text refl call
-        (h (known_next q there game)))
-
-    pub move_stops : (IsKnown r q.tier k → OnErr call (AppendsPart b c (next q).text)) → OnErr call (AppendsPart a c goes_on.text)
-    move_stops h =
-        subst (λ (s : Said). OnErr call (AppendsPart a c s.text)) same
-        (stops_in a b c (move_line r shown move_shown k seen p m) (next (r.play p m)) (next q) line_written (ap next there) (next q).text refl call
-        (h (known_next q there game)))
+  -- the best move is made: its line, and then the person's turn
+  pub computer_plays : (m : ℕ) → r.is_legal p ≡ true → IsKnown r p.tier k → IsBestMove r p (Some m) → IsGame r → (front : List ℕ)
+      → front ≡ place r shown move_shown k seen p ++ (codes "computer: " ++ (move_shown p m ++ codes "\n")) → (q : Position) → q ≡ r.play p m
+      → (IsKnown r q.tier k → Speaks r k (before front (persons_turn r shown move_shown k seen q)) text asked)
+      → Speaks r k (computers_turn r shown move_shown k seen p) text asked
+  computer_plays m legal known best game front f q e h =
+      let here = place r shown move_shown k seen p in
+      let line = codes "computer: " ++ (move_shown p m ++ codes "\n") in
+      let next = λ (x : Position). persons_turn r shown move_shown k seen x in
+      let t = h (known_from r p.tier k q known (reached_by r game p m legal best.1.best.there q e)) in
+      let is : k.best p ≡ Some m = best_is_known m (k.best p) best (known p (own_reached r p legal)).1 refl in
+      computer_is None best.0
+      (subst (λ (o : Option ℕ). Speaks r k (before here (moves_or_ends r shown move_shown k seen p None o)) text asked) (sym is) (
+        t.0 ∙ ap (λ (x : List ℕ). x ++ (next q).text) f ∙ append_assoc here line (next q).text ∙ ap (λ (x : Position). here ++ (line ++ (next x).text)) e,
+        t.1 ∙ ap (λ (x : Position). (next x).asked) e,
+        t.2,
+      ))
 
 -- a result that can be neither refusal is a value
 pub ok_unless : (r : Result (Option ℕ) AnswerError) → (r ≡ Err Illegal → ⊥) → (r ≡ Err NotHeld → ⊥) → is_ok r ≡ true

@@ -1,21 +1,15 @@
 -- The middle of a session: the bytes read and written so far, and the rest.
 use Rattle.gm_play.proofs.Lower.{◌≡◌, ℕ, ◌+◌, ◌≤◌, Bool, true, false, List, [], ◌∷◌, ◌++◌, length, take, Option, Some, None, refl, sym, ap, ◌∙◌, append_assoc}
-use Rattle.gm_play.proofs.Lower.{append-nil, arith, inl, inr, ◌==◌, if◌then◌else◌, length-append, Appends, Keeps, Appends-trans, Position, Rules, Side}
-use Rattle.gm_play.proofs.Lower.{SESSION_BYTES, KEPT, Advice, Said, text_after, turn, reply, closing, AppendsPart, Says, Question}
+use Rattle.gm_play.proofs.Lower.{append-nil, arith, inl, inr, ◌==◌, if◌then◌else◌, length-append, Appends, Keeps, Appends-trans, Position, Rules, Side, subst}
+use Rattle.gm_play.proofs.Lower.{SESSION_BYTES, KEPT, Advice, IsKnown, IsShown, Said, text_after, turn, reply, closing, AppendsPart, Speaks, Question, IfSome}
 use Rattle.std.specs.Io.KnownBytes.{Consumes, IsAtEnd}
-use Rattle.std.proofs.KnownBytes.{Consumes-trans, Consumes-kept, Consumes-nil}
+use Rattle.std.proofs.KnownBytes.{Appends-nil, Consumes-trans, Consumes-kept, Consumes-nil}
 use Rattle.gm_play.specs.Dialogue.{count_after, waiting, talk, count, spoken, used}
 use Rattle.gm_play.specs.Sessions.{IsRead, IsSession, IsUnread, IsUnwritten, IsTooLong, IsBroken, IsOfOutput}
 use Rattle.gm_play.specs.declared.session_error.SessionError.{SessionError}
 use Rattle.gm_play.specs.declared.session_error.SessionError.TheVariants.{ReadFailed, WriteFailed, TooMuchInput, OutputClosed}
+use Rattle.gm_play.proofs.Kept.{heard, closed}
 use Rattle.gm_play.proofs.Parts.{part_after, part_longer, part_is, text_is}
-
--- the text after a question, which is empty if no question was asked
-asked_text : (said : Said) (f : Position → List ℕ) (q : Position) → Some q ≡ said.asked → said.text ++ text_after f said.asked ≡ said.text ++ f q
-asked_text said f q e = ap (λ (o : Option Position). said.text ++ text_after f o) (sym e)
-
-ended_text : (said : Said) (f : Position → List ℕ) → None ≡ said.asked → said.text ++ text_after f said.asked ≡ said.text
-ended_text said f e = ap (λ (o : Option Position). said.text ++ text_after f o) (sym e) ∙ append-nil said.text
 
 module _ (r : Rules) (shown : Position → List ℕ) (move_shown : Position → ℕ → List ℕ) (k : Advice) (seen : Question → Position → List ℕ) where
   abbrev Talk : (Position → List ℕ → List ℕ) → Position → List ℕ → List ℕ → List ℕ
@@ -72,15 +66,23 @@ module _ (r : Rules) (shown : Position → List ℕ) (move_shown : Position → 
     abbrev Used : List ℕ → ℕ
     Used bytes = used r shown move_shown k seen start first bytes
 
-    abbrev Turn : Said
-    Turn = turn r shown move_shown k seen start first
+    -- these bytes have been read and this text has been written; the dialogue goes on with this part
+    pub record Answers (number : ℕ) (r0 r1 w0 w1 : Option (List ℕ)) (said : Said) : Type 0 where
+      pub bytes : List ℕ
+      pub written : List ℕ
+      pub is_read : IsRead r shown move_shown k seen start first r0 r1 bytes
+      pub writes : Appends w0 w1 written
+      pub len : length bytes ≡ number
+      pub talks : (f : Position → List ℕ → List ℕ) (more : List ℕ) → Spoken f (bytes ++ more) ≡ written ++ (said.text ++ text_after (λ q. Talk f q [] more)
+          said.asked)
+      pub uses : (more : List ℕ) → Used (bytes ++ more) ≡ length bytes + count_after (λ q. Count q [] more) said.asked
 
-    -- these bytes have been read and this text has been written; the person is asked at p and has given these bytes of a line, of which a prefix is kept; the
-    -- rest is the talk from here
+    -- the same; the person is asked at p and has given these bytes of a line, of which a prefix is kept; the rest is the talk from here
     pub record GoesOn (number : ℕ) (r0 r1 w0 w1 : Option (List ℕ)) (p : Position) (kept : List ℕ) : Type 0 where
       pub bytes : List ℕ
       pub written : List ℕ
       pub line : List ℕ
+      pub known : IsKnown r p.tier k
       pub reads : Consumes r0 r1 bytes
       pub writes : Appends w0 w1 written
       pub len : length bytes ≡ number
@@ -88,192 +90,197 @@ module _ (r : Rules) (shown : Position → List ℕ) (move_shown : Position → 
       pub talks : (f : Position → List ℕ → List ℕ) (more : List ℕ) → Spoken f (bytes ++ more) ≡ written ++ Talk f p line more
       pub uses : (more : List ℕ) → Used (bytes ++ more) ≡ length bytes + Count p line more
 
-    pub begins : (r0 w0 w1 : Option (List ℕ)) (p : Position) → Says w0 w1 Turn (Some p) → GoesOn 0 r0 r0 w0 w1 p []
-    begins r0 w0 w1 p (e, a) = record {
+    pub starts : (r0 w0 : Option (List ℕ)) → Answers 0 r0 r0 w0 w0 (turn r shown move_shown k seen start first)
+    starts r0 w0 = record {
       bytes = [];
-      written = Turn.text;
-      line = [];
-      reads = Consumes-nil r0;
-      writes = a;
+      written = [];
+      is_read = record { reads = Consumes-nil r0; few = omega arith; all_used = count_none (turn r shown move_shown k seen start first).asked };
+      writes = Appends-nil w0;
       len = refl;
-      keeps = grind arith;
-      talks = λ f more. asked_text Turn (λ q. Talk f q [] more) p e;
-      uses = λ more. (let h : count_after (λ q. Count q [] more) Turn.asked ≡ Count p [] more = ap (count_after (λ q. Count q [] more)) (sym e) in omega
-          (arith, h));
+      talks = λ f more. refl;
+      uses = λ more. omega arith;
     }
 
-    nothing_read : (r0 : Option (List ℕ)) → IsRead r shown move_shown k seen start first r0 r0 []
-    nothing_read r0 = record { reads = Consumes-nil r0; few = omega arith; all_used = count_none Turn.asked }
+    -- the output fails, for either of its two reasons
+    broken_output : (e : SessionError) (r0 r1 w0 w1 : Option (List ℕ)) → IsOfOutput e → IsUnwritten r shown move_shown k seen start first r0 r1 w0 w1
+        → IsBroken r shown move_shown k seen start first e r0 r1 w0 w1
+    broken_output ReadFailed r0 r1 w0 w1 is h = absurd is
+    broken_output WriteFailed r0 r1 w0 w1 is h = h
+    broken_output TooMuchInput r0 r1 w0 w1 is h = absurd is
+    broken_output OutputClosed r0 r1 w0 w1 is h = h
 
-    -- the game has ended at the start
-    pub over_at_once : (r0 w0 w1 : Option (List ℕ)) → Says w0 w1 Turn None → IsSession r shown move_shown k seen start first r0 r0 w0 w1
-    over_at_once r0 w0 w1 (e, a) = record {
-      bytes = [];
-      is_read = nothing_read r0;
-      writes = text_is w0 w1 Turn.text (Spoken (closing r shown move_shown k seen) [])
-          (sym (ended_text Turn (λ q. Talk (closing r shown move_shown k seen) q [] []) e)) a;
-      end = inl (λ more. ap (count_after (λ q. Count q [] more)) (sym e));
+module _ {r : Rules} {shown : Position → List ℕ} {move_shown : Position → ℕ → List ℕ} {k : Advice} {seen : Question → Position → List ℕ} {start : Position}
+    {first : Side} {number : ℕ} {r0 r1 w0 w1 : Option (List ℕ)} where
+  -- a part of the dialogue is written
+  module _ {said : Said} (g : Answers r shown move_shown k seen start first number r0 r1 w0 w1 said) {text : List ℕ} {asked : Option Position}
+      (is : Speaks r k said text asked) where
+    -- the next question
+    pub asks_next : (w2 : Option (List ℕ)) (p : Position) → asked ≡ Some p → Appends w1 w2 text → GoesOn r shown move_shown k seen start first number r0 r1 w0
+        w2 p []
+    asks_next w2 p e a =
+        let o : said.asked ≡ Some p = sym is.1 ∙ e in
+        record {
+          bytes = g.bytes;
+          written = g.written ++ text;
+          line = [];
+          known = subst (λ (x : Option Position). IfSome x (λ q. IsKnown r q.tier k)) e is.2;
+          reads = g.is_read.reads;
+          writes = Appends-trans w0 w1 w2 g.written text g.writes a;
+          len = g.len;
+          keeps = grind arith;
+          talks = λ f more. g.talks f more ∙ ap (λ (x : Option Position). g.written ++ (said.text ++ text_after (λ q. talk r shown move_shown k seen f q [] more)
+              x)) o ∙ ap (λ (t : List ℕ). g.written ++ (t ++ talk r shown move_shown k seen f p [] more)) (sym is.0) ∙ sym
+              (append_assoc g.written text (talk r shown move_shown k seen f p [] more));
+          uses = λ more. g.uses more ∙ ap (λ (x : Option Position). length g.bytes + count_after (λ q. count r shown move_shown k seen q [] more) x) o;
+        }
+
+    -- the part is the last
+    pub ends : (w2 : Option (List ℕ)) → asked ≡ None → Appends w1 w2 text → IsSession r shown move_shown k seen start first r0 r1 w0 w2
+    ends w2 e a =
+        let o : said.asked ≡ None = sym is.1 ∙ e in
+        let f = closing r shown move_shown k seen in
+        let said_all : g.written ++ text ≡ spoken r shown move_shown k seen f start first g.bytes =
+        ap (λ (t : List ℕ). g.written ++ t) (is.0 ∙ sym (append-nil said.text)) ∙ ap
+        (λ (x : Option Position). g.written ++ (said.text ++ text_after (λ q. talk r shown move_shown k seen f q [] []) x)) (sym o)
+        ∙ sym (g.talks f []) ∙ ap (spoken r shown move_shown k seen f start first) (append-nil g.bytes) in
+        record {
+          bytes = g.bytes;
+          is_read = g.is_read;
+          writes = text_is w0 w2 (g.written ++ text) (spoken r shown move_shown k seen f start first g.bytes) said_all
+              (Appends-trans w0 w1 w2 g.written text g.writes a);
+          end = inl (λ more. (
+              let none = ap (count_after (λ q. count r shown move_shown k seen q [] more)) o in
+              let h = g.uses more in
+              omega (arith, h, none)));
+        }
+
+    pub fails : (w2 : Option (List ℕ)) (e : SessionError) → IsOfOutput e × AppendsPart w1 w2 text → IsBroken r shown move_shown k seen start first e r0 r1 w0 w2
+    fails w2 e (of, a) =
+        let f = closing r shown move_shown k seen in
+        let rest = text_after (λ q. talk r shown move_shown k seen f q [] []) said.asked in
+        broken_output r shown move_shown k seen start first e r0 r1 w0 w2 of record {
+          bytes = g.bytes;
+          is_read = g.is_read;
+          writes = part_is w0 w2 (g.written ++ (text ++ rest)) (spoken r shown move_shown k seen f start first g.bytes)
+              (ap (λ (t : List ℕ). g.written ++ (t ++ rest)) is.0 ∙ sym (g.talks f []) ∙ ap (spoken r shown move_shown k seen f start first) (append-nil g.bytes))
+              (part_after w0 w1 w2 g.written (text ++ rest) g.writes (part_longer w1 w2 text rest a));
+        }
+
+  -- the person is asked
+  module _ {p : Position} {kept : List ℕ} (g : GoesOn r shown move_shown k seen start first number r0 r1 w0 w1 p kept) where
+    abbrev Rest : (Position → List ℕ → List ℕ) → List ℕ → List ℕ
+    Rest f more = talk r shown move_shown k seen f p g.line more
+
+    abbrev Whole : (Position → List ℕ → List ℕ) → List ℕ → List ℕ
+    Whole f bytes = spoken r shown move_shown k seen f start first bytes
+
+    spoken_push : (f : Position → List ℕ → List ℕ) (b : ℕ) (more : List ℕ) → Whole f ((g.bytes ++ b ∷ []) ++ more) ≡ g.written ++ Rest f (b ∷ more)
+    spoken_push f b more = ap (Whole f) (append_assoc g.bytes (b ∷ []) more) ∙ g.talks f (b ∷ more)
+
+    used_push : (b : ℕ) (more : List ℕ) → used r shown move_shown k seen start first ((g.bytes ++ b ∷ []) ++ more) ≡ length g.bytes + count r shown move_shown
+        k seen p g.line (b ∷ more)
+    used_push b more = ap (used r shown move_shown k seen start first) (append_assoc g.bytes (b ∷ []) more) ∙ g.uses (b ∷ more)
+
+    spoken_here : (f : Position → List ℕ → List ℕ) → g.written ++ f p g.line ≡ Whole f g.bytes
+    spoken_here f = ap (λ (l : List ℕ). g.written ++ l) (sym (talk_end r shown move_shown k seen f p g.line)) ∙ sym (g.talks f []) ∙ ap (Whole f)
+        (append-nil g.bytes)
+
+    -- a byte of a line
+    pub goes_on : (r2 : Option (List ℕ)) (b : ℕ) (kept2 : List ℕ) → Consumes r1 r2 (b ∷ []) → (b == 10) ≡ false → kept2 ≡ take KEPT (g.line ++ b ∷ []) →
+        GoesOn r shown move_shown k seen start first (number + 1) r0 r2 w0 w1 p kept2
+    goes_on r2 b kept2 c e t = record {
+      bytes = g.bytes ++ b ∷ [];
+      written = g.written;
+      line = g.line ++ b ∷ [];
+      known = g.known;
+      reads = Consumes-trans r0 r1 r2 g.bytes (b ∷ []) g.reads c;
+      writes = g.writes;
+      len = omega (arith, g.len, length-append g.bytes (b ∷ []));
+      keeps = t;
+      talks = λ f more. spoken_push f b more ∙ ap (λ (l : List ℕ). g.written ++ l) (talk_more r shown move_shown k seen f p g.line b more e);
+      uses = λ more. (
+          let h = used_push b more in
+          let d = count_more r shown move_shown k seen p g.line b more e in
+          omega (arith, h, d, length-append g.bytes (b ∷ [])));
     }
 
-    pub cut_at_once : (r0 w0 w1 : Option (List ℕ)) → AppendsPart w0 w1 Turn.text → IsUnwritten r shown move_shown k seen start first r0 r0 w0 w1
-    cut_at_once r0 w0 w1 a = record {
-      bytes = [];
-      is_read = nothing_read r0;
-      writes = part_longer w0 w1 Turn.text (text_after (λ q. Talk (closing r shown move_shown k seen) q [] []) Turn.asked) a;
+    read_so_far : (r2 : Option (List ℕ)) → Keeps r1 r2 → number ≤ SESSION_BYTES → IsRead r shown move_shown k seen start first r0 r2 g.bytes
+    read_so_far r2 h few = record {
+      reads = Consumes-kept r0 r1 r2 g.bytes g.reads h;
+      few = omega (arith, g.len, few);
+      all_used = ap (used r shown move_shown k seen start first) (sym (append-nil g.bytes)) ∙ g.uses [] ∙ (
+          let h = count_end r shown move_shown k seen p g.line in omega (arith, h));
     }
 
-    module _ {number : ℕ} {r0 r1 w0 w1 : Option (List ℕ)} {p : Position} {kept : List ℕ} (g : GoesOn number r0 r1 w0 w1 p kept) where
-      abbrev Pushed : ℕ → List ℕ → List ℕ
-      Pushed b more = (g.bytes ++ b ∷ []) ++ more
-
-      spoken_push : (f : Position → List ℕ → List ℕ) (b : ℕ) (more : List ℕ) → Spoken f (Pushed b more) ≡ g.written ++ Talk f p g.line (b ∷ more)
-      spoken_push f b more = ap (Spoken f) (append_assoc g.bytes (b ∷ []) more) ∙ g.talks f (b ∷ more)
-
-      used_push : (b : ℕ) (more : List ℕ) → Used (Pushed b more) ≡ length g.bytes + Count p g.line (b ∷ more)
-      used_push b more = ap Used (append_assoc g.bytes (b ∷ []) more) ∙ g.uses (b ∷ more)
-
-      -- a byte of a line
-      pub goes_on : (r2 : Option (List ℕ)) (b : ℕ) (kept2 : List ℕ) → Consumes r1 r2 (b ∷ []) → (b == 10) ≡ false → kept2 ≡ take KEPT (g.line ++ b ∷ []) →
-          GoesOn (number + 1) r0 r2 w0 w1 p kept2
-      goes_on r2 b kept2 c e t = record {
-        bytes = g.bytes ++ b ∷ [];
-        written = g.written;
-        line = g.line ++ b ∷ [];
-        reads = Consumes-trans r0 r1 r2 g.bytes (b ∷ []) g.reads c;
-        writes = g.writes;
-        len = omega (arith, g.len, length-append g.bytes (b ∷ []));
-        keeps = t;
-        talks = λ f more. spoken_push f b more ∙ ap (λ (l : List ℕ). g.written ++ l) (talk_more f p g.line b more e);
-        uses = λ more. (let h = used_push b more in let d = count_more p g.line b more e in omega (arith, h, d, length-append g.bytes (b ∷ [])));
-      }
-
-      -- a line that is answered, and the next question
-      pub next_line : (r2 w2 : Option (List ℕ)) (b : ℕ) (q : Position) → Consumes r1 r2 (b ∷ []) → (b == 10) ≡ true → Says w1 w2 (Reply p g.line) (Some q) →
-          GoesOn (number + 1) r0 r2 w0 w2 q []
-      next_line r2 w2 b q c e (o, a) = record {
-        bytes = g.bytes ++ b ∷ [];
-        written = g.written ++ (Reply p g.line).text;
-        line = [];
-        reads = Consumes-trans r0 r1 r2 g.bytes (b ∷ []) g.reads c;
-        writes = Appends-trans w0 w1 w2 g.written (Reply p g.line).text g.writes a;
-        len = omega (arith, g.len, length-append g.bytes (b ∷ []));
-        keeps = grind arith;
-        talks = λ f more. spoken_push f b more ∙ ap (λ (l : List ℕ). g.written ++ l)
-            (talk_line f p g.line b more e ∙ asked_text (Reply p g.line) (λ s. Talk f s [] more) q o)
-            ∙ sym (append_assoc g.written (Reply p g.line).text (Talk f q [] more));
-        uses = λ more. (
-            let h = used_push b more in
-            let d = count_line p g.line b more e in
-            let t : count_after (λ s. Count s [] more) (Reply p g.line).asked ≡ Count q [] more = ap (count_after (λ s. Count s [] more)) (sym o) in
-            omega (arith, h, d, t, length-append g.bytes (b ∷ [])));
-      }
-
-      read_so_far : (r2 : Option (List ℕ)) → Keeps r1 r2 → number ≤ SESSION_BYTES → IsRead r shown move_shown k seen start first r0 r2 g.bytes
-      read_so_far r2 h few = record {
-        reads = Consumes-kept r0 r1 r2 g.bytes g.reads h;
-        few = omega (arith, g.len, few);
-        all_used = ap Used (sym (append-nil g.bytes)) ∙ g.uses [] ∙ (let h = count_end p g.line in omega (arith, h));
-      }
-
-      read_one_more : (r2 : Option (List ℕ)) (b : ℕ) → Consumes r1 r2 (b ∷ []) → number + 1 ≤ SESSION_BYTES → IsRead r shown move_shown k seen start first
-          r0 r2 (g.bytes ++ b ∷ [])
-      read_one_more r2 b c few = record {
+    -- a line that is answered
+    pub answers : (r2 : Option (List ℕ)) (b : ℕ) → Consumes r1 r2 (b ∷ []) → (b == 10) ≡ true → number + 1 ≤ SESSION_BYTES → Answers r shown move_shown k seen
+        start first (number + 1) r0 r2 w0 w1 (reply r shown move_shown k seen p g.line)
+    answers r2 b c e few = record {
+      bytes = g.bytes ++ b ∷ [];
+      written = g.written;
+      is_read = record {
         reads = Consumes-trans r0 r1 r2 g.bytes (b ∷ []) g.reads c;
         few = omega (arith, g.len, few, length-append g.bytes (b ∷ []));
-        all_used = g.uses (b ∷ []) ∙ (let h = count_one p g.line b (b == 10) refl in omega (arith, h, length-append g.bytes (b ∷ [])));
-      }
+        all_used = g.uses (b ∷ []) ∙ (let h = count_one r shown move_shown k seen p g.line b true e in omega (arith, h, length-append g.bytes (b ∷ [])));
+      };
+      writes = g.writes;
+      len = omega (arith, g.len, length-append g.bytes (b ∷ []));
+      talks = λ f more. spoken_push f b more ∙ ap (λ (l : List ℕ). g.written ++ l) (talk_line r shown move_shown k seen f p g.line b more e);
+      uses = λ more. (
+          let h = used_push b more in
+          let d = count_line r shown move_shown k seen p g.line b more e in
+          omega (arith, h, d, length-append g.bytes (b ∷ [])));
+    }
 
-      -- the line that ends the session
-      pub last_line : (r2 w2 : Option (List ℕ)) (b : ℕ) → Consumes r1 r2 (b ∷ []) → (b == 10) ≡ true → number + 1 ≤ SESSION_BYTES → Says w1 w2
-          (Reply p g.line) None
-          → IsSession r shown move_shown k seen start first r0 r2 w0 w2
-      last_line r2 w2 b c e few (o, a) =
-          let f = closing r shown move_shown k seen in
-          let said : Spoken f (g.bytes ++ b ∷ []) ≡ g.written ++ (Reply p g.line).text =
-          g.talks f (b ∷ []) ∙ ap (λ (l : List ℕ). g.written ++ l) (talk_line f p g.line b [] e ∙ ended_text (Reply p g.line) (λ s. Talk f s [] []) o) in
-          record {
-            bytes = g.bytes ++ b ∷ [];
-            is_read = read_one_more r2 b c few;
-            writes = text_is w0 w2 (g.written ++ (Reply p g.line).text) (Spoken f (g.bytes ++ b ∷ [])) (sym said)
-                (Appends-trans w0 w1 w2 g.written (Reply p g.line).text g.writes a);
-            end = inl (λ more. (
-                let h = used_push b more in
-                let d = count_line p g.line b more e in
-                let t : count_after (λ s. Count s [] more) (Reply p g.line).asked ≡ 0 = ap (count_after (λ s. Count s [] more)) (sym o) in
-                omega (arith, h, d, t, length-append g.bytes (b ∷ []))));
-          }
+    -- an error in reading
+    pub read_fails : (r2 : Option (List ℕ)) → Keeps r1 r2 → number ≤ SESSION_BYTES → IsUnread r shown move_shown k seen start first r0 r2 w0 w1
+    read_fails r2 h few = record {
+      bytes = g.bytes;
+      is_read = read_so_far r2 h few;
+      writes = text_is w0 w1 g.written (Whole waiting g.bytes) (sym (append-nil g.written) ∙ spoken_here waiting) g.writes;
+    }
+
+    -- one byte too many
+    pub too_long : (r2 : Option (List ℕ)) (b : ℕ) → Consumes r1 r2 (b ∷ []) → number ≡ SESSION_BYTES → IsTooLong r shown move_shown k seen start first r0 r2
+        w0 w1
+    too_long r2 b c many = record {
+      bytes = g.bytes;
+      last = b;
+      reads = Consumes-trans r0 r1 r2 g.bytes (b ∷ []) g.reads c;
+      many = g.len ∙ many;
+      all_used = g.uses (b ∷ []) ∙ (let h = count_one r shown move_shown k seen p g.line b (b == 10) refl in omega (arith, h, g.len, many));
+      writes = text_is w0 w1 g.written (Whole waiting g.bytes) (sym (append-nil g.written) ∙ spoken_here waiting) g.writes;
+    }
+
+    -- what is answered to the kept part of a line is the answer to the line
+    module _ (t : IsShown r shown move_shown) (legal : r.is_legal p ≡ true) where
+      pub hears : (line : List ℕ) → line ≡ kept → {text : List ℕ} {asked : Option Position} → Speaks r k (reply r shown move_shown k seen p line) text asked
+          → Speaks r k (reply r shown move_shown k seen p g.line) text asked
+      hears line e {text} {asked} h = subst (λ (s : Said). Speaks r k s text asked)
+          (ap (reply r shown move_shown k seen p) (e ∙ g.keeps) ∙ heard r shown move_shown t k seen p legal g.line) h
+
+      closes : (line text : List ℕ) → line ≡ kept → text ≡ closing r shown move_shown k seen p line → g.written ++ text ≡ Whole
+          (closing r shown move_shown k seen) g.bytes
+      closes line text e h = ap (λ (l : List ℕ). g.written ++ l)
+          (h ∙ ap (closing r shown move_shown k seen p) (e ∙ g.keeps) ∙ closed r shown move_shown t k seen p legal g.line)
+          ∙ spoken_here (closing r shown move_shown k seen)
 
       -- the end of the input
-      pub input_ends : (r2 w2 : Option (List ℕ)) → Keeps r1 r2 → IsAtEnd r2 → number ≤ SESSION_BYTES → Appends w1 w2
-          (closing r shown move_shown k seen p g.line) → IsSession r shown move_shown k seen start first r0 r2 w0 w2
-      input_ends r2 w2 h d few a =
-          let f = closing r shown move_shown k seen in
-          let said : Spoken f g.bytes ≡ g.written ++ f p g.line = ap (Spoken f) (sym (append-nil g.bytes)) ∙ g.talks f [] ∙ ap
-          (λ (l : List ℕ). g.written ++ l) (talk_end f p g.line) in
-          record {
-            bytes = g.bytes;
-            is_read = read_so_far r2 h few;
-            writes = text_is w0 w2 (g.written ++ f p g.line) (Spoken f g.bytes) (sym said) (Appends-trans w0 w1 w2 g.written (f p g.line) g.writes a);
-            end = inr d;
-          }
+      module _ (line text : List ℕ) (e : line ≡ kept) (h : text ≡ closing r shown move_shown k seen p line) (r2 w2 : Option (List ℕ))
+          (few : number ≤ SESSION_BYTES) (keeps : Keeps r1 r2) where
+        pub input_ends : IsAtEnd r2 → Appends w1 w2 text → IsSession r shown move_shown k seen start first r0 r2 w0 w2
+        input_ends d a = record {
+          bytes = g.bytes;
+          is_read = read_so_far r2 keeps few;
+          writes = text_is w0 w2 (g.written ++ text) (Whole (closing r shown move_shown k seen) g.bytes) (closes line text e h)
+              (Appends-trans w0 w1 w2 g.written text g.writes a);
+          end = inr d;
+        }
 
-      -- errors: in reading
-      pub read_fails : (r2 : Option (List ℕ)) → Keeps r1 r2 → number ≤ SESSION_BYTES → IsUnread r shown move_shown k seen start first r0 r2 w0 w1
-      read_fails r2 h few =
-          let said : Spoken waiting g.bytes ≡ g.written = ap (Spoken waiting) (sym (append-nil g.bytes)) ∙ g.talks waiting [] ∙ ap
-          (λ (l : List ℕ). g.written ++ l) (talk_end waiting p g.line) ∙ append-nil g.written in
-          record { bytes = g.bytes; is_read = read_so_far r2 h few; writes = text_is w0 w1 g.written (Spoken waiting g.bytes) (sym said) g.writes }
-
-      -- in writing at the end of the input
-      pub close_fails : (r2 w2 : Option (List ℕ)) → Keeps r1 r2 → number ≤ SESSION_BYTES → AppendsPart w1 w2 (closing r shown move_shown k seen p g.line) →
-          IsUnwritten r shown move_shown k seen start first r0 r2 w0 w2
-      close_fails r2 w2 h few a =
-          let f = closing r shown move_shown k seen in
-          let said : Spoken f g.bytes ≡ g.written ++ f p g.line = ap (Spoken f) (sym (append-nil g.bytes)) ∙ g.talks f [] ∙ ap
-          (λ (l : List ℕ). g.written ++ l) (talk_end f p g.line) in
-          record {
-            bytes = g.bytes;
-            is_read = read_so_far r2 h few;
-            writes = part_is w0 w2 (g.written ++ f p g.line) (Spoken f g.bytes) (sym said)
-                (part_after w0 w1 w2 g.written (f p g.line) g.writes a);
-          }
-
-      -- in writing after a line
-      pub reply_fails : (r2 w2 : Option (List ℕ)) (b : ℕ) → Consumes r1 r2 (b ∷ []) → (b == 10) ≡ true → number + 1 ≤ SESSION_BYTES → AppendsPart w1 w2
-          (Reply p g.line).text → IsUnwritten r shown move_shown k seen start first r0 r2 w0 w2
-      reply_fails r2 w2 b c e few a =
-          let f = closing r shown move_shown k seen in
-          let rest = text_after (λ s. Talk f s [] []) (Reply p g.line).asked in
-          let said : Spoken f (g.bytes ++ b ∷ []) ≡ g.written ++ ((Reply p g.line).text ++ rest) = g.talks f (b ∷ []) ∙ ap (λ (l : List ℕ). g.written ++ l)
-          (talk_line f p g.line b [] e) in
-          record {
-            bytes = g.bytes ++ b ∷ [];
-            is_read = read_one_more r2 b c few;
-            writes = part_is w0 w2 (g.written ++ ((Reply p g.line).text ++ rest)) (Spoken f (g.bytes ++ b ∷ [])) (sym said)
-                (part_after w0 w1 w2 g.written ((Reply p g.line).text ++ rest) g.writes (part_longer w1 w2 (Reply p g.line).text rest a));
-          }
-
-      -- one byte too many
-      pub too_long : (r2 : Option (List ℕ)) (b : ℕ) → Consumes r1 r2 (b ∷ []) → number ≡ SESSION_BYTES → IsTooLong r shown move_shown k seen start first r0
-          r2 w0 w1
-      too_long r2 b c many =
-          let said : Spoken waiting g.bytes ≡ g.written = ap (Spoken waiting) (sym (append-nil g.bytes)) ∙ g.talks waiting [] ∙ ap
-          (λ (l : List ℕ). g.written ++ l) (talk_end waiting p g.line) ∙ append-nil g.written in
-          record {
-            bytes = g.bytes;
-            last = b;
-            reads = Consumes-trans r0 r1 r2 g.bytes (b ∷ []) g.reads c;
-            many = g.len ∙ many;
-            all_used = g.uses (b ∷ []) ∙ (let h = count_one p g.line b (b == 10) refl in omega (arith, h, g.len, many));
-            writes = text_is w0 w1 g.written (Spoken waiting g.bytes) (sym said) g.writes;
-          }
-
-module _ (r : Rules) (shown : Position → List ℕ) (move_shown : Position → ℕ → List ℕ) (k : Advice) (seen : Question → Position → List ℕ) (start : Position)
-    (first : Side) where
-  -- the output fails, for either of its two reasons
-  pub broken_output : (e : SessionError) (r0 r1 w0 w1 : Option (List ℕ)) → IsOfOutput e → IsUnwritten r shown move_shown k seen start first r0 r1 w0 w1
-      → IsBroken r shown move_shown k seen start first e r0 r1 w0 w1
-  broken_output ReadFailed r0 r1 w0 w1 is h = absurd is
-  broken_output WriteFailed r0 r1 w0 w1 is h = h
-  broken_output TooMuchInput r0 r1 w0 w1 is h = absurd is
-  broken_output OutputClosed r0 r1 w0 w1 is h = h
+        pub close_fails : (x : SessionError) → IsOfOutput x × AppendsPart w1 w2 text → IsBroken r shown move_shown k seen start first x r0 r2 w0 w2
+        close_fails x (of, a) = broken_output r shown move_shown k seen start first x r0 r2 w0 w2 of record {
+          bytes = g.bytes;
+          is_read = read_so_far r2 keeps few;
+          writes = part_is w0 w2 (g.written ++ text) (Whole (closing r shown move_shown k seen) g.bytes) (closes line text e h)
+              (part_after w0 w1 w2 g.written text g.writes a);
+        }

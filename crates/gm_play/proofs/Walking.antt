@@ -18,7 +18,7 @@ best_push : (r : Rules) (p : Position) (ms : List ℕ) (m : ℕ) → AreBest r p
 best_push r p [] m h b = (b, tt)
 best_push r p (n ∷ ns) m h b = (h.0, best_push r (r.play p n) ns m h.1 b)
 
-after_push : (r : Rules) (p : Position) (ms : List ℕ) (m : ℕ) → position_after r p (ms ++ m ∷ []) ≡ r.play (position_after r p ms) m
+pub after_push : (r : Rules) (p : Position) (ms : List ℕ) (m : ℕ) → position_after r p (ms ++ m ∷ []) ≡ r.play (position_after r p ms) m
 after_push r p [] m = refl
 after_push r p (n ∷ ns) m = after_push r (r.play p n) ns m
 

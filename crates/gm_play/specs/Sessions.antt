@@ -1,11 +1,11 @@
 -- The input and the output of a session.
-use Rattle.std.specs.Prelude.{◌≡◌, ℕ, ◌+◌, ◌≤◌, ◌⊎◌, List, [], ◌∷◌, ◌++◌, length, Option, None, Some}
+use Rattle.std.specs.Prelude.{◌≡◌, ℕ, ◌+◌, ◌≤◌, ◌⊎◌, List, [], ◌∷◌, ◌++◌, length, Option, None, Some, IfSome}
 use Rattle.gm_play.specs.Lower.{Keeps, Appends, Position, Rules}
 use Rattle.std.specs.Io.KnownBytes.{Consumes, IsAtEnd}
 use Rattle.gm_play.specs.declared.sides.Side.{Side}
 use Rattle.gm_play.specs.declared.session_error.SessionError.{SessionError}
 use Rattle.gm_play.specs.declared.session_error.SessionError.TheVariants.{ReadFailed, WriteFailed, TooMuchInput, OutputClosed}
-use Rattle.gm_play.specs.Dialogue.{Advice, Said, dialogue, dialogue_so_far, used}
+use Rattle.gm_play.specs.Dialogue.{Advice, Said, IsKnown, dialogue, dialogue_so_far, used}
 use Rattle.gm_play.specs.declared.view.Question.{Question}
 
 -- the most bytes that one session reads
@@ -21,9 +21,14 @@ ReadsByte old new (Some b) = Consumes old new (b ∷ [])
 abbrev pub AppendsPart : Option (List ℕ) → Option (List ℕ) → List ℕ → Type 0
 AppendsPart old new text = (done rest : List ℕ) × (text ≡ done ++ rest) × Appends old new done
 
--- this part of a dialogue is written, and it ends with this question
-abbrev pub Says : Option (List ℕ) → Option (List ℕ) → Said → Option Position → Type 0
-Says old new said asked = (asked ≡ said.asked) × Appends old new said.text
+-- the position of a question, if one is asked
+abbrev pub asked_at : {T : Type 0} → Option T → (T → Position) → Option Position
+asked_at None f = None
+asked_at (Some x) f = Some (f x)
+
+-- this text and this question are a part of a dialogue, and the look-up holds from the question's position too
+abbrev pub Speaks : Rules → Advice → Said → List ℕ → Option Position → Type 0
+Speaks r k said text asked = (text ≡ said.text) × (asked ≡ said.asked) × IfSome asked (λ q. IsKnown r q.tier k)
 
 module _ (r : Rules) (shown : Position → List ℕ) (move_shown : Position → ℕ → List ℕ) (k : Advice) (seen : Question → Position → List ℕ) (start : Position)
     (first : Side) where

@@ -10,7 +10,7 @@ ghost use Rattle.gm_play.specs.Sessions.{IsSession, IsBroken};
 use crate::known::Known;
 use crate::session_error::SessionError;
 use crate::sides::Side;
-use crate::streams::read_byte;
+use crate::streams::{read_byte, say};
 use crate::turns::{close, reply, turn};
 use crate::view::{Plain, View};
 use arrayvec::ArrayVec;
@@ -111,36 +111,28 @@ fn converse<G: Shown, V: View<G>, R: Read, W: Write>(
         → IfErr result (λ e. IsBroken G.Game.rules G.shown G.move_shown k V.seen start.now.position first e (R.remaining input.old) (R.remaining input.new)
         (W.contents output.old) (W.contents output.new)) }
 {
-    let mut asked = match turn::<G, V, W>(start, first, output) {
-        Ok(Some(p)) => p,
-        Ok(None) => return Ok(()),
-        Err(unwritten) => return Err(unwritten.of_session()),
+    let part = turn::<G, V>(start, first);
+    say(output, part.text.as_slice())?;
+    let Some(mut asked) = part.asked else {
+        return Ok(());
     };
     let mut line = ArrayVec::<u8, KEPT>::new();
     for count in 0..SESSION_BYTES + 1 {
-        let here = Known {
-            tables: start.tables,
-            position: asked,
-        };
         let byte = match read_byte(input) {
             Ok(Some(byte)) => byte,
-            Ok(None) => {
-                return match close::<G, V, W>(&here, &line, output) {
-                    Ok(()) => Ok(()),
-                    Err(unwritten) => Err(unwritten.of_session()),
-                };
-            }
+            Ok(None) => return say(output, close::<G, V>(&asked, &line).as_slice()),
             Err(_) => return Err(SessionError::ReadFailed),
         };
         if count == SESSION_BYTES {
             return Err(SessionError::TooMuchInput);
         }
         if byte == b'\n' {
-            match reply::<G, V, W>(&here, &line, output) {
-                Ok(Some(next)) => asked = next,
-                Ok(None) => return Ok(()),
-                Err(unwritten) => return Err(unwritten.of_session()),
-            }
+            let part = reply::<G, V>(&asked, &line);
+            say(output, part.text.as_slice())?;
+            let Some(next) = part.asked else {
+                return Ok(());
+            };
+            asked = next;
             line.clear();
         } else if !line.is_full() {
             line.push(byte);

@@ -1,12 +1,10 @@
 //! Reading bytes, and writing texts.
-ghost use Rattle.std.specs.Prelude.{◌≡◌, ◌<◌, ◌+◌, ◌++◌, codes, length, OnOk, OnErr, IfOk};
+ghost use Rattle.std.specs.Prelude.{◌≡◌, OnOk, OnErr, IfOk, IfErr};
 ghost use Rattle.gm_play.specs.Lower.{Keeps, Appends};
 ghost use Rattle.gm_play.specs.Dialogue.{without_return as without_return_spec};
 ghost use Rattle.gm_play.specs.Sessions.{ReadsByte, AppendsPart, IsOfOutput};
 
 use crate::session_error::SessionError;
-use arrayvec::ArrayVec;
-use gm_game::limits::LINE;
 use std::io::{self, ErrorKind, Read, Write};
 
 /// Reads the next byte, or returns `None` at the end of the input. Reads no further byte.
@@ -48,65 +46,14 @@ pub fn write_text<W: Write>(output: &mut W, text: &[u8]) -> io::Result<()>
     Ok(())
 }
 
-/// The reason why a text was not written completely.
-#[derive(Clone, Copy, Debug)]
-pub(crate) enum Unwritten {
-    Failed,
-    /// The reader has closed the output.
-    Closed,
-}
-
-impl Unwritten {
-    /// Returns the error of the session that the text belongs to.
-    pub(crate) fn of_session(self) -> SessionError
-        ensures { IsOfOutput result }
-    {
-        match self {
-            Unwritten::Failed => SessionError::WriteFailed,
-            Unwritten::Closed => SessionError::OutputClosed,
-        }
-    }
-}
-
 /// Writes all of a text of a session. After an error a prefix of it is written.
-pub(crate) fn say<W: Write>(output: &mut W, text: &[u8]) -> Result<(), Unwritten>
+pub(crate) fn say<W: Write>(output: &mut W, text: &[u8]) -> Result<(), SessionError>
     ensures ok { OnOk result (Appends (W.contents output.old) (W.contents output.new) text.now) }
-    ensures err { OnErr result (AppendsPart (W.contents output.old) (W.contents output.new) text.now) }
+    ensures err { IfErr result (λ e. IsOfOutput e × AppendsPart (W.contents output.old) (W.contents output.new) text.now) }
 {
     match write_text(output, text) {
         Ok(()) => Ok(()),
-        Err(error) if error.kind() == ErrorKind::BrokenPipe => Err(Unwritten::Closed),
-        Err(_) => Err(Unwritten::Failed),
+        Err(error) if error.kind() == ErrorKind::BrokenPipe => Err(SessionError::OutputClosed),
+        Err(_) => Err(SessionError::WriteFailed),
     }
-}
-
-/// The most bytes of a line: two texts, the text between them, and the line end.
-const WIDTH: usize = 2 * LINE + 16;
-
-/// Writes a line of three texts. Makes only one call if the writer accepts the whole line. After an error a prefix of the line is
-/// written.
-pub(crate) fn write_line<W: Write>(
-    output: &mut W,
-    front: &[u8],
-    between: &[u8],
-    back: &[u8],
-) -> Result<(), Unwritten>
-    requires { length front.now + length between.now + length back.now < WIDTH }
-    ensures ok { OnOk result (Appends (W.contents output.old) (W.contents output.new) (front.now ++ between.now ++ back.now ++ codes "\n")) }
-    ensures err { OnErr result (AppendsPart (W.contents output.old) (W.contents output.new) (front.now ++ between.now ++ back.now ++ codes "\n")) }
-{
-    say(output, whole_line(front, between, back).as_slice())
-}
-
-// Returns the line of three texts.
-fn whole_line(front: &[u8], between: &[u8], back: &[u8]) -> ArrayVec<u8, WIDTH>
-    requires { length front.now + length between.now + length back.now < WIDTH }
-    ensures { result.items ≡ front.now ++ between.now ++ back.now ++ codes "\n" }
-{
-    let mut line = ArrayVec::new();
-    let _fits = line.try_extend_from_slice(front);
-    let _fits = line.try_extend_from_slice(between);
-    let _fits = line.try_extend_from_slice(back);
-    line.push(b'\n');
-    line
 }

@@ -1,213 +1,161 @@
 //! The turns of a session.
-ghost use Rattle.std.specs.Prelude.{◌≡◌, ◌++◌, codes, true, None, Some, OnOk, OnErr, IfOk, IfSome};
-ghost use Rattle.gm_play.specs.Lower.{Appends};
-ghost use Rattle.gm_play.specs.BestMoves.{IsBestMove};
-ghost use Rattle.gm_play.specs.Reached.{IsReached};
-ghost use Rattle.gm_play.specs.Dialogue.{Advice, IsKnown, place, persons_turn, moves_or_ends, computers_turn, turn as turn_spec, reply as reply_spec, closing};
-ghost use Rattle.gm_play.specs.Sessions.{AppendsPart, Says};
+ghost use Rattle.std.specs.Prelude.{◌≡◌, ◌≤◌, ◌+◌, ◌++◌, length};
+ghost use Rattle.gm_play.specs.Dialogue.{Advice, IsKnown, unseen, before, place, persons_turn, computers_turn, turn as turn_spec, reply as reply_spec, closing};
+ghost use Rattle.gm_play.specs.Sessions.{Speaks, asked_at};
 
 use crate::endings::over;
 use crate::known::Known;
 use crate::sides::Side;
-use crate::streams::{Unwritten, say, without_return, write_line};
-use crate::view::{Question, View};
+use crate::streams::without_return;
+use crate::view::{Question, SIGHT, View};
+use arrayvec::ArrayVec;
 use gm_game::game::Game;
-use gm_game::position::{End, Position};
+use gm_game::limits::LINE;
 use gm_game::shown::Shown;
 use gm_game::text::value_text;
-use std::io::Write;
 
-// Writes the line with a position and its value.
-fn write_place<G: Shown, V: View<G>, W: Write>(
-    known: &Known<'_, G>,
-    output: &mut W,
-) -> Result<(), Unwritten>
-    ensures ok { (k : Advice) → IsKnown G.Game.rules known.now.position.tier k
-        → OnOk result (Appends (W.contents output.old) (W.contents output.new) (place G.Game.rules G.shown G.move_shown k V.seen known.now.position)) }
-    ensures err { (k : Advice) → IsKnown G.Game.rules known.now.position.tier k
-        → OnErr result (AppendsPart (W.contents output.old) (W.contents output.new) (place G.Game.rules G.shown G.move_shown k V.seen known.now.position)) }
+// The most bytes of a line: two texts, the text between them, and the line end.
+const WIDTH: usize = 2 * LINE + 16;
+
+// The most bytes of the computer's turn.
+const FRONT: usize = 2 * WIDTH;
+
+/// The most bytes of a part of a session.
+const PART: usize = FRONT + WIDTH + SIGHT + 32;
+
+/// The most bytes of the last part of a session.
+const LAST: usize = PART + 16;
+
+/// A part of a session up to the next question: its text, and the position of the question, or `None` if the session ends.
+#[derive(Drop)]
+pub(crate) struct Part<'t, G: Game> {
+    pub text: ArrayVec<u8, PART>,
+    pub asked: Option<Known<'t, G>>,
+}
+
+// Returns the text of four texts.
+fn joined<const N: usize>(a: &[u8], b: &[u8], c: &[u8], d: &[u8]) -> ArrayVec<u8, N>
+    requires { length a.now + length b.now + length c.now + length d.now ≤ N }
+    ensures { result.items ≡ a.now ++ b.now ++ c.now ++ d.now }
+{
+    let mut text = ArrayVec::new();
+    let _fits = text.try_extend_from_slice(a);
+    let _fits = text.try_extend_from_slice(b);
+    let _fits = text.try_extend_from_slice(c);
+    let _fits = text.try_extend_from_slice(d);
+    text
+}
+
+// Returns the line with a position and its value.
+fn place_line<G: Shown>(known: &Known<'_, G>) -> ArrayVec<u8, WIDTH>
+    ensures { (k : Advice) → IsKnown G.Game.rules known.now.position.tier k
+        → result.items ≡ place G.Game.rules G.shown G.move_shown k unseen known.now.position }
 {
     let solved = known.value();
-    write_line(
-        output,
+    joined(
         G::show(known.position).as_slice(),
         b" ",
         value_text(solved).as_slice(),
+        b"\n",
     )
 }
 
-// Writes the view of a position, and asks the person for a move.
-fn ask_move<G: Shown, V: View<G>, W: Write>(
-    asked: Question,
-    p: Position,
-    output: &mut W,
-) -> Result<Option<Position>, Unwritten>
-    requires { G.Game.rules.is_legal p ≡ true }
-    ensures ok { IfOk result (λ o. (o ≡ Some p) × Appends (W.contents output.old) (W.contents output.new) (V.seen asked p ++ codes "your move?\n")) }
-    ensures err { OnErr result (AppendsPart (W.contents output.old) (W.contents output.new) (V.seen asked p ++ codes "your move?\n")) }
+// Returns the person's turn, with a text before it.
+fn persons_part<'t, G: Shown, V: View<G>>(front: &[u8], known: &Known<'t, G>) -> Part<'t, G>
+    requires { length front.now ≤ FRONT }
+    ensures { (k : Advice) → IsKnown G.Game.rules known.now.position.tier k
+        → Speaks G.Game.rules k (before front.now (persons_turn G.Game.rules G.shown G.move_shown k V.seen known.now.position)) result.text.items
+        (asked_at result.asked (λ q. q.position)) }
 {
-    say(output, V::see(asked, p).as_slice())?;
-    say(output, b"your move?\n")?;
-    Ok(Some(p))
-}
-
-// Writes the last text of a game or of a session.
-fn finish<W: Write>(output: &mut W, text: &[u8]) -> Result<Option<Position>, Unwritten>
-    ensures ok { IfOk result (λ o. (o ≡ None) × Appends (W.contents output.old) (W.contents output.new) text.now) }
-    ensures err { OnErr result (AppendsPart (W.contents output.old) (W.contents output.new) text.now) }
-{
-    say(output, text)?;
-    Ok(None)
-}
-
-// Writes the person's turn. Returns the position of the question, or `None` if the game has ended.
-fn ask<G: Shown, V: View<G>, W: Write>(
-    known: &Known<'_, G>,
-    output: &mut W,
-) -> Result<Option<Position>, Unwritten>
-    ensures ok { (k : Advice) → IsKnown G.Game.rules known.now.position.tier k
-        → IfOk result (Says (W.contents output.old) (W.contents output.new) (persons_turn G.Game.rules G.shown G.move_shown k V.seen known.now.position)) }
-    ensures err { (k : Advice) → IsKnown G.Game.rules known.now.position.tier k
-        → OnErr result (AppendsPart (W.contents output.old) (W.contents output.new)
-        (persons_turn G.Game.rules G.shown G.move_shown k V.seen known.now.position).text) }
-    ensures asked { IfOk result (λ o. IfSome o (IsReached G.Game.rules known.now.position.tier)) }
-{
-    write_place::<G, V, W>(known, output)?;
+    let place = place_line(known);
     match G::primitive(known.position) {
-        Some(end) => finish(output, over(Side::You, end)),
-        None => ask_move::<G, V, W>(Question::First, known.position, output),
+        Some(end) => Part {
+            text: joined(front, place.as_slice(), over(Side::You, end), b""),
+            asked: None,
+        },
+        None => Part {
+            text: joined(
+                front,
+                place.as_slice(),
+                V::see(Question::First, known.position).as_slice(),
+                b"your move?\n",
+            ),
+            asked: Some(*known),
+        },
     }
 }
 
-// Returns the computer's move. The game must go on.
-fn best_number<G: Game>(known: &Known<'_, G>) -> u32
-    requires { G.rules.primitive known.now.position ≡ None }
-    ensures { IsBestMove G.rules known.now.position (Some result) }
+// Returns the computer's turn, and then the person's.
+fn computers_part<'t, G: Shown, V: View<G>>(known: &Known<'t, G>) -> Part<'t, G>
+    ensures { (k : Advice) → IsKnown G.Game.rules known.now.position.tier k
+        → Speaks G.Game.rules k (computers_turn G.Game.rules G.shown G.move_shown k V.seen known.now.position) result.text.items
+        (asked_at result.asked (λ q. q.position)) }
 {
-    known.best_move().unwrap()
-}
-
-// Makes the computer's move, and then writes the person's turn. The game must go on.
-fn play_best<G: Shown, V: View<G>, W: Write>(
-    known: &Known<'_, G>,
-    output: &mut W,
-) -> Result<Option<Position>, Unwritten>
-    requires { G.Game.rules.primitive known.now.position ≡ None }
-    ensures ok { (k : Advice) → IsKnown G.Game.rules known.now.position.tier k
-        → IfOk result (Says (W.contents output.old) (W.contents output.new) (moves_or_ends G.Game.rules G.shown G.move_shown k V.seen known.now.position
-        (G.Game.rules.primitive known.now.position) (k.best known.now.position))) }
-    ensures err { (k : Advice) → IsKnown G.Game.rules known.now.position.tier k
-        → OnErr result (AppendsPart (W.contents output.old) (W.contents output.new)
-        (moves_or_ends G.Game.rules G.shown G.move_shown k V.seen known.now.position (G.Game.rules.primitive known.now.position)
-        (k.best known.now.position)).text) }
-    ensures asked { IfOk result (λ o. IfSome o (IsReached G.Game.rules known.now.position.tier)) }
-{
-    let m = best_number(known);
-    write_line(
-        output,
-        b"computer",
-        b": ",
-        G::move_text(known.position, m).as_slice(),
-    )?;
-    ask::<G, V, W>(&known.play(m), output)
-}
-
-// Writes the computer's turn, and then the person's.
-fn move_and_ask<G: Shown, V: View<G>, W: Write>(
-    known: &Known<'_, G>,
-    output: &mut W,
-) -> Result<Option<Position>, Unwritten>
-    ensures ok { (k : Advice) → IsKnown G.Game.rules known.now.position.tier k
-        → IfOk result (Says (W.contents output.old) (W.contents output.new) (computers_turn G.Game.rules G.shown G.move_shown k V.seen known.now.position)) }
-    ensures err { (k : Advice) → IsKnown G.Game.rules known.now.position.tier k
-        → OnErr result (AppendsPart (W.contents output.old) (W.contents output.new)
-        (computers_turn G.Game.rules G.shown G.move_shown k V.seen known.now.position).text) }
-    ensures asked { IfOk result (λ o. IfSome o (IsReached G.Game.rules known.now.position.tier)) }
-{
-    write_place::<G, V, W>(known, output)?;
+    let place = place_line(known);
     match G::primitive(known.position) {
-        Some(end) => finish(output, over(Side::Computer, end)),
-        None => play_best::<G, V, W>(known, output),
+        Some(end) => Part {
+            text: joined(place.as_slice(), over(Side::Computer, end), b"", b""),
+            asked: None,
+        },
+        None => {
+            let m = known.best_move().unwrap();
+            let text = G::move_text(known.position, m);
+            let front = joined::<FRONT>(place.as_slice(), b"computer: ", text.as_slice(), b"\n");
+            persons_part::<G, V>(front.as_slice(), &known.play(m))
+        }
     }
 }
 
-/// Writes the turn of the side to move, and after the computer's turn the person's. Returns the position of the question, or `None`
-/// if the game has ended.
-pub(crate) fn turn<G: Shown, V: View<G>, W: Write>(
-    known: &Known<'_, G>,
-    side: Side,
-    output: &mut W,
-) -> Result<Option<Position>, Unwritten>
-    ensures ok { (k : Advice) → IsKnown G.Game.rules known.now.position.tier k
-        → IfOk result (Says (W.contents output.old) (W.contents output.new) (turn_spec G.Game.rules G.shown G.move_shown k V.seen known.now.position side)) }
-    ensures err { (k : Advice) → IsKnown G.Game.rules known.now.position.tier k
-        → OnErr result (AppendsPart (W.contents output.old) (W.contents output.new)
-        (turn_spec G.Game.rules G.shown G.move_shown k V.seen known.now.position side).text) }
-    ensures asked { IfOk result (λ o. IfSome o (IsReached G.Game.rules known.now.position.tier)) }
+/// Returns the turn of the side to move, and after the computer's turn the person's.
+pub(crate) fn turn<'t, G: Shown, V: View<G>>(known: &Known<'t, G>, side: Side) -> Part<'t, G>
+    ensures { (k : Advice) → IsKnown G.Game.rules known.now.position.tier k
+        → Speaks G.Game.rules k (turn_spec G.Game.rules G.shown G.move_shown k V.seen known.now.position side) result.text.items
+        (asked_at result.asked (λ q. q.position)) }
 {
     match side {
-        Side::You => ask::<G, V, W>(known, output),
-        Side::Computer => move_and_ask::<G, V, W>(known, output),
+        Side::You => persons_part::<G, V>(b"", known),
+        Side::Computer => computers_part::<G, V>(known),
     }
 }
 
-// Writes that a line is not a move, and asks again.
-fn ask_again<G: Shown, V: View<G>, W: Write>(
-    p: Position,
-    output: &mut W,
-) -> Result<Option<Position>, Unwritten>
-    requires { G.Game.rules.is_legal p ≡ true }
-    ensures ok { IfOk result (λ o. (o ≡ Some p) × Appends (W.contents output.old) (W.contents output.new)
-        (codes "not a move\n" ++ V.seen Question.Again p ++ codes "your move?\n")) }
-    ensures err { OnErr result (AppendsPart (W.contents output.old) (W.contents output.new)
-        (codes "not a move\n" ++ V.seen Question.Again p ++ codes "your move?\n")) }
-{
-    say(output, b"not a move\n")?;
-    ask_move::<G, V, W>(Question::Again, p, output)
-}
-
-/// Answers a line. Returns the position of the next question, or `None` if the session has ended.
-pub(crate) fn reply<G: Shown, V: View<G>, W: Write>(
-    known: &Known<'_, G>,
-    line: &[u8],
-    output: &mut W,
-) -> Result<Option<Position>, Unwritten>
-    ensures ok { (k : Advice) → IsKnown G.Game.rules known.now.position.tier k
-        → IfOk result (Says (W.contents output.old) (W.contents output.new)
-        (reply_spec G.Game.rules G.shown G.move_shown k V.seen known.now.position line.now)) }
-    ensures err { (k : Advice) → IsKnown G.Game.rules known.now.position.tier k
-        → OnErr result (AppendsPart (W.contents output.old) (W.contents output.new)
-        (reply_spec G.Game.rules G.shown G.move_shown k V.seen known.now.position line.now).text) }
-    ensures asked { IfOk result (λ o. IfSome o (IsReached G.Game.rules known.now.position.tier)) }
+/// Returns the answer to a line.
+pub(crate) fn reply<'t, G: Shown, V: View<G>>(known: &Known<'t, G>, line: &[u8]) -> Part<'t, G>
+    ensures { (k : Advice) → IsKnown G.Game.rules known.now.position.tier k
+        → Speaks G.Game.rules k (reply_spec G.Game.rules G.shown G.move_shown k V.seen known.now.position line.now) result.text.items
+        (asked_at result.asked (λ q. q.position)) }
 {
     let text = without_return(line);
     if text == b"quit".as_slice() {
-        return finish(output, b"bye\n");
+        return Part {
+            text: joined(b"bye\n", b"", b"", b""),
+            asked: None,
+        };
     }
     match G::read_move(known.position, text) {
-        Some(m) => move_and_ask::<G, V, W>(&known.play(m), output),
-        None => ask_again::<G, V, W>(known.position, output),
+        Some(m) => computers_part::<G, V>(&known.play(m)),
+        None => Part {
+            text: joined(
+                b"not a move\n",
+                V::see(Question::Again, known.position).as_slice(),
+                b"your move?\n",
+                b"",
+            ),
+            asked: Some(*known),
+        },
     }
 }
 
-/// Answers the bytes after the last line end as a last line, and ends the session.
-pub(crate) fn close<G: Shown, V: View<G>, W: Write>(
-    known: &Known<'_, G>,
-    line: &[u8],
-    output: &mut W,
-) -> Result<(), Unwritten>
-    ensures ok { (k : Advice) → IsKnown G.Game.rules known.now.position.tier k
-        → OnOk result (Appends (W.contents output.old) (W.contents output.new)
-        (closing G.Game.rules G.shown G.move_shown k V.seen known.now.position line.now)) }
-    ensures err { (k : Advice) → IsKnown G.Game.rules known.now.position.tier k
-        → OnErr result (AppendsPart (W.contents output.old) (W.contents output.new)
-        (closing G.Game.rules G.shown G.move_shown k V.seen known.now.position line.now)) }
+/// Returns the answer to the bytes after the last line end, as a last line, and the end of the session.
+pub(crate) fn close<G: Shown, V: View<G>>(known: &Known<'_, G>, line: &[u8]) -> ArrayVec<u8, LAST>
+    ensures { (k : Advice) → IsKnown G.Game.rules known.now.position.tier k
+        → result.items ≡ closing G.Game.rules G.shown G.move_shown k V.seen known.now.position line.now }
 {
     if line.is_empty() {
-        return say(output, b"input ended\n");
+        return joined(b"input ended\n", b"", b"", b"");
     }
-    match reply::<G, V, W>(known, line, output)? {
-        Some(_) => say(output, b"input ended\n"),
-        None => Ok(()),
+    let part = reply::<G, V>(known, line);
+    match part.asked {
+        Some(_) => joined(part.text.as_slice(), b"input ended\n", b"", b""),
+        None => joined(part.text.as_slice(), b"", b"", b""),
     }
 }

@@ -1,2 +1,3 @@
 pub mod PongRules
+pub mod PongPicture
 pub mod laws

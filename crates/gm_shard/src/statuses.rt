@@ -97,11 +97,9 @@ fn number_of_status(status: Status) -> u32
 fn status_of(number: u32) -> Status
     ensures { result ≡ status_of number }
 {
-    if number == UNDECIDED {
-        return Status::Undecided;
-    }
     match unpacked(number) {
-        None => Status::Hole,
         Some(solved) => Status::Settled(solved),
+        None if number == UNDECIDED => Status::Undecided,
+        None => Status::Hole,
     }
 }

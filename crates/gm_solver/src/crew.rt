@@ -135,8 +135,8 @@ impl<
         }
     }
 
-    // Walks a piece's pairs once, while no lock is held, and delivers them shard by shard. A pair that is refused as too far is missing at the end of the
-    // level, and the coordinator finds it.
+    // Walks a piece's pairs once, while no lock is held, and delivers them shard by shard. Each worker begins with another shard, so that they wait less for
+    // one another's locks. A pair that is refused as too far is missing at the end of the level, and the coordinator finds it.
     fn walk<R: Wait>(
         &self,
         rt: &R,
@@ -149,7 +149,8 @@ impl<
         ensures { shares.new.parts ≡ shares.old.parts }
     {
         split(self.job, piece, lists)?;
-        for shard in 0..4 {
+        for turn in 0..4 {
+            let shard = (worker % 4 + turn) % 4;
             self.deliver(rt, worker, shard, piece, lists[shard].as_slice(), shares);
         }
         Ok(())

@@ -8,7 +8,10 @@ use gm_game::limits::TIER_SIZE;
 use gm_shard::status::Start;
 
 // Up to this many start values are looked at to find where a tier is cut.
-const SAMPLES: usize = 65_536;
+const SAMPLES: usize = 32_768;
+
+// An index at which the game goes on takes about as long as this many others.
+const WEIGHT: usize = 4;
 
 /// The first index of each of four tiles but the first, which begins at 0.
 #[derive(Clone, Copy)]
@@ -32,15 +35,15 @@ impl Cuts {
         }
     }
 
-    /// Returns cuts into this many tiles, each with about as many indexes at which the game goes on: so the shards get about as many deliveries each. In the
-    /// tiles past this number the game goes on at no index.
+    /// Returns cuts into this many tiles that take about as long each. An index at which the game goes on counts as `WEIGHT` others, since it gets deliveries;
+    /// all are begun and read at the end. The tiles past this number have no index.
     pub(crate) fn balanced<G: Game>(tier: u64, starts: &[Start], shards: usize) -> Cuts
         requires whole { length starts.now ≡ G.rules.tier_size tier }
         requires small { G.rules.tier_size tier ≤ TIER_SIZE }
         requires some { 0 < shards }
         ensures { AreCuts G.rules tier result }
     {
-        let share = sampled(starts).div_ceil(shards).max(1);
+        let share = weight_of(starts).div_ceil(shards).max(1);
         let b = end_of(starts, share);
         let c = end_of(starts, share.saturating_mul(2)).max(b);
         let d = end_of(starts, share.saturating_mul(3)).max(c);
@@ -86,40 +89,36 @@ fn step_of(starts: &[Start]) -> usize
     (starts.len() / SAMPLES).saturating_add(1)
 }
 
-// Returns the number of samples at which the game goes on.
-fn sampled(starts: &[Start]) -> usize {
-    let mut number = 0usize;
+// Returns the weight of all samples.
+fn weight_of(starts: &[Start]) -> usize {
+    let mut sum = 0usize;
     for start in starts.iter().step_by(step_of(starts)) {
-        if is_inner(*start) {
-            number = number.saturating_add(1);
-        }
+        sum = sum.saturating_add(weight(*start));
     }
-    number
+    sum
 }
 
-// Returns the index of the sample that comes after this many at which the game goes on, and is one itself, or the number of start values.
+// Returns the index of the first sample up to which the samples, itself included, weigh more than this, or the number of start values.
 fn end_of(starts: &[Start], wanted: usize) -> u64
     ensures { result ≤ length starts.now }
 {
     let step = step_of(starts);
-    let mut number = 0usize;
+    let mut sum = 0usize;
     let mut index = 0usize;
     for start in starts.iter().step_by(step) {
-        if is_inner(*start) {
-            number = number.saturating_add(1);
-            if number > wanted {
-                return index.min(starts.len()) as u64;
-            }
+        sum = sum.saturating_add(weight(*start));
+        if sum > wanted {
+            return index.min(starts.len()) as u64;
         }
         index = index.saturating_add(step);
     }
     starts.len() as u64
 }
 
-// Returns whether the game goes on at an index.
-fn is_inner(start: Start) -> bool {
+// Returns the weight of an index.
+fn weight(start: Start) -> usize {
     match start {
-        Start::Inner { children: _ } => true,
-        Start::Hole | Start::Ended(_) => false,
+        Start::Inner { children: _ } => WEIGHT,
+        Start::Hole | Start::Ended(_) => 1,
     }
 }

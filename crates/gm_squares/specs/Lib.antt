@@ -3,3 +3,4 @@ pub mod laws
 pub mod Chess
 pub mod Runs
 pub mod FoxHounds
+pub mod Pictures

@@ -13,3 +13,5 @@ pub mod ChaseFacts
 pub mod ChaseLaws
 pub mod ChaseNumbering
 pub mod ChaseTexts
+pub mod MenPictured
+pub mod ChasePictured

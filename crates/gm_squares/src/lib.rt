@@ -9,5 +9,6 @@ pub mod dark_squares;
 pub mod foxhounds;
 pub mod men;
 pub mod men_text;
+pub mod picture;
 pub mod squares;
 pub mod text;

@@ -2,6 +2,7 @@ pub mod BlockLemmas
 pub mod CheckLemmas
 pub mod Dealt
 pub mod LevelLemmas
+pub mod HoleLemmas
 pub mod PlaceLemmas
 pub mod RunLemmas
 pub mod TableLemmas

@@ -1,8 +1,8 @@
 -- The indexes at a place with one record more, and a run with one index more.
-use Rattle.std.proofs.Common.{◌≡◌, ℕ, suc, ◌<◌, ◌+◌, ◌==◌, Bool, true, false, if◌then◌else◌, List, [], ◌∷◌, ◌++◌, map, set, take, length, get_or, refl, sym, ap}
+use Rattle.std.proofs.Common.{◌≡◌, ℕ, suc, ◌<◌, ◌+◌, ◌==◌, Bool, true, false, if◌then◌else◌, List, [], ◌∷◌, ◌++◌, map, set, take, length, get_or, slice_index_or, refl, sym, ap}
 use Rattle.std.proofs.Common.{◌∙◌, subst, arith, Option, None, Vec, inl, inr, eq-eqb, ne_eqb}
-use Rattle.gm_table.proofs.Lower.{take_more, map-set, get_or-map, get_or-set_same, get_or-set_other, length-map, length-take, cases_eq, Global, Solved, Phase}
-use Rattle.gm_table.proofs.Lower.{level_in, is_level, indexes_from, indexes_at, run_at, record_at}
+use Rattle.gm_table.proofs.Lower.{take_more, map-set, get_or-map, get_or-set_same, get_or-set_other, length-map, length-take, cases_eq, Global, Solved, Phase, WinLose, Ties}
+use Rattle.gm_table.proofs.Lower.{level_in, is_level, indexes_from, indexes_at, run_at, run_in, record_at}
 use Rattle.gm_table.proofs.LevelLemmas.{record_read}
 
 push_first : (c : Bool) (k : ℕ) → (if c then k ∷ [] else []) ≡ (if c then (k + 0) ∷ [] else [])
@@ -43,6 +43,12 @@ indexes_with phase n i os o was l known h =
     ∙ ap (λ (x : Option Solved). if is_level n (level_in phase x) then indexes_at phase n (take i os) ++ i ∷ [] else indexes_at phase n (take i os))
     (known ∙ record_read os i l)
     ∙ sym (indexes_more phase n i os None l)
+
+-- no run has an index before the first
+pub empty_runs : (win_lose ties : Vec (Vec ℕ Global) Global) → win_lose.items ≡ [] → ties.items ≡ []
+    → (phase : Phase) (n : ℕ) → run_in (record { win_lose = win_lose; ties = ties }) phase n ≡ []
+empty_runs win_lose ties w t WinLose n = ap (λ (runs : List (Vec ℕ Global)). slice_index_or (map (λ run. run.items) runs) n []) w
+empty_runs win_lose ties w t Ties n = ap (λ (runs : List (Vec ℕ Global)). slice_index_or (map (λ run. run.items) runs) n []) t
 
 -- a run with one index more
 pub run_push : (runs new_runs : Vec (Vec ℕ Global) Global) (i : ℕ) (old new : Vec ℕ Global) (x : ℕ) → i < length runs.items → old ≡ get_or runs.items i old

@@ -36,13 +36,12 @@ pub(crate) fn greatest_levels(records: &Packed) -> (Option<u32>, Option<u32>)
 {
     let mut win_lose = None;
     let mut ties = None;
-    for index in 0..records.len() {
+    let mut index = records.skip_holes(0);
+    while index < records.len() {
         let known = records.get(index);
-        // Most indexes have no record.
-        if known.is_some() {
-            win_lose = later(win_lose, level_in(Phase::WinLose, known));
-            ties = later(ties, level_in(Phase::Ties, known));
-        }
+        win_lose = later(win_lose, level_in(Phase::WinLose, known));
+        ties = later(ties, level_in(Phase::Ties, known));
+        index = records.skip_holes(index + 1);
     }
     (win_lose, ties)
 }

@@ -1,5 +1,5 @@
 //! Numbers of records, which take a byte each if all of them have short forms, and four otherwise.
-ghost use Rattle.std.specs.Prelude.{◌≡◌, ◌++◌, [], ◌∷◌, ◌<◌, ◌/◌, ◌%◌, IsTrue, ◌↔◌, map, take, slice_get, length, IfOk, OnOk, OnErr};
+ghost use Rattle.std.specs.Prelude.{◌≡◌, ℕ, ◌++◌, [], ◌∷◌, ◌<◌, ◌≤◌, ◌/◌, ◌%◌, IsTrue, ◌↔◌, map, take, slice_get, length, IfOk, IfSome, OnOk, OnErr};
 ghost use Rattle.gm_table.specs.Numbers.{wide, IsShort};
 
 use crate::packed::STEP;
@@ -140,6 +140,19 @@ impl Numbers {
         }
     }
 
+    /// Returns an index from `from` on that no record's number comes before, so that these numbers need no look: the next one of a record if all are short.
+    pub(crate) fn skip_holes(&self, from: usize) -> usize
+        requires { from ≤ length self.now }
+        ensures low { from ≤ result }
+        ensures high { result ≤ length self.now }
+        ensures holes { (k : ℕ) → from ≤ k → k < result → IfSome (slice_get self.now k) (λ number. number < 1048576) }
+    {
+        match &self.stored {
+            Stored::Short(numbers) => next_record(numbers.as_slice(), from),
+            Stored::Long(_) => from,
+        }
+    }
+
     /// Returns the number at an index; `None` past the end.
     #[inline]
     pub(crate) fn get(&self, index: usize) -> Option<u32>
@@ -150,6 +163,20 @@ impl Numbers {
             Stored::Long(numbers) => Some(*numbers.get(index)?),
         }
     }
+}
+
+// Returns the first index from `from` on whose short form is a record's, or the number of short forms.
+fn next_record(shorts: &[u8], from: usize) -> usize
+    requires { from ≤ length shorts.now }
+    ensures low { from ≤ result }
+    ensures high { result ≤ length shorts.now }
+    ensures holes { (k : ℕ) → from ≤ k → k < result → IfSome (slice_get shorts.now k) (λ short. short < 32) }
+{
+    let mut index = from;
+    while index < shorts.len() && u32::from(shorts[index]) < SHORT_STEP {
+        index += 1;
+    }
+    index
 }
 
 // Returns whether a number has a short form.

@@ -1,5 +1,5 @@
 //! Records of one byte or four each.
-ghost use Rattle.std.specs.Prelude.{◌≡◌, ◌≢◌, ◌*◌, ◌≤◌, ◌<◌, ◌++◌, [], ◌∷◌, None, map, replicate, take, IfSome, IfOk, length, OnOk, OnErr};
+ghost use Rattle.std.specs.Prelude.{◌≡◌, ◌≢◌, ℕ, ◌*◌, ◌≤◌, ◌<◌, ◌++◌, [], ◌∷◌, None, map, replicate, take, IfSome, IfOk, length, OnOk, OnErr};
 ghost use Rattle.gm_table.specs.Lower.{REMOTENESS};
 ghost use Rattle.gm_table.specs.declared.version.Version.TheVariants.{Two};
 ghost use Rattle.gm_table.specs.RecordCodes.{record_number};
@@ -137,6 +137,16 @@ impl Packed {
         ensures { result ≡ record_at self.now index }
     {
         unpacked(self.numbers.get(index)?)
+    }
+
+    /// Returns an index from `from` on that no record comes before, so that these indexes need no look.
+    pub(crate) fn skip_holes(&self, from: usize) -> usize
+        requires { from ≤ length self.now }
+        ensures low { from ≤ result }
+        ensures high { result ≤ length self.now }
+        ensures holes { (k : ℕ) → from ≤ k → k < result → record_at self.now k ≡ None }
+    {
+        self.numbers.skip_holes(from)
     }
 
     /// Returns the number of the record at an index, as a tier file of version 2 has it; 0 past the end.

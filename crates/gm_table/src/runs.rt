@@ -26,10 +26,12 @@ impl Runs {
             win_lose: Vec::new(alloc),
             ties: Vec::new(alloc),
         };
-        for index in 0..records.len() {
+        let mut index = records.skip_holes(0);
+        while index < records.len() {
             if let Some(solved) = records.get(index) {
                 runs.place(solved, index as u32)?;
             }
+            index = records.skip_holes(index + 1);
         }
         Ok(runs)
     }

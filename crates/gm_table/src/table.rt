@@ -1,5 +1,5 @@
 //! The true table of a tier.
-ghost use Rattle.std.specs.Prelude.{◌≡◌, ◌≤◌, length, IfOk, IfSome};
+ghost use Rattle.std.specs.Prelude.{◌≡◌, ℕ, ◌<◌, ◌≤◌, None, length, IfOk, IfSome};
 ghost use Rattle.gm_table.specs.Lower.{at, IsTrueValue, IsTrueTable, IsRecord};
 ghost use Rattle.gm_table.specs.Levels.{IsGreatest};
 ghost use Rattle.gm_table.specs.RecordCodes.{record_number};
@@ -126,6 +126,17 @@ impl<G: Game> Table<G> {
         ensures { result ≡ record_number Two (record_at self.now.records index) }
     {
         self.records.number(index as usize)
+    }
+
+    /// Returns an index from `from` on that no record comes before, so that the indexes up to it need no look; the size of the tier from there on. It takes less
+    /// time than to read them.
+    pub fn skip_holes(&self, from: u64) -> u64
+        ensures low { from ≤ length self.now.records → from ≤ result }
+        ensures high { result ≤ length self.now.records }
+        ensures holes { (k : ℕ) → from ≤ k → k < result → record_at self.now.records k ≡ None }
+    {
+        let size = self.records.len();
+        self.records.skip_holes((from as usize).min(size)) as u64
     }
 
     /// Returns the word of the record at an index, without a branch; 0 for an index without a record.

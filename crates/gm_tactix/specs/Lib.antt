@@ -4,5 +4,6 @@ pub mod Board
 pub mod CounterMasks
 pub mod Befores
 pub mod Texts
+pub mod TactixPicture
 pub mod Lines
 pub mod laws

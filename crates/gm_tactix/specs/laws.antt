@@ -4,4 +4,5 @@ pub mod MoveFacts
 pub mod SegmentFacts
 pub mod TactixLaws
 pub mod TextLaws
+pub mod TactixPictured
 pub mod CounterMaskFacts

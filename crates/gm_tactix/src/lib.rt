@@ -7,6 +7,7 @@ mod images;
 pub mod masks;
 pub mod moves;
 pub mod parents;
+pub mod picture;
 pub mod segment;
 mod segments;
 pub mod side;

@@ -1,5 +1,6 @@
 pub mod LimitLemmas
 pub mod RecordLemmas
+pub mod HoleBytes
 pub mod HalfLemmas
 pub mod TextLemmas
 pub mod RefusalLemmas

@@ -1,8 +1,8 @@
 //! Writing the file of a tier.
-ghost use Rattle.std.specs.Prelude.{◌≡◌, ◌↔◌, ◌≤◌, ◌++◌, IsTrue, IfOk, OnOk, MatchOption, All};
+ghost use Rattle.std.specs.Prelude.{◌≡◌, ◌↔◌, ◌≤◌, ◌*◌, ◌++◌, replicate, IsTrue, IfOk, OnOk, MatchOption, All};
 ghost use Rattle.std.specs.List.{flat_map};
 ghost use Rattle.std.specs.Int.{to_le_bytes, w64};
-ghost use Rattle.gm_table.specs.RecordCodes.{record_bytes, IsStorable};
+ghost use Rattle.gm_table.specs.RecordCodes.{width, record_bytes, IsStorable};
 ghost use Rattle.gm_table.specs.Tables.{record_at};
 ghost use Rattle.gm_table.specs.declared.version.Version.TheVariants.{One};
 ghost use Rattle.gm_tierdb.specs.TierText.{IsTierText, IsTierText1, IsVersionText, AreUpTo, IsFor};
@@ -11,6 +11,7 @@ use crate::layout::{DIGEST_LEN, HEADER_LEN};
 use crate::magic::magic;
 use byteorder::{ByteOrder, LittleEndian};
 use gm_game::game::Game;
+use gm_game::limits::TIER_SIZE;
 use gm_game::position::{Phase, Solved};
 use gm_table::number::number_of;
 use gm_table::table::Table;
@@ -103,10 +104,23 @@ fn push_records<G: Game>(
     requires { All (IsStorable version) table.now.records }
     ensures { OnOk result (file.new.items ≡ file.old.items ++ flat_map (record_bytes version) table.now.records) }
 {
-    for index in 0..table.size() {
+    let mut index = 0;
+    while index < table.size() {
         push_record(file, version, table, index)?;
+        let next = table.skip_holes(index + 1);
+        push_holes(file, version, next - (index + 1))?;
+        index = next;
     }
     Ok(())
+}
+
+// Appends the records of this many indexes that have none.
+fn push_holes(file: &mut Vec<u8>, version: Version, count: u64) -> Result<(), AllocError>
+    requires { count ≤ TIER_SIZE }
+    ensures { OnOk result (file.new.items ≡ file.old.items ++ replicate (width version * count) 0) }
+{
+    let bytes = version.record_len() * count as usize;
+    file.resize(file.len() + bytes, 0)
 }
 
 // Appends the record of an index.

@@ -70,6 +70,10 @@ impl<S: Store> Store for Flaky<S> {
 
     const KEEPS: bool = S::KEEPS;
 
+    fn takes_texts(&self) -> bool {
+        self.inner.takes_texts()
+    }
+
     fn read<R: Files>(
         &mut self,
         rt: &R,

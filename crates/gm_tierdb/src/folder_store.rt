@@ -181,6 +181,10 @@ impl Store for FolderStore {
 
     const KEEPS: bool = false;
 
+    fn takes_texts(&self) -> bool {
+        true
+    }
+
     fn read<R: Files>(
         &mut self,
         rt: &R,

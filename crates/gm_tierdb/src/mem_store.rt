@@ -38,6 +38,10 @@ impl Store for MemStore {
 
     const KEEPS: bool = true;
 
+    fn takes_texts(&self) -> bool {
+        true
+    }
+
     fn read<R: Files>(
         &mut self,
         _rt: &R,

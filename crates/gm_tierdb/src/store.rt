@@ -21,6 +21,10 @@ pub trait Store: Drop {
     /// Whether the map is promised.
     const KEEPS: bool;
 
+    /// Returns whether the store takes texts. One that keeps its map does; of another that takes none, `write` need not be called.
+    fn takes_texts(&self) -> bool
+        ensures { IsTrue KEEPS → IsTrue result };
+
     /// Returns the text of a tier, or `None` if it has none. No text changes.
     fn read<R: Files>(
         &mut self,

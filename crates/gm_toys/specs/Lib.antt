@@ -5,3 +5,4 @@ pub mod Wheel
 pub mod Stairs
 pub mod laws
 pub mod Takeaway
+pub mod Pictures

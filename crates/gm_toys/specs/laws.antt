@@ -2,3 +2,4 @@
 pub mod StairsLaws
 pub mod SubtractionLaws
 pub mod WheelLaws
+pub mod Pictured

@@ -3,6 +3,7 @@
 
 pub mod chain;
 pub mod countdown;
+pub mod picture;
 pub mod stairs;
 pub mod subtraction;
 pub mod takeaway;

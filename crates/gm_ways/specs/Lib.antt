@@ -4,3 +4,4 @@ pub mod WayTexts
 pub mod laws
 pub mod ShisimaRules
 pub mod TapatanRules
+pub mod WayPictures

@@ -6,3 +6,4 @@ pub mod WayLaws
 pub mod WayTextLaws
 pub mod ShisimaTables
 pub mod TapatanTables
+pub mod WayPictured

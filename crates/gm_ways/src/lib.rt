@@ -6,6 +6,7 @@ pub mod boards;
 pub mod least;
 pub mod moves;
 pub mod on_ways;
+pub mod picture;
 pub mod rules;
 pub mod shisima;
 pub mod tapatan;

@@ -1,16 +1,11 @@
 -- What follows from the definitions of specs/Masks.antt.
+use Rattle.gm_board.specs.laws.Lower.{count_ones, bit_at, mod-eq_of_lt, mod_below, mod-pow-add, ones_cat, bit_at-lt, bit_at_cat_low, bit_at_cat_high}
+use Rattle.gm_board.specs.laws.Lower.{bit_at_above, binomial, members, rank, unrank, has_cell, mask_of, weight}
 use Rattle.std.proofs.Common.{◌≡◌, ℕ, zero, suc, ◌+◌, ◌-◌, ◌*◌, ◌%◌, ◌^◌, ◌<◌, ◌≤◌, Bool, true, false, eqb, List, [], ◌∷◌, length, refl, sym, ap, ap₂, ◌∙◌}
 use Rattle.std.proofs.Common.{subst, arith, ◌⊎◌, inl, inr, pow_pos, pow-suc}
-use Rattle.std.specs.Prelude.{count_ones}
-use Rattle.std.specs.Int.{bit_at}
 use Rattle.std.specs.Int.Count.{ones}
-use Rattle.std.proofs.Math.Nat.{mod-eq_of_lt}
-use Rattle.std.proofs.lemmas.Nat.{mod_below, mod-pow-add, ones_cat}
-use Rattle.std.proofs.lemmas.Nat.Bits.{bit_at-lt, bit_at_cat_low, bit_at_cat_high, bit_at_above}
-use Rattle.gm_board.specs.Binomials.{binomial}
-use Rattle.gm_board.specs.Ranks.{members, rank, unrank}
 use Rattle.gm_board.specs.laws.Ranks.{rank_below, unrank_rank, unrank_length, unrank_members, rank_unrank}
-use Rattle.gm_board.specs.Masks.{has_cell, tests_of, mask_of, mask_rank, mask_unrank, weight}
+use Rattle.gm_board.specs.Masks.{tests_of, mask_rank, mask_unrank}
 
 -- without cells there are no tests
 pub tests_none : (m : ℕ) → tests_of 0 m ≡ []

@@ -1,18 +1,12 @@
 -- What follows from the definitions of specs/Pieces.antt.
-use Rattle.std.proofs.Common.{◌≡◌, ℕ, zero, suc, ◌+◌, ◌*◌, ◌^◌, ◌<◌, min, Bool, true, false, eqb, List, [], ◌∷◌, length, refl, sym, ap, ap₂, ◌∙◌, subst}
+use Rattle.gm_board.specs.laws.Lower.{bit_and, bit_at, and_block, bit_at-lt, bit_at_and, bit_at-zero, Cell, Empty, Mine, Theirs, members, has_cell, tests_of}
+use Rattle.gm_board.specs.laws.Lower.{mask_of, weight, cell_by, HasPieces, their_tests, AreApart}
+use Rattle.std.proofs.Common.{◌≡◌, ℕ, zero, suc, ◌+◌, ◌-◌, ◌*◌, ◌^◌, ◌<◌, min, Bool, true, false, eqb, List, [], ◌∷◌, length, refl, sym, ap, ap₂, ◌∙◌, subst}
 use Rattle.std.proofs.Common.{arith}
-use Rattle.std.specs.Prelude.{bit_and}
-use Rattle.std.specs.Int.{bit_at}
-use Rattle.std.proofs.lemmas.Nat.{and_block}
-use Rattle.std.proofs.lemmas.Nat.Bits.{bit_at-lt, bit_at_and, bit_at-zero}
-use Rattle.gm_board.specs.declared.cell.Cell.{Cell}
-use Rattle.gm_board.specs.declared.cell.Cell.TheVariants.{Empty, Mine, Theirs}
-use Rattle.gm_board.specs.Ranks.{members}
-use Rattle.gm_board.specs.Masks.{has_cell, tests_of, mask_of, weight}
 use Rattle.gm_board.specs.laws.Masks.{mask_cons, tests_none, tests_more, mask_below, mask_tests_small, tests_mask, members_small}
 use Rattle.gm_board.specs.Arrangements.{mine_bits, their_bits, arrangement_index, arrangement, arrangements}
-use Rattle.gm_board.specs.laws.Arrangements.{arrangement_is, index_below_at, back_at, mine_bits_length}
-use Rattle.gm_board.specs.Pieces.{cell_by, cells_of, HasPieces, their_tests, mine_mask, their_mask, AreApart}
+use Rattle.gm_board.specs.laws.Arrangements.{arrangement_is, index_below_at, back_at, mine_bits_length, their_bits_free}
+use Rattle.gm_board.specs.Pieces.{cells_of, mine_mask, their_mask}
 
 -- a board without cells is empty
 pub cells_none : (mine theirs : ℕ) → cells_of 0 mine theirs ≡ []
@@ -43,6 +37,11 @@ mine_bits_cells (suc n) mine theirs =
     ∙ mine_cons (has_cell mine n) (has_cell theirs n) (cells_of n mine theirs)
     ∙ ap (λ (bs : List Bool). has_cell mine n ∷ bs) (mine_bits_cells n mine theirs)
     ∙ sym (tests_more n mine)
+
+-- the number of cells without the mover's pieces
+pub free_length : (n mine theirs : ℕ) → length (their_bits (cells_of n mine theirs)) ≡ n - members (tests_of n mine)
+free_length n mine theirs =
+    their_bits_free (cells_of n mine theirs) ∙ ap₂ (λ (a b : ℕ). a - b) (cells_length n mine theirs) (ap members (mine_bits_cells n mine theirs))
 
 apart_bits : (a b : ℕ) → a < 2 → b < 2 → min a b ≡ 0 → eqb a 1 ≡ true → eqb b 1 ≡ false
 apart_bits zero b l k e f = cc
@@ -165,6 +164,10 @@ index_of_masks n m t i l = ap arrangement_index (arrangement_cells n m t i l) �
 -- the number of the mover's pieces
 pub mine_count : (n m t mine theirs : ℕ) → HasPieces n m t mine theirs → members (mine_bits (cells_of n mine theirs)) ≡ m
 mine_count n m t mine theirs h = ap members (mine_bits_cells n mine theirs) ∙ members_small n mine h.mine_within ∙ h.mine_number
+
+-- the number of cells without them
+pub free_count : (n m t mine theirs : ℕ) → HasPieces n m t mine theirs → length (their_bits (cells_of n mine theirs)) ≡ n - m
+free_count n m t mine theirs h = free_length n mine theirs ∙ ap (λ (k : ℕ). n - k) (members_small n mine h.mine_within ∙ h.mine_number)
 
 -- the number of the opponent's pieces
 pub their_count : (n m t mine theirs : ℕ) → HasPieces n m t mine theirs → members (their_bits (cells_of n mine theirs)) ≡ t

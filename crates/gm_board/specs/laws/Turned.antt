@@ -1,10 +1,7 @@
 -- Boards with the sides exchanged.
+use Rattle.gm_board.specs.laws.Lower.{Cell, Empty, Mine, Theirs, turned, permute}
 use Rattle.std.proofs.Common.{◌≡◌, ℕ, List, [], ◌∷◌, map, get_or, refl, ap, ap₂, ◌∙◌}
 use Rattle.std.proofs.Math.ListN.{get_or-map}
-use Rattle.gm_board.specs.declared.cell.Cell.{Cell}
-use Rattle.gm_board.specs.declared.cell.Cell.TheVariants.{Empty, Mine, Theirs}
-use Rattle.gm_board.specs.BoardMasks.{turned}
-use Rattle.gm_board.specs.Permutations.{permute}
 
 -- a cell of a board with the sides exchanged
 pub cell_turned : (b : List Cell) (k : ℕ) → get_or (map turned b) k Empty ≡ turned (get_or b k Empty)

@@ -1,4 +1,4 @@
-use Rattle.std.proofs.Common.{arith}
+use Rattle.gm_board.proofs.Lower.{arith}
 use Rattle.gm_board.proofs.PackSteps.{spread_turn, spread_done, spread_fits}
 use Rattle.gm_board.proofs.arrangement.spread.Goals as goal
 

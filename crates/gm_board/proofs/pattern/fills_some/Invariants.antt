@@ -1,5 +1,5 @@
-use Rattle.std.proofs.Common.{◌≡◌, ◌==◌, take, bit_and}
-use Rattle.std.specs.List.{list_any}
+use Rattle.gm_board.proofs.Lower.{◌≡◌, ◌==◌, take, list_any}
+use Rattle.std.proofs.Common.{bit_and}
 use Rattle.gm_board.proofs.pattern.fills_some.Given as goal
 
 abbrev pub invariant-loop-mask : goal.invariant-loop-mask

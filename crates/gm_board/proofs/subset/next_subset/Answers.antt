@@ -1,5 +1,5 @@
-use Rattle.std.proofs.Common.{◌+◌, ◌-◌, ◌*◌, ◌%◌, ◌^◌, w32, arith}
-use Rattle.std.specs.Int.{trailing_zeros}
+use Rattle.gm_board.proofs.Lower.{◌+◌, ◌-◌, ◌*◌, ◌%◌, ◌^◌, arith, trailing_zeros}
+use Rattle.std.proofs.Common.{w32}
 use Rattle.gm_board.proofs.NextSteps.{IsStep, next_of, next_within}
 use Rattle.gm_board.proofs.subset.next_subset.Goals as goal
 use Rattle.gm_board.proofs.subset.next_subset.Goals.{After-trailing_ones-run}

@@ -1,8 +1,5 @@
-use Rattle.std.proofs.Common.{ℕ, ◌<◌, sym, ap, ◌∙◌, subst, arith}
-use Rattle.std.specs.Prelude.{count_ones}
+use Rattle.gm_board.proofs.Lower.{ℕ, ◌<◌, sym, ap, ◌∙◌, subst, arith, count_ones, mask_unrank, mask_rank_below, mask_unrank_rank}
 use Rattle.gm_board.specs.Binomials.{binomial as binomial_of}
-use Rattle.gm_board.specs.Masks.{mask_unrank}
-use Rattle.gm_board.specs.laws.Masks.{mask_rank_below, mask_unrank_rank}
 use Rattle.gm_board.proofs.RankSteps.{counted_small, counted_all}
 use Rattle.gm_board.proofs.subset.rank_subset.Goals as goal
 

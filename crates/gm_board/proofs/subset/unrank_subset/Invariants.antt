@@ -1,4 +1,4 @@
-use Rattle.gm_board.specs.Masks.{mask_unrank}
+use Rattle.gm_board.proofs.Lower.{mask_unrank}
 use Rattle.gm_board.proofs.UnrankSteps.{IsUnranked}
 use Rattle.gm_board.proofs.subset.unrank_subset.Given as goal
 

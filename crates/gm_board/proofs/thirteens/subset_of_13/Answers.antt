@@ -1,4 +1,4 @@
-use Rattle.std.proofs.Common.{arith}
+use Rattle.gm_board.proofs.Lower.{arith}
 use Rattle.gm_board.proofs.ThirteenSteps.{few_members, place_below}
 use Rattle.gm_board.proofs.thirteens.subset_of_13.Goals as goal
 

@@ -1,22 +1,27 @@
-use Rattle.gm_find.proofs.Lower.{sym, subst, AreWaiting}
-use Rattle.gm_find.proofs.Keys.{inserted_grown, inserted_there, inserted_only, inserted_new}
+use Rattle.gm_find.proofs.Lower.{ℕ, ◌∙◌, List, Position, false, true, sym, subst, IsSearched}
+use Rattle.std.proofs.Common.{◌≡◌, rules}
+use Rattle.std.specs.HashSet.{PutsKey}
+use Rattle.gm_find.proofs.Keys.{key_found, was_there}
+use Rattle.gm_find.proofs.Searching.{found_old, found_new}
 use Rattle.gm_find.proofs.search.find.Goals as goal
 
-pub returns-in_ok-push-in-Ok-true-clause-grown : goal.returns-in_ok-push-in-Ok-true-clause-grown
-returns-in_ok-push-in-Ok-true-clause-grown c = inserted_grown c.args.found.now.keys c.insert.new.self.keys c.args.c c.in-Ok-true.ensures.updates.0
+pub returns-in_ok-push-in-Ok-true : goal.returns-in_ok-push-in-Ok-true
+returns-in_ok-push-in-Ok-true g c left h =
+    let found = c.args.found.now in
+    let new = c.insert.new.self in
+    let is : c.in-Ok-true.field-0 ≡ true = search rules in
+    let puts : PutsKey found new (c.args.c.tier, c.args.c.index) true =
+    subst (PutsKey found new (c.args.c.tier, c.args.c.index)) is c.in-Ok-true.ensures.keys in
+    subst (λ (w : List Position). IsSearched g.G.Game.rules new.keys w left) (sym c.in_ok-push-in-Ok-true.ensures.items)
+    (found_new g.G.Game.rules found.keys c.args.waiting.now.items left c.args.c h new.keys puts)
 
-pub returns-in_ok-push-in-Ok-true-clause-there : goal.returns-in_ok-push-in-Ok-true-clause-there
-returns-in_ok-push-in-Ok-true-clause-there c = inserted_there c.args.found.now.keys c.insert.new.self.keys c.args.c c.in-Ok-true.ensures.updates.0
-
-pub returns-in_ok-push-in-Ok-true-clause-only : goal.returns-in_ok-push-in-Ok-true-clause-only
-returns-in_ok-push-in-Ok-true-clause-only c = inserted_only c.args.found.now.keys c.insert.new.self.keys c.args.c c.in-Ok-true.ensures.updates.0
-
-pub returns-in_ok-push-in-Ok-true-clause-waiting : goal.returns-in_ok-push-in-Ok-true-clause-waiting
-returns-in_ok-push-in-Ok-true-clause-waiting c =
-    let ks = c.args.found.now.keys in
-    let new = c.insert.new.self.keys in
-    let waiting = c.args.waiting.now.items in
-    subst (AreWaiting ks waiting new) (sym c.in_ok-push-in-Ok-true.ensures.items) (inserted_new ks new c.args.c c.in-Ok-true.ensures.updates.0 waiting)
-
-pub returns-in-Ok-false-clause-there : goal.returns-in-Ok-false-clause-there
-returns-in-Ok-false-clause-there c = inserted_there c.args.found.now.keys c.insert.new.self.keys c.args.c c.in-Ok-false.ensures.updates.0
+pub returns-in-Ok-false : goal.returns-in-Ok-false
+returns-in-Ok-false g c left h =
+    let found = c.args.found.now in
+    let new = c.insert.new.self in
+    let is : c.in-Ok-false.field-0 ≡ false = search rules in
+    let puts : PutsKey found new (c.args.c.tier, c.args.c.index) false =
+    subst (PutsKey found new (c.args.c.tier, c.args.c.index)) is c.in-Ok-false.ensures.keys in
+    subst (λ (ks : List (ℕ × ℕ)). IsSearched g.G.Game.rules ks c.args.waiting.now.items left) (sym puts)
+    (found_old g.G.Game.rules found.keys c.args.waiting.now.items left c.args.c h
+    (key_found c.args.c.tier c.args.c.index found.keys (was_there _ (sym is ∙ c.in-Ok-false.ensures.added))))

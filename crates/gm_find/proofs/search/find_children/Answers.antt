@@ -1,42 +1,29 @@
 use Rattle.std.proofs.lemmas.Result.{IfOk-from_err}
-use Rattle.gm_find.proofs.Lower.{◌≡◌, inl, inr, List, take, sym, subst, ◌∙◌, arith, Contains, take_all, Position, at}
-use Rattle.gm_find.proofs.Searching.{children_more, waiting_again}
+use Rattle.gm_find.proofs.Lower.{◌+◌, List, sym, subst, Contains, ◌↔◌, Position, IsSearched}
+use Rattle.std.proofs.Common.{drop}
+use Rattle.std.proofs.lemmas.List.{drop_all, drop_more}
+use Rattle.gm_game.specs.Rules.{IsCanonicalChild}
+use Rattle.gm_find.proofs.Searching.{taken}
 use Rattle.gm_find.proofs.search.find_children.Goals as goal
 
+pub loop-child-init : goal.loop-child-init
+loop-child-init g c h =
+    taken g.G.Game.rules g.met.G.Game.lawful c.args.found.now.keys c.args.waiting.now.items c.args.p h c.as_slice-child-items.result.now
+    (λ d. subst (λ (l : List Position). Contains l d ↔ IsCanonicalChild g.G.Game.rules c.args.p d) (sym c.as_slice-child-items.ensures.value)
+    (c.canonical_children-children.ensures.exact.exact d))
+
 pub loop-child-preserved : goal.loop-child-preserved
-loop-child-preserved g c = (
-  children_more c.as_slice-child-items.result.now c.args.found.now.keys c.loop-child.found.keys c.find.new.found.keys c.loop-child.child-index (at 0 0)
-      c.loop-child-test.true c.loop-child.invariant.0
-      c.in_ok-find.ensures.grown c.in_ok-find.ensures.there c.in_ok-find.ensures.only,
-  waiting_again c.args.found.now.keys c.loop-child.found.keys c.find.new.found.keys c.args.waiting.now.items c.loop-child.waiting.items c.find.new.waiting.items
-      c.in_ok-find.ensures.grown c.loop-child.invariant.1 c.in_ok-find.ensures.waiting,
-)
-
-pub returns-clause-children : goal.returns-clause-children
-returns-clause-children g c d child =
+loop-child-preserved g c h =
     let items = c.as_slice-child-items.result.now in
-    let all : take c.loop-child.child-index items ≡ c.canonical_children-children.result.items = take_all c.loop-child.child-index items (omega arith) ∙
-    c.as_slice-child-items.ensures.value in
-    c.loop-child.invariant.0.1 d (subst (λ (l : List Position). Contains l d) (sym all) ((c.canonical_children-children.ensures.exact.exact d).1 child))
+    let k = c.loop-child.child-index in
+    c.in_ok-find.ensures (drop (k + 1) items)
+    (subst (IsSearched g.G.Game.rules c.loop-child.found.keys c.loop-child.waiting.items) (drop_more items k _ c.loop-child-test.true)
+    (c.loop-child.invariant h))
 
-pub returns-clause-only : goal.returns-clause-only
-returns-clause-only g c d has =
-    let items = c.as_slice-child-items.result.now in
-    let all : take c.loop-child.child-index items ≡ c.canonical_children-children.result.items = take_all c.loop-child.child-index items (omega arith) ∙
-    c.as_slice-child-items.ensures.value in
-    elim (c.loop-child.invariant.0.2 d has) [
-      | inl o ↦ inl o
-      | inr k ↦ inr ((c.canonical_children-children.ensures.exact.exact d).0 (subst (λ (l : List Position). Contains l d) all k))
-    ]
+pub returns : goal.returns
+returns g c h =
+    subst (IsSearched g.G.Game.rules c.loop-child.found.keys c.loop-child.waiting.items)
+    (drop_all c.loop-child.child-index c.as_slice-child-items.result.now c.loop-child-test.false) (c.loop-child.invariant h)
 
-pub returns-in_err-find-clause-grown : goal.returns-in_err-find-clause-grown
-returns-in_err-find-clause-grown g c = IfOk-from_err c.from_residual.result _ c.from_residual.ensures.0
-
-pub returns-in_err-find-clause-children : goal.returns-in_err-find-clause-children
-returns-in_err-find-clause-children g c = IfOk-from_err c.from_residual.result _ c.from_residual.ensures.0
-
-pub returns-in_err-find-clause-only : goal.returns-in_err-find-clause-only
-returns-in_err-find-clause-only g c = IfOk-from_err c.from_residual.result _ c.from_residual.ensures.0
-
-pub returns-in_err-find-clause-waiting : goal.returns-in_err-find-clause-waiting
-returns-in_err-find-clause-waiting g c = IfOk-from_err c.from_residual.result _ c.from_residual.ensures.0
+pub returns-in_err-find : goal.returns-in_err-find
+returns-in_err-find g c h = IfOk-from_err c.from_residual.result _ c.from_residual.ensures.0

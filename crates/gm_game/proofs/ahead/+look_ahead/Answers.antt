@@ -1,12 +1,6 @@
-use Rattle.std.proofs.Common.{◌≡◌, [], ◌∷◌, ◌++◌, ◌+◌, ◌-◌, ◌≤◌, List, Option, map, take, get_or, is_some, ◌&&◌, IfSome, arith, sym, ap, true, Some, ℕ, ◌∙◌}
-use Rattle.std.proofs.Common.{subst}
-use Rattle.std.proofs.lemmas.List.{take_all}
-use Rattle.std.proofs.lemmas.List.Elements.{Contains-get_or}
-use Rattle.std.specs.List.{Contains, list_all}
-use Rattle.gm_game.specs.declared.position.Solved.{Solved}
-use Rattle.gm_game.specs.Rules.{children}
-use Rattle.gm_game.specs.Evaluation.{evaluated}
-use Rattle.gm_game.specs.Records.{lost_in, tied_in, least_of, all_won, lesser, greater}
+use Rattle.gm_game.proofs.Lower.{◌≡◌, [], ◌∷◌, ◌++◌, ◌+◌, ◌-◌, ◌≤◌, List, Option, map, take, get_or, is_some, ◌&&◌, IfSome, arith, sym, ap, true, Some, ℕ, ◌∙◌}
+use Rattle.gm_game.proofs.Lower.{subst, take_all, Contains-get_or, list_all, Solved, children, evaluated, lost_in, tied_in, least_of, all_won, lesser, greater}
+use Rattle.std.specs.List.{Contains}
 use Rattle.gm_game.proofs.Folding.{least_push, all_won_push, known_push, one_more, evaluated_small, fits_since, evaluated_open, when_known, when_unknown}
 use Rattle.gm_game.proofs.Folding.{evaluated_at_end}
 use Rattle.gm_game.proofs.ahead.+look_ahead.Goals as goal

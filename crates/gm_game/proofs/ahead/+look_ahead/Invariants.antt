@@ -1,8 +1,4 @@
-use Rattle.std.proofs.Common.{◌≡◌, ◌-◌, map, take, is_some, List, Option}
-use Rattle.std.specs.List.{list_all}
-use Rattle.gm_game.specs.declared.position.Solved.{Solved}
-use Rattle.gm_game.specs.Evaluation.{evaluated}
-use Rattle.gm_game.specs.Records.{lost_in, tied_in, least_of, all_won}
+use Rattle.gm_game.proofs.Lower.{◌≡◌, ◌-◌, map, take, is_some, List, Option, list_all, Solved, evaluated, lost_in, tied_in, least_of, all_won}
 use Rattle.gm_game.proofs.ahead.+look_ahead.Given as goal
 
 abbrev pub decreases-look_ahead : goal.decreases-look_ahead

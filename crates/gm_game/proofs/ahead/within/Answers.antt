@@ -1,5 +1,4 @@
-use Rattle.std.proofs.Common.{sym, subst}
-use Rattle.gm_game.specs.Evaluation.{IsEvaluated}
+use Rattle.gm_game.proofs.Lower.{sym, subst, IsEvaluated}
 use Rattle.gm_game.proofs.Evaluated.{evaluated_true}
 use Rattle.gm_game.proofs.ahead.within.Goals as goal
 

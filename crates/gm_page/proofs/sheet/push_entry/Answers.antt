@@ -1,5 +1,5 @@
 use Rattle.gm_page.proofs.Lower.{◌≡◌, ◌++◌, ℕ, List, true, refl, sym, subst, ◌∙◌, Entry, IsEntry}
-use Rattle.gm_draw.specs.Diagrams.{IsDiagram}
+use Rattle.gm_page.specs.ShowTexts.{IsDiagram}
 use Rattle.gm_page.specs.Sheets.{IsSolution}
 use Rattle.gm_page.proofs.Sheeting.{both_parts}
 use Rattle.gm_page.proofs.sheet.push_entry.Goals as goal

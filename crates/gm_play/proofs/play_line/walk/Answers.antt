@@ -3,16 +3,13 @@ use Rattle.gm_play.proofs.Lower.{IsPlayed, IsReplied, PlayLine}
 use Rattle.std.proofs.Common.{MatchOption}
 use Rattle.gm_play.proofs.Playing.{reply_is_next, no_reply_is_left, step_on, step_stuck, step_end, step_last, answered_on, held_answered, held_replied}
 use Rattle.gm_play.proofs.Playing.{moves_answered, moves_replied}
+use Rattle.gm_play.proofs.Wanted.{none_if}
 use Rattle.gm_play.proofs.play_line.walk.Goals as goal
 
 -- whether the game has ended
 ended_if : (o p : Option End) → o ≡ p → true ≡ is_some o → p ≢ None
 ended_if None p e f none = let z : ⊥ = cc in z
 ended_if (Some x) p e f none = let z : ⊥ = cc in z
-
-open_if : (o p : Option End) → o ≡ p → false ≡ is_some o → p ≡ None
-open_if None p e f = sym e
-open_if (Some x) p e f = absurd (let z : ⊥ = cc in z)
 
 pub answered-line-requires-clause-legal : goal.answered-line-requires-clause-legal
 answered-line-requires-clause-legal g c = c.loop-reply.invariant.on.legal
@@ -49,7 +46,7 @@ returns-in_err-line g c =
     let xs = a.replies.now in
     let i = c.loop-reply.reply-index in
     let on = reply_is_next r a.start a.first xs i c.loop-reply.line c.loop-reply-test.true c.loop-reply.invariant.on in
-    let open_ : r.primitive c.answered-line.result.position ≡ None = open_if _ _ c.primitive.ensures c.if-is_some.ensures in
+    let open_ : r.primitive c.answered-line.result.position ≡ None = none_if _ _ c.primitive.ensures c.if-is_some.ensures in
     let none : c.replied.result ≡ None = c.in_err-line.was in
     let given : c.from_residual.result ≡ None = c.from_residual.ensures in
     let is : IsReplied r c.answered-line.result (get_or xs i 0) None = subst (IsReplied r c.answered-line.result (get_or xs i 0)) none c.replied.ensures in
@@ -67,7 +64,7 @@ loop-reply-preserved g c =
     let line = c.loop-reply.line in
     let new = c.answered-line.result in
     let on = reply_is_next r a.start a.first xs i line c.loop-reply-test.true c.loop-reply.invariant.on in
-    let open_ : r.primitive new.position ≡ None = open_if _ _ c.primitive.ensures c.if-is_some.ensures in
+    let open_ : r.primitive new.position ≡ None = none_if _ _ c.primitive.ensures c.if-is_some.ensures in
     let some : c.replied.result ≡ Some c.in_ok-line.line = c.in_ok-line.was in
     let is : IsReplied r new (get_or xs i 0) (Some c.in_ok-line.line) = subst (IsReplied r new (get_or xs i 0)) some c.replied.ensures in
     let here = answered_on r laws a.start a.first xs (get_or xs i 0 ∷ drop (i + 1) xs) line on line.side new refl c.answered-line.ensures in

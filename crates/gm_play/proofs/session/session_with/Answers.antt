@@ -1,23 +1,22 @@
-use Rattle.gm_play.proofs.Lower.{course, dialogue}
+use Rattle.gm_play.proofs.Lower.{dialogue}
 use Rattle.gm_play.proofs.Reaching.{own_reached}
 use Rattle.gm_play.proofs.Courses.{course_won, course_even}
-use Rattle.gm_play.proofs.Ending.{dialogue_closed, won_line, unlost_line}
-use Rattle.gm_play.proofs.Parts.{on_ok_map}
+use Rattle.std.proofs.lemmas.Result.{on_ok_weaker}
 use Rattle.gm_play.proofs.session.session_with.Goals as goal
 
 pub returns-clause-won : goal.returns-clause-won
 returns-clause-won g c n h k known bytes =
     let r = g.G.Game.rules in
     let start = c.args.start.now.position in
-    course_won r g.met.G.Game.lawful g.G.Shown.shown g.G.Shown.move_shown k g.V.View.seen start.tier known start c.args.first n bytes
-    (own_reached r start c.args.start.now.legal) h
+    (course_won r g.met.G.Game.lawful g.G.Shown.shown g.G.Shown.move_shown k g.V.View.seen start.tier known start c.args.first n bytes
+    (own_reached r start c.args.start.now.legal) h).0
 
 pub returns-clause-even : goal.returns-clause-even
 returns-clause-even g c h k known bytes =
     let r = g.G.Game.rules in
     let start = c.args.start.now.position in
-    course_even r g.met.G.Game.lawful g.G.Shown.shown g.G.Shown.move_shown k g.V.View.seen start.tier known start c.args.first bytes
-    (own_reached r start c.args.start.now.legal) h
+    (course_even r g.met.G.Game.lawful g.G.Shown.shown g.G.Shown.move_shown k g.V.View.seen start.tier known start c.args.first bytes
+    (own_reached r start c.args.start.now.legal) h).0
 
 pub returns-clause-won_text : goal.returns-clause-won_text
 returns-clause-won_text g c n h =
@@ -27,15 +26,13 @@ returns-clause-won_text g c n h =
     let v = g.V.View.seen in
     let start = c.args.start.now.position in
     let first = c.args.first in
-    let lawful = g.met.G.Game.lawful in
     let own = own_reached r start c.args.start.now.legal in
     let (k, known) = c.advice.ensures in
-    on_ok_map c.converse.result _ _
+    on_ok_weaker c.converse.result
     (λ t. (
       dialogue r s m k v start first t.bytes,
       t.writes,
-      won_line (course r s m k v start first t.bytes).ending _ (course_won r lawful s m k v start.tier known start first n t.bytes own h).1
-          (dialogue_closed r lawful s m k v start.tier known start first t.bytes own),
+      (course_won r g.met.G.Game.lawful s m k v start.tier known start first n t.bytes own h).1,
     ))
     (c.converse.ensures.ok k known)
 
@@ -47,14 +44,12 @@ returns-clause-even_text g c h =
     let v = g.V.View.seen in
     let start = c.args.start.now.position in
     let first = c.args.first in
-    let lawful = g.met.G.Game.lawful in
     let own = own_reached r start c.args.start.now.legal in
     let (k, known) = c.advice.ensures in
-    on_ok_map c.converse.result _ _
+    on_ok_weaker c.converse.result
     (λ t. (
       dialogue r s m k v start first t.bytes,
       t.writes,
-      unlost_line (course r s m k v start first t.bytes).ending _ (course_even r lawful s m k v start.tier known start first t.bytes own h)
-          (dialogue_closed r lawful s m k v start.tier known start first t.bytes own),
+      (course_even r g.met.G.Game.lawful s m k v start.tier known start first t.bytes own h).1,
     ))
     (c.converse.ensures.ok k known)

@@ -1,25 +1,31 @@
-use Rattle.std.proofs.Common.{◌≡◌, ◌<◌, length, false, is_some, ap, arith, rules, ◌∙◌}
+use Rattle.std.proofs.Common.{◌+◌, ◌<◌, length, ◌∙◌, ap, arith}
 use Rattle.gm_table.proofs.Lower.{WinLose, Ties, later}
-use Rattle.gm_table.proofs.LevelLemmas.{greatest_with_one, greatest_without}
+use Rattle.gm_table.proofs.HoleLemmas.{greatest_over}
+use Rattle.gm_table.proofs.LevelLemmas.{greatest_with_one}
 use Rattle.gm_table.proofs.levels.greatest_levels.Goals as goal
-use Rattle.gm_table.proofs.levels.greatest_levels.Goals.{then-is_some, else-is_some}
+
+pub loop-index-init : goal.loop-index-init
+loop-index-init c =
+    let os = c.args.records.now in
+    let to = c.skip_holes-index in (
+      to.ensures.high,
+      greatest_over WinLose os 0 to.result to.ensures.low to.ensures.high to.ensures.holes,
+      greatest_over Ties os 0 to.result to.ensures.low to.ensures.high to.ensures.holes,
+    )
 
 pub loop-index-preserved : goal.loop-index-preserved
 loop-index-preserved c =
+    let os = c.args.records.now in
+    let l = c.loop-index in
+    let (_, was, tied) = l.invariant in
     let test = c.loop-index-test.true in
-    let long = c.len-index-end.ensures in
-    let inside : c.loop-index.index < length c.args.records.now = omega arith in
-    let (was, tied) = c.loop-index.invariant in
+    let long = c.len.ensures in
+    let inside : l.index < length os = omega arith in
     let known = c.get-known.ensures in
-    elim c.if-is_some.branch [
-      | then-is_some w ↦ (
-        w.win_lose-is ∙ w.later-win_lose.ensures ∙ ap (later c.loop-index.win_lose) w.level_in.ensures
-            ∙ greatest_with_one WinLose c.args.records.now c.loop-index.index c.get-known.result c.loop-index.win_lose inside known was,
-        w.ties-is ∙ w.later-ties.ensures ∙ ap (later c.loop-index.ties) w.level_in-then-is_some.ensures
-            ∙ greatest_with_one Ties c.args.records.now c.loop-index.index c.get-known.result c.loop-index.ties inside known tied,
-      )
-      | else-is_some w ↦ (let none : is_some c.get-known.result ≡ false = search rules in (
-        w.win_lose-is ∙ greatest_without WinLose c.args.records.now c.loop-index.index c.get-known.result c.loop-index.win_lose inside known none was,
-        w.ties-is ∙ greatest_without Ties c.args.records.now c.loop-index.index c.get-known.result c.loop-index.ties inside known none tied,
-      ))
-    ]
+    let to = c.skip_holes-index-in-loop-index in (
+      to.ensures.high,
+      c.later-win_lose.ensures ∙ ap (later l.win_lose) c.level_in.ensures ∙ greatest_with_one WinLose os l.index c.get-known.result l.win_lose inside known was
+          ∙ greatest_over WinLose os (l.index + 1) to.result to.ensures.low to.ensures.high to.ensures.holes,
+      c.later-ties.ensures ∙ ap (later l.ties) c.level_in-in-loop-index.ensures ∙ greatest_with_one Ties os l.index c.get-known.result l.ties inside known tied
+          ∙ greatest_over Ties os (l.index + 1) to.result to.ensures.low to.ensures.high to.ensures.holes,
+    )

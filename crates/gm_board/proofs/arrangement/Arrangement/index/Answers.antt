@@ -1,10 +1,6 @@
-use Rattle.std.proofs.Common.{◌≡◌, ℕ, ◌+◌, ◌*◌, ◌^◌, ◌<◌, sym, ap, ◌∙◌, subst, arith, lt_trans}
+use Rattle.gm_board.proofs.Lower.{◌≡◌, ℕ, ◌+◌, ◌*◌, ◌^◌, ◌<◌, sym, ap, ◌∙◌, subst, arith, lt_trans, mask_rank, arrangement_index, arrangements}
+use Rattle.gm_board.proofs.Lower.{arrangements_fit, cells_of, mine_mask, their_mask, pieces_index_below, mine_again, theirs_again}
 use Rattle.gm_board.specs.Binomials.{binomial as binomial_of}
-use Rattle.gm_board.specs.Masks.{mask_rank}
-use Rattle.gm_board.specs.Arrangements.{arrangement_index, arrangements}
-use Rattle.gm_board.specs.laws.Arrangements.{arrangements_fit}
-use Rattle.gm_board.specs.Pieces.{cells_of, mine_mask, their_mask}
-use Rattle.gm_board.specs.laws.Pieces.{pieces_index_below, mine_again, theirs_again}
 use Rattle.gm_board.proofs.IndexSteps.{index_is}
 use Rattle.gm_board.proofs.arrangement.Arrangement.index.Goals as goal
 use Rattle.gm_board.proofs.arrangement.Arrangement.index.Goals.{After-rank_subset-2}

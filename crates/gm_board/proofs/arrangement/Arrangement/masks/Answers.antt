@@ -1,9 +1,6 @@
-use Rattle.std.proofs.Common.{◌≡◌, ℕ, ◌-◌, ◌%◌, ap, ap₂, ◌∙◌, arith}
+use Rattle.gm_board.proofs.Lower.{◌≡◌, ℕ, ◌-◌, ◌%◌, ap, ap₂, ◌∙◌, arith, mask_unrank, arrangement_index, cells_of, mine_mask, their_mask, arrangement_pieces}
+use Rattle.gm_board.proofs.Lower.{index_of_masks}
 use Rattle.gm_board.specs.Binomials.{binomial as binomial_of}
-use Rattle.gm_board.specs.Masks.{mask_unrank}
-use Rattle.gm_board.specs.Arrangements.{arrangement_index}
-use Rattle.gm_board.specs.Pieces.{cells_of, mine_mask, their_mask}
-use Rattle.gm_board.specs.laws.Pieces.{arrangement_pieces, index_of_masks}
 use Rattle.gm_board.proofs.IndexSteps.{AreDigits, digits_are, mine_mask_is, their_mask_is}
 use Rattle.gm_board.proofs.arrangement.Arrangement.masks.Goals as goal
 use Rattle.gm_board.proofs.arrangement.Arrangement.masks.Goals.{After-binomial-ways, After-spread-theirs}

@@ -1,4 +1,4 @@
-use Rattle.std.proofs.Common.{◌*◌, ℕ, ap, ap₂, ◌∙◌}
+use Rattle.gm_board.proofs.Lower.{◌*◌, ℕ, ap, ap₂, ◌∙◌}
 use Rattle.gm_board.specs.Binomials.{binomial as binomial_of}
 use Rattle.gm_board.specs.Arrangements.{arrangements}
 use Rattle.gm_board.proofs.arrangement.Arrangement.size.Goals as goal

@@ -1,5 +1,4 @@
-use Rattle.std.proofs.Common.{◌≡◌, ◌+◌, ◌*◌, ◌<◌, ◌^◌, ℕ, List, length, get_or, take, arith, rules, sym, ap, ◌∙◌}
-use Rattle.gm_board.specs.Digits.{radix_size, digits_number, AreBelow}
+use Rattle.gm_board.proofs.Lower.{◌≡◌, ◌+◌, ◌*◌, ◌<◌, ◌^◌, ℕ, List, length, get_or, take, arith, rules, sym, ap, ◌∙◌, radix_size, digits_number, AreBelow}
 use Rattle.gm_board.proofs.RadixSteps.{number_more, prefix_below}
 use Rattle.gm_board.proofs.radix.MixedRadix.encode.Goals as goal
 

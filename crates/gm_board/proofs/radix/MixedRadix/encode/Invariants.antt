@@ -1,5 +1,4 @@
-use Rattle.std.proofs.Common.{◌≡◌, take}
-use Rattle.gm_board.specs.Digits.{digits_number}
+use Rattle.gm_board.proofs.Lower.{◌≡◌, take, digits_number}
 use Rattle.gm_board.proofs.radix.MixedRadix.encode.Given as goal
 
 abbrev pub invariant-loop-k : goal.invariant-loop-k

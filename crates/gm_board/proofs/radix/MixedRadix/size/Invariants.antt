@@ -1,5 +1,4 @@
-use Rattle.std.proofs.Common.{◌≡◌, ◌%◌, ◌^◌, drop}
-use Rattle.gm_board.specs.Digits.{radix_size}
+use Rattle.gm_board.proofs.Lower.{◌≡◌, ◌%◌, ◌^◌, drop, radix_size}
 use Rattle.gm_board.proofs.radix.MixedRadix.size.Given as goal
 
 abbrev pub invariant-loop-k : goal.invariant-loop-k

@@ -1,5 +1,4 @@
-use Rattle.std.proofs.Common.{◌∙◌, ap, length, List}
-use Rattle.gm_game.specs.declared.position.Position.{Position}
+use Rattle.gm_game.proofs.Lower.{◌∙◌, ap, length, List, Position}
 use Rattle.gm_game.proofs.ChildrenLemmas.{canonical_children_once}
 use Rattle.gm_game.proofs.game.Game.count_children.Goals as goal
 

@@ -1,6 +1,9 @@
-use Rattle.std.proofs.Common.{◌≡◌, ℕ, take}
+use Rattle.std.proofs.Common.{◌≡◌, ℕ, ◌-◌, ◌≤◌, take, length}
 use Rattle.gm_table.proofs.Lower.{Phase, indexes_at, run_in}
 use Rattle.gm_table.proofs.runs.Runs.of.Given as goal
 
 abbrev pub invariant-loop-index : goal.invariant-loop-index
-invariant-loop-index l = (phase : Phase) (n : ℕ) → run_in l.runs phase n ≡ indexes_at phase n (take l.index l.records)
+invariant-loop-index l = (l.index ≤ length l.records) × ((phase : Phase) (n : ℕ) → run_in l.runs phase n ≡ indexes_at phase n (take l.index l.records))
+
+abbrev pub decreases-loop-index : goal.decreases-loop-index
+decreases-loop-index l = length l.records - l.index

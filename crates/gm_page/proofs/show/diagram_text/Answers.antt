@@ -1,0 +1,13 @@
+use Rattle.std.proofs.Common.{refl}
+use Rattle.std.proofs.lemmas.Result.{IfOk-weaker}
+use Rattle.gm_page.specs.ShowTexts.{IsDiagram}
+use Rattle.gm_page.proofs.show.diagram_text.Goals as goal
+
+pub returns : goal.returns
+returns g c =
+    let r = g.G.Game.rules in
+    let s = g.G.Shown.shown in
+    let m = g.G.Shown.move_shown in
+    let known = c.args.known.now in
+    IfOk-weaker c.diagram.result _ (λ v. IsDiagram r s m g.G.Pictured.picture c.args.valued (s known.position) v.items)
+    (λ v h. (known.position, (known.legal, refl), c.value.result, c.value.ensures.value, h)) c.diagram.ensures

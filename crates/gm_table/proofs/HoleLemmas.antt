@@ -1,0 +1,50 @@
+-- What indexes without a record leave unchanged.
+use Rattle.std.proofs.Common.{◌≡◌, ℕ, zero, suc, ◌+◌, ◌/◌, ◌<◌, ◌≤◌, ◌==◌, true, List, [], ◌∷◌, Option, None, map, take, length, slice_get, IfSome, refl, sym, ap, ◌∙◌, arith, inl, inr, eq-eqb}
+use Rattle.gm_table.proofs.Lower.{cases_lt, Solved, Phase, record_at, wide, unpacked, indexes_at, greatest_of}
+use Rattle.gm_table.proofs.LevelLemmas.{greatest_without}
+use Rattle.gm_table.proofs.RunLemmas.{indexes_with}
+
+-- a short form of no record is that of a number of no record
+pub wide_holes : (shorts : List ℕ) (k : ℕ) → IfSome (slice_get shorts k) (λ short. short < 32) → IfSome (slice_get (map wide shorts) k) (λ number. number < 1048576)
+wide_holes [] k h = h
+wide_holes (x ∷ xs) zero h = omega arith
+wide_holes (x ∷ xs) (suc k) h = wide_holes xs k h
+
+-- a number of no record
+pub unpacked_holes : (numbers : List ℕ) (k : ℕ) → IfSome (slice_get numbers k) (λ number. number < 1048576) → record_at (map unpacked numbers) k ≡ None
+unpacked_holes [] k h = refl
+unpacked_holes (n ∷ ns) zero h = rw (eq-eqb (n / 1048576) 0 (omega arith)) refl
+unpacked_holes (n ∷ ns) (suc k) h = unpacked_holes ns k h
+
+-- all indexes from one up to another have no record
+abbrev pub AreHoles : List (Option Solved) → ℕ → ℕ → Type 0
+AreHoles os from to = (k : ℕ) → from ≤ k → k < to → record_at os k ≡ None
+
+-- what the first records have, if another index without a record doesn't change it
+over_holes : (A : Type 0) (f : List (Option Solved) → A) (os : List (Option Solved)) → ((i : ℕ) → i < length os → record_at os i ≡ None → f (take (i + 1) os) ≡ f (take i os))
+    → (from to : ℕ) → from ≤ to → to ≤ length os → AreHoles os from to → f (take to os) ≡ f (take from os)
+over_holes A f os same from zero order inside holes =
+    let e : zero ≡ from = omega arith in
+    ap (λ (n : ℕ). f (take n os)) e
+over_holes A f os same from (suc to) order inside holes =
+    elim (cases_lt from (suc to)) [
+      | inl l ↦ (
+          let e : suc to ≡ to + 1 = omega arith in
+          ap (λ (n : ℕ). f (take n os)) e ∙ same to (omega arith) (holes to (omega arith) (omega arith))
+          ∙ over_holes A f os same from to (omega arith) (omega arith) (λ k low high. holes k low (omega arith)))
+      | inr m ↦ (let e : suc to ≡ from = omega arith in ap (λ (n : ℕ). f (take n os)) e)
+    ]
+
+-- no index without a record is at a place
+pub indexes_over : (phase : Phase) (n : ℕ) (os : List (Option Solved)) (from to : ℕ) → from ≤ to → to ≤ length os → AreHoles os from to
+    → indexes_at phase n (take from os) ≡ indexes_at phase n (take to os)
+indexes_over phase n os from to order inside holes =
+    sym (over_holes (List ℕ) (indexes_at phase n) os
+    (λ i l none. sym (indexes_with phase n i os None (indexes_at phase n (take i os)) l (sym none) refl)) from to order inside holes)
+
+-- nor has it a level
+pub greatest_over : (phase : Phase) (os : List (Option Solved)) (from to : ℕ) → from ≤ to → to ≤ length os → AreHoles os from to
+    → greatest_of phase (take from os) ≡ greatest_of phase (take to os)
+greatest_over phase os from to order inside holes =
+    sym (over_holes (Option ℕ) (greatest_of phase) os
+    (λ i l none. sym (greatest_without phase os i None (greatest_of phase (take i os)) l (sym none) refl refl)) from to order inside holes)

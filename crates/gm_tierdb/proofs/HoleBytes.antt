@@ -1,0 +1,55 @@
+-- The bytes of indexes without a record.
+use Rattle.std.proofs.Common.{◌≡◌, ℕ, zero, suc, ◌+◌, ◌*◌, ◌-◌, ◌<◌, ◌≤◌, List, [], ◌++◌, length, take, replicate, Option, None, refl, sym, ap, ◌∙◌, append_assoc, append-nil, arith, inl, inr}
+use Rattle.std.specs.List.{flat_map}
+use Rattle.std.proofs.lemmas.Bool.{cases_lt}
+use Rattle.std.proofs.lemmas.List.{replicate-append-replicate}
+use Rattle.gm_game.specs.declared.position.Solved.{Solved}
+use Rattle.gm_table.specs.Tables.{record_at}
+use Rattle.gm_table.specs.declared.version.Version.{Version}
+use Rattle.gm_table.specs.declared.version.Version.TheVariants.{One, Two}
+use Rattle.gm_table.specs.RecordCodes.{width, record_bytes}
+use Rattle.gm_tierdb.proofs.RecordLemmas.{one_more}
+
+abbrev zeros : ℕ → List ℕ
+zeros n = replicate n 0
+
+-- the bytes of no record are zeros
+no_record : (v : Version) → record_bytes v None ≡ zeros (width v)
+no_record One = refl
+no_record Two = refl
+
+zeros_more : (v : Version) (k n : ℕ) → n ≡ suc k → zeros (width v * k) ++ zeros (width v) ≡ zeros (width v * n)
+zeros_more One k n e = replicate-append-replicate (2 * k) 2 0 ∙ ap zeros (let s : 2 * k + 2 ≡ 2 * n = omega arith in s)
+zeros_more Two k n e = replicate-append-replicate (4 * k) 4 0 ∙ ap zeros (let s : 4 * k + 4 ≡ 4 * n = omega arith in s)
+
+no_zeros : (v : Version) (n : ℕ) → n ≡ 0 → zeros (width v * n) ≡ []
+no_zeros One n e = ap zeros (let s : 2 * n ≡ 0 = omega arith in s)
+no_zeros Two n e = ap zeros (let s : 4 * n ≡ 0 = omega arith in s)
+
+-- the bytes of some records, and of indexes after them that have none
+pub holes_more : (v : Version) (out : List ℕ) (os : List (Option Solved)) (from to : ℕ) → from ≤ to → to ≤ length os
+    → ((k : ℕ) → from ≤ k → k < to → record_at os k ≡ None)
+    → (out ++ flat_map (record_bytes v) (take from os)) ++ zeros (width v * (to - from)) ≡ out ++ flat_map (record_bytes v) (take to os)
+holes_more v out os from zero order inside holes =
+    let e : from ≡ 0 = omega arith in
+    ap (λ l. (out ++ flat_map (record_bytes v) (take from os)) ++ l) (no_zeros v (0 - from) (omega arith))
+    ∙ append-nil (out ++ flat_map (record_bytes v) (take from os))
+    ∙ ap (λ (n : ℕ). out ++ flat_map (record_bytes v) (take n os)) e
+holes_more v out os from (suc to) order inside holes =
+    elim (cases_lt from (suc to)) [
+      | inl l ↦ (
+          let front = out ++ flat_map (record_bytes v) (take from os) in
+          let e : to + 1 ≡ suc to = omega arith in
+          ap (λ l. front ++ l) (sym (zeros_more v (to - from) (suc to - from) (omega arith)))
+          ∙ sym (append_assoc front (zeros (width v * (to - from))) (zeros (width v)))
+          ∙ ap (λ l. l ++ zeros (width v)) (holes_more v out os from to (omega arith) (omega arith) (λ k low high. holes k low (omega arith)))
+          ∙ ap (λ l. (out ++ flat_map (record_bytes v) (take to os)) ++ l)
+          (sym (no_record v) ∙ ap (record_bytes v) (sym (holes to (omega arith) (omega arith))))
+          ∙ one_more v out os to (omega arith)
+          ∙ ap (λ (n : ℕ). out ++ flat_map (record_bytes v) (take n os)) e)
+      | inr m ↦ (
+          let e : from ≡ suc to = omega arith in
+          ap (λ l. (out ++ flat_map (record_bytes v) (take from os)) ++ l) (no_zeros v (suc to - from) (omega arith))
+          ∙ append-nil (out ++ flat_map (record_bytes v) (take from os))
+          ∙ ap (λ (n : ℕ). out ++ flat_map (record_bytes v) (take n os)) e)
+    ]

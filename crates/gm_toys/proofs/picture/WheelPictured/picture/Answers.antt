@@ -1,0 +1,17 @@
+use Rattle.std.proofs.Common.{refl}
+use Rattle.std.specs.Fmt.{digits}
+use Rattle.gm_toys.specs.Pictures.{wheel_picture}
+use Rattle.gm_draw.specs.Points.{number_points}
+use Rattle.gm_toys.proofs.picture.WheelPictured.picture.Goals as goal
+
+pub returns : goal.returns
+unfolding wheel_picture number_points digits
+returns c = record {
+  title = refl;
+  style = refl;
+  board = refl;
+  rows = refl;
+  points = refl;
+  mover = λ p. refl;
+  naming = refl;
+}
