@@ -3,11 +3,20 @@ ghost use Rattle.std.specs.Prelude.{◌≡◌, ◌++◌, OnOk};
 ghost use Rattle.std.specs.List.{flat_map};
 ghost use Rattle.gamesman.specs.Engines.{game_line, line_games, board_games, tactix_games, number_games, engine_games};
 
-use crate::games::{
-    Achi, Countdown, Dao, Dodgem, Hare, Kqk, Krk, MuTorere, Pong, Shisima, TacTix, Takeaway,
-    Tapatan, ThreeMens, TicTacToe, Wheel,
-};
+use gm_dao::dao::Dao;
+use gm_dodgem::dodgem::Dodgem;
+use gm_hare::hare::Hare;
+use gm_morris::games::{Achi, ThreeMens, TicTacToe};
+use gm_mutorere::mutorere::MuTorere;
 use gm_page::page::push_game;
+use gm_pong::pong::Pong;
+use gm_squares::chess::{Kqk, Krk};
+use gm_tactix::tactix::TacTix;
+use gm_toys::countdown::Countdown;
+use gm_toys::takeaway::Takeaway;
+use gm_toys::wheel::Wheel;
+use gm_ways::shisima::Shisima;
+use gm_ways::tapatan::Tapatan;
 use std::alloc::{AllocError, Global};
 
 /// Appends the lines of all games that the engine solves.

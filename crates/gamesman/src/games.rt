@@ -17,21 +17,8 @@ use crate::solve::solve;
 use crate::tables::BuildOptions;
 use gm_command::names::GameName;
 use gm_command::requests::GameCommand;
-pub use gm_dao::dao::Dao;
-pub use gm_dodgem::dodgem::Dodgem;
+use gm_command::with_games;
 use gm_draw::pictured::Pictured;
-pub use gm_hare::hare::Hare;
-pub use gm_morris::games::{Achi, ThreeMens, TicTacToe};
-pub use gm_mutorere::mutorere::MuTorere;
-pub use gm_pong::pong::Pong;
-pub use gm_squares::chess::{Kqk, Krk};
-pub use gm_squares::foxhounds::FoxHounds;
-pub use gm_tactix::tactix::TacTix;
-pub use gm_toys::countdown::Countdown;
-pub use gm_toys::takeaway::Takeaway;
-pub use gm_toys::wheel::Wheel;
-pub use gm_ways::shisima::Shisima;
-pub use gm_ways::tapatan::Tapatan;
 use std::fs::Files;
 use std::io::{Read, Write};
 use std::sync::Wait;
@@ -113,35 +100,12 @@ pub fn answer_for<
     ensures answered { IsAnswered (spec_of game) command.entry (I.remaining input.old) (O.contents output.old) (O.contents output.new) result }
     ensures naming { command.entry ≡ GameCommand.Naming → output.new ≡ output.old }
 {
-    macro_rules! answer_of {
-        ($game:ty) => { answer::<$game, R, I, O, E>(rt, command, options, input, output, errors) };
+    macro_rules! answers {
+        ([] $({ $($name:literal => $game:ident: $type:ty,)* })*) => {
+            match game {
+                $($(GameName::$game => answer::<$type, R, I, O, E>(rt, command, options, input, output, errors),)*)*
+            }
+        };
     }
-    match game {
-        GameName::Countdown => answer_of!(Countdown<10>),
-        GameName::Wheel => answer_of!(Wheel),
-        GameName::TacTix1 => answer_of!(TacTix<1, false>),
-        GameName::TacTix2 => answer_of!(TacTix<2, false>),
-        GameName::TacTix3 => answer_of!(TacTix<3, false>),
-        GameName::TacTix4 => answer_of!(TacTix<4, false>),
-        GameName::TacTix5 => answer_of!(TacTix<5, false>),
-        GameName::TacTix1Misere => answer_of!(TacTix<1, true>),
-        GameName::TacTix2Misere => answer_of!(TacTix<2, true>),
-        GameName::TacTix3Misere => answer_of!(TacTix<3, true>),
-        GameName::TacTix4Misere => answer_of!(TacTix<4, true>),
-        GameName::TacTix5Misere => answer_of!(TacTix<5, true>),
-        GameName::TicTacToe => answer_of!(TicTacToe),
-        GameName::ThreeMens => answer_of!(ThreeMens),
-        GameName::Achi => answer_of!(Achi),
-        GameName::MuTorere => answer_of!(MuTorere),
-        GameName::Dao => answer_of!(Dao),
-        GameName::Hare => answer_of!(Hare),
-        GameName::PongHauKi => answer_of!(Pong),
-        GameName::Shisima => answer_of!(Shisima),
-        GameName::Takeaway => answer_of!(Takeaway),
-        GameName::Tapatan => answer_of!(Tapatan),
-        GameName::Dodgem => answer_of!(Dodgem),
-        GameName::Krk => answer_of!(Krk),
-        GameName::Kqk => answer_of!(Kqk),
-        GameName::FoxHounds => answer_of!(FoxHounds),
-    }
+    with_games!(answers)
 }

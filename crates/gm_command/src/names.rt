@@ -36,88 +36,113 @@ pub enum GameName {
     FoxHounds,
 }
 
-// Calls a macro with the games that `list` prints, in its order, each with its name. The list doesn't change, since scripts read
-// it. Further words of the call are passed on in brackets.
-macro_rules! first_games {
+/// Calls a macro with all games: each has its name, its variant and its type. First come those that `list` prints, in its order,
+/// which doesn't change, since scripts read it. Those that were added later, in a second group, are printed by `list --all` after
+/// them. Further words of the call are passed on in brackets.
+#[macro_export]
+macro_rules! with_games {
     ($each:ident $($words:tt)*) => {
         $each! {
             [$($words)*]
-            "countdown" => Countdown,
-            "wheel" => Wheel,
-            "tactix-1" => TacTix1,
-            "tactix-2" => TacTix2,
-            "tactix-3" => TacTix3,
-            "tactix-4" => TacTix4,
-            "tactix-5" => TacTix5,
-            "tactix-1-misere" => TacTix1Misere,
-            "tactix-2-misere" => TacTix2Misere,
-            "tactix-3-misere" => TacTix3Misere,
-            "tactix-4-misere" => TacTix4Misere,
-            "tactix-5-misere" => TacTix5Misere,
-            "tictactoe" => TicTacToe,
-            "threemens" => ThreeMens,
-            "achi" => Achi,
-            "mutorere" => MuTorere,
-            "dao" => Dao,
-            "hare" => Hare,
+            {
+                "countdown" => Countdown: gm_toys::countdown::Countdown<10>,
+                "wheel" => Wheel: gm_toys::wheel::Wheel,
+                "tactix-1" => TacTix1: gm_tactix::tactix::TacTix<1, false>,
+                "tactix-2" => TacTix2: gm_tactix::tactix::TacTix<2, false>,
+                "tactix-3" => TacTix3: gm_tactix::tactix::TacTix<3, false>,
+                "tactix-4" => TacTix4: gm_tactix::tactix::TacTix<4, false>,
+                "tactix-5" => TacTix5: gm_tactix::tactix::TacTix<5, false>,
+                "tactix-1-misere" => TacTix1Misere: gm_tactix::tactix::TacTix<1, true>,
+                "tactix-2-misere" => TacTix2Misere: gm_tactix::tactix::TacTix<2, true>,
+                "tactix-3-misere" => TacTix3Misere: gm_tactix::tactix::TacTix<3, true>,
+                "tactix-4-misere" => TacTix4Misere: gm_tactix::tactix::TacTix<4, true>,
+                "tactix-5-misere" => TacTix5Misere: gm_tactix::tactix::TacTix<5, true>,
+                "tictactoe" => TicTacToe: gm_morris::games::TicTacToe,
+                "threemens" => ThreeMens: gm_morris::games::ThreeMens,
+                "achi" => Achi: gm_morris::games::Achi,
+                "mutorere" => MuTorere: gm_mutorere::mutorere::MuTorere,
+                "dao" => Dao: gm_dao::dao::Dao,
+                "hare" => Hare: gm_hare::hare::Hare,
+            }
+            {
+                "ponghauki" => PongHauKi: gm_pong::pong::Pong,
+                "shisima" => Shisima: gm_ways::shisima::Shisima,
+                "takeaway" => Takeaway: gm_toys::takeaway::Takeaway,
+                "tapatan" => Tapatan: gm_ways::tapatan::Tapatan,
+                "dodgem" => Dodgem: gm_dodgem::dodgem::Dodgem,
+                "krk" => Krk: gm_squares::chess::Krk,
+                "kqk" => Kqk: gm_squares::chess::Kqk,
+                "foxhounds" => FoxHounds: gm_squares::foxhounds::FoxHounds,
+            }
         }
     };
 }
 
-// Calls a macro with the games that were added later. `list --all` prints them after the first ones.
-macro_rules! later_games {
-    ($each:ident $($words:tt)*) => {
-        $each! {
-            [$($words)*]
-            "ponghauki" => PongHauKi,
-            "shisima" => Shisima,
-            "takeaway" => Takeaway,
-            "tapatan" => Tapatan,
-            "dodgem" => Dodgem,
-            "krk" => Krk,
-            "kqk" => Kqk,
-            "foxhounds" => FoxHounds,
-        }
-    };
+// Calls a macro with the first or with the later games.
+macro_rules! group {
+    ([first $each:ident] $first:tt $later:tt) => { $each! $first };
+    ([later $each:ident] $first:tt $later:tt) => { $each! $later };
 }
 
 // Writes the array of games with their names.
 macro_rules! named {
-    ([] $($name:literal => $game:ident,)*) => { [$(($name, GameName::$game)),*] };
+    ($($name:literal => $game:ident: $type:ty,)*) => { [$(($name, GameName::$game)),*] };
 }
 
 // Writes the text with a line for each name.
 macro_rules! lines {
-    ([] $($name:literal => $game:ident,)*) => { concat!($($name, "\n"),*) };
+    ($($name:literal => $game:ident: $type:ty,)*) => { concat!($($name, "\n"),*) };
 }
 
-// Writes the match that reads a name, with the value for all other texts.
+// Writes the number of games.
+macro_rules! count {
+    ($($name:literal => $game:ident: $type:ty,)*) => { 0 $(+ one!($game))* };
+}
+
+// Writes 1 for a game.
+macro_rules! one {
+    ($game:ident) => { 1 };
+}
+
+// Writes the match that reads a name.
 macro_rules! read {
-    ([$text:ident $other:expr] $($name:literal => $game:ident,)*) => {
+    (
+        [$text:ident]
+        { $($name:literal => $game:ident: $type:ty,)* }
+        { $($later:literal => $later_game:ident: $later_type:ty,)* }
+    ) => {
         match $text {
             $($name => Some(GameName::$game),)*
-            _ => $other,
+            _ => match $text {
+                $($later => Some(GameName::$later_game),)*
+                _ => None,
+            },
         }
     };
 }
 
+// How many games the two groups have.
+const FIRST: usize = with_games!(group first count);
+
+const LATER: usize = with_games!(group later count);
+
 /// The games that `list` prints, with their names.
-pub const GAMES: [(&str, GameName); 18] = first_games!(named);
+pub const GAMES: [(&str, GameName); FIRST] = with_games!(group first named);
 
 /// The games that only `list --all` prints, with their names.
-pub const LATER_GAMES: [(&str, GameName); 8] = later_games!(named);
+pub const LATER_GAMES: [(&str, GameName); LATER] = with_games!(group later named);
 
 /// The names that `list` prints, one in each line.
-pub const LISTED: &str = first_games!(lines);
+pub const LISTED: &str = with_games!(group first lines);
 
 /// The names that only `list --all` prints, one in each line.
-pub const LISTED_LATER: &str = later_games!(lines);
+pub const LISTED_LATER: &str = with_games!(group later lines);
 
 /// Returns the game of this name, if there is one.
 pub fn game_named(name: &str) -> Option<GameName>
     ensures { result ≡ game_of_name name.now }
 {
-    first_games!(read name later_games!(read name None))
+    with_games!(read name)
 }
 
 /// The likeness above which a name is taken for a misspelled one. The command line uses the same limit for its commands.
