@@ -1,6 +1,8 @@
 """What the parts share: runs of a program with calls refused, figures, and the right files of a game."""
 import concurrent.futures
+import glob
 import hashlib
+import json
 import os
 import re
 import shutil
@@ -12,6 +14,19 @@ HERE = os.path.dirname(os.path.abspath(__file__))
 ROOT = os.path.dirname(os.path.dirname(HERE))
 GAMESMAN = os.path.join(ROOT, "crates/gamesman/out/gamesman")
 DRILL = os.path.join(ROOT, "crates/drill/out/drill")
+
+
+
+def told_of_games():
+    """What the crates of games tell tools of each game, by its name: their files games.json (docs/ADDING_A_GAME.md)."""
+    found = {}
+    for path in sorted(glob.glob(os.path.join(ROOT, "crates/*/games.json"))):
+        with open(path, encoding="utf-8") as it:
+            found |= json.load(it)
+    return found
+
+
+TOLD = told_of_games()
 
 # A run that takes longer than this hangs.
 SECONDS = 120

@@ -1,19 +1,25 @@
-"""What the lines about one game say of its start agrees: its moves, its line of best play, its value, and its drawing."""
+"""The games are listed as docs/GAMES.md lists them, and what the lines about one game say of its start agrees: its moves, its line of best play, its value, and
+its drawing."""
 import os
+import re
 import subprocess
+
+from common import GAMESMAN, ROOT
 
 # Tac Tix on 5 by 5 takes too long for these calls.
 TOO_LARGE = {"tactix-5", "tactix-5-misere"}
 
 
 def listed():
-    """The games that `list --all` has to print, by questions.txt."""
-    with open(os.path.join(os.path.dirname(os.path.abspath(__file__)), "questions.txt"), encoding="utf-8") as it:
-        lines = it.read().split("$ gamesman list --all\n")[1].split("$ ")[0].splitlines()
-    return [line[2:] for line in lines if line.startswith("> ")]
+    """The games that `list` has to print, and those that `list --all` has to print after them, by docs/GAMES.md."""
+    with open(os.path.join(ROOT, "docs/GAMES.md"), encoding="utf-8") as it:
+        groups = re.search(r"(?s)\n`list` prints, in order, (.*?)`list --all` also prints (.*?)\. ", it.read()).groups()
+    return [re.findall(r"`([\w-]+)`", group) for group in groups]
 
 
-GAMES = [game for game in listed() if game not in TOO_LARGE]
+FIRST, LATER = listed()
+
+GAMES = [game for game in FIRST + LATER if game not in TOO_LARGE]
 
 # The most columns that a drawing takes.
 COLUMNS = 50
@@ -50,3 +56,12 @@ def wrong(program, game):
     if not whole:
         return "the line is not as long as its value says"
     return None if drawing and all(len(row) <= COLUMNS for row in drawing) else "the drawing is too wide"
+
+
+def games_are_listed(room):
+    # Scripts rely on what `list` prints, so games that came later stand after it.
+    found, every = told(GAMESMAN, "list"), told(GAMESMAN, "list", "--all")
+    return None if (found, every) == (FIRST, FIRST + LATER) else f"{found} and {every} are listed"
+
+
+LISTED = (games_are_listed,)

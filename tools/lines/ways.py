@@ -1,23 +1,24 @@
-"""Games on points that ways join, solved from the words of their rules alone (docs/GAMES.md), and what the program says of every text beside that."""
+"""Games on points that ways join, solved from the words of their rules alone (docs/GAMES.md; the ways are those of games.json in their crates), and what the
+program says of every text beside that."""
 import json
 import subprocess
 from itertools import product
 
-from common import GAMESMAN
+from common import GAMESMAN, TOLD
 
 SECONDS = 120
-
-UPPER_LEFT, UPPER_RIGHT, CENTER, LOWER_LEFT, LOWER_RIGHT = range(5)
 
 SEEN_BY_THE_OTHER = str.maketrans("xo", "ox")
 
 
 class Game:
-    """A game: its name, the names of its points, the pairs of points that are joined, its lines, the pieces of each side, and how many boards are legal."""
+    """A game: its name, the names of its points, the ways, each as the points along it, its lines, the pieces of each side, and how many boards are legal."""
 
-    def __init__(self, name, points, ways, lines, pieces, legal):
-        self.name, self.points, self.lines, self.pieces, self.legal = name, points, lines, pieces, legal
-        self.beside = {one: [other for pair in ways if one in pair for other in pair if other != one] for one in range(len(points))}
+    def __init__(self, name, told):
+        self.name, self.points, self.pieces, self.legal = name, told["points"].split(), told["pieces"], told["legal"]
+        self.lines = [[self.points.index(point) for point in line] for line in told["lines"]]
+        ways = [[self.points.index(point) for point in pair] for way in told["ways"] for pair in zip(way, way[1:])]
+        self.beside = {one: [other for pair in ways if one in pair for other in pair if other != one] for one in range(len(self.points))}
 
     def has_line(self, board, piece):
         return any(all(board[point] == piece for point in line) for line in self.lines)
@@ -52,22 +53,6 @@ class Game:
             number += 1
 
 
-PONG_WAYS = [(CENTER, point) for point in range(5) if point != CENTER] + [(UPPER_LEFT, LOWER_LEFT), (UPPER_RIGHT, LOWER_RIGHT), (LOWER_LEFT, LOWER_RIGHT)]
-
-PONG = Game("ponghauki", "01234", PONG_WAYS, [], 2, 30)
-
-# The ring, and the center, which is joined to all of it. Of the 1,680 arrangements 80 have a line of the mover's: each of four lines beside 20 of the other.
-SHISIMA_WAYS = [(point, (point + 1) % 8) for point in range(8)] + [(point, 8) for point in range(8)]
-
-SHISIMA = Game("shisima", "01234567c", SHISIMA_WAYS, [(point, 8, point + 4) for point in range(4)], 3, 1600)
-
-
-# Rows, columns and diagonals; ways join the points beside each other in them. 160 of the 1,680 arrangements have a line of the mover's.
-TAPATAN_LINES = [(0, 1, 2), (3, 4, 5), (6, 7, 8), (0, 3, 6), (1, 4, 7), (2, 5, 8), (0, 4, 8), (2, 4, 6)]
-
-TAPATAN = Game("tapatan", "123456789", [way for line in TAPATAN_LINES for way in zip(line, line[1:])], TAPATAN_LINES, 3, 1520)
-
-
 def told(game, texts):
     ran = subprocess.run([GAMESMAN, "ask", game], input="".join(f"{it}\n" for it in texts), capture_output=True, text=True, timeout=SECONDS, check=True)
     return [json.loads(line) for line in ran.stdout.splitlines()]
@@ -88,16 +73,15 @@ def wrong(game):
     return None
 
 
-def pong_is_solved(room):
-    return wrong(PONG)
+class Ways:
+    """A game on points and ways as a part of the lines."""
+
+    def __init__(self, game):
+        self.name, self.game = f"{game}_is_solved", game
+
+    def run(self, _room):
+        why = wrong(Game(self.game, TOLD[self.game]))
+        return [f"{self.name}: {why}"] if why else []
 
 
-def shisima_is_solved(room):
-    return wrong(SHISIMA)
-
-
-def tapatan_is_solved(room):
-    return wrong(TAPATAN)
-
-
-WAYS = (pong_is_solved, shisima_is_solved, tapatan_is_solved)
+GAMES_ON_WAYS = [game for game, told in TOLD.items() if "ways" in told]
