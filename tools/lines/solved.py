@@ -1,5 +1,7 @@
-"""All legal positions of the games up to Achi, of Mu Torere, Hare and Hounds, Dodgem and the chess endings beside an independent solver (tools/solver), a
-process for each game."""
+"""All legal positions of the games up to Achi, of Mu Torere, Hare and Hounds, the chess endings and each crate with rules for it beside an independent solver
+(tools/solver), a process for each game."""
+import glob
+import json
 import os
 import subprocess
 import sys
@@ -9,10 +11,19 @@ from common import ROOT
 RUN = os.path.join(ROOT, "tools/solver/run")
 SECONDS = 900
 
+
+def games_of_crates():
+    """The games whose rules are in their crates, in rules.py."""
+    for path in sorted(glob.glob(os.path.join(ROOT, "crates/*/rules.py"))):
+        with open(os.path.join(os.path.dirname(path), "games.json"), encoding="utf-8") as it:
+            yield from json.load(it)
+
+
 GAMES_BESIDE = (
     "countdown wheel tactix-1 tactix-2 tactix-3 tactix-4 tactix-1-misere tactix-2-misere tactix-3-misere tactix-4-misere"
-    " tictactoe threemens achi mutorere hare dodgem krk kqk"
+    " tictactoe threemens achi mutorere hare krk kqk"
 ).split()
+GAMES_BESIDE += games_of_crates()
 
 
 class Beside:
