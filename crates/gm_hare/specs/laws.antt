@@ -1,7 +1,6 @@
 -- What follows from the definitions.
-pub mod HareLaws
-pub mod HoundFacts
+pub mod BoardFacts
 pub mod MoveFacts
-pub mod PointFacts
+pub mod HareLaws
 pub mod TextLaws
 pub mod HarePictured

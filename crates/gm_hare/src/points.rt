@@ -2,7 +2,7 @@
 ghost use Rattle.std.specs.Prelude.{◌≡◌, ◌<◌, ◌≤◌, length};
 ghost use Rattle.gm_board.specs.Masks.{has_cell};
 ghost use Rattle.gm_hare.specs.Texts.{point_name as name_of};
-ghost use Rattle.gm_hare.specs.laws.PointFacts.{leads as leads_of};
+ghost use Rattle.gm_hare.specs.laws.MoveFacts.{leads as leads_of};
 
 use gm_pieces::step::Step;
 
@@ -32,7 +32,7 @@ pub fn has(mask: u32, point: u32) -> bool
 }
 
 /// Returns whether a move of a side goes along an edge, and not back if it is a hound's.
-#[tactic(auto, using(crate::specs::laws::PointFacts::hound_leads, crate::specs::laws::PointFacts::hare_leads), unfolding(gm_pieces::specs::Steps::from_point, gm_pieces::specs::Steps::to_point))]
+#[tactic(auto, using(crate::specs::laws::MoveFacts::hound_leads, crate::specs::laws::MoveFacts::hare_leads), unfolding(gm_pieces::specs::Steps::from_point, gm_pieces::specs::Steps::to_point))]
 pub fn leads(hounds: bool, number: u32) -> bool
     requires { number < 176 }
     ensures { result ≡ leads_of hounds number }
