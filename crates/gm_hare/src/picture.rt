@@ -12,6 +12,7 @@ impl PicturedMoves for HareRules {
 
     ghost pictured = { hare_pictured };
 
+    #[tactic(auto, using(crate::specs::laws::HarePictured::hare_named), unfolding(crate::specs::HarePicture::hare_picture, crate::specs::HarePicture::hare_points, crate::specs::Texts::point_name))]
     fn picture() -> Picture {
         Picture {
             title: b"Hare and Hounds",

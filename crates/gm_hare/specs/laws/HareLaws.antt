@@ -1,7 +1,7 @@
 -- Hare and Hounds has the laws of a game.
 use Rattle.std.specs.Prelude.{◌≡◌, ◌+◌, ◌*◌, ◌<◌, ◌≤◌, ◌&&◌, ◌||◌, if◌then◌else◌, ◌∷◌, ◌⊎◌}
-use Rattle.gm_pieces.specs.Common.{ℕ, Bool, true, false, eqb, eqb-true, leb, leb-true, ltb, ltb-true, List, [], reverse, length, get_or, None, Some, refl, ap, ◌∙◌, subst}
-use Rattle.gm_pieces.specs.Common.{arith, inl, inr, Contains, cond-true, cond_both, nat_tests, Lose, Win, at, IsAscending, position_of, IsNumbered, contains_head, lone_in}
+use Rattle.gm_pieces.specs.Common.{ℕ, Bool, true, false, eqb, eqb-true, leb, leb-true, ltb, ltb-true, List, [], reverse, length, get_or, None, Some, refl, sym, ap, ◌∙◌, subst}
+use Rattle.gm_pieces.specs.Common.{arith, inl, inr, Contains, cond_both, nat_tests, Lose, Win, at, IsAscending, position_of, IsNumbered, lone_in, or_cases, any_at, list_any}
 use Rattle.gm_pieces.specs.Common.{binomial, members, rank, count_ones, range_with_len, and_left, and_right, filter_few, steps, mask_of, tests_of, at_below, agree, agree_same}
 use Rattle.gm_pieces.specs.Common.{board_game, IsMove, IsMoveGame, IsMoveSymmetric}
 use Rattle.std.specs.Int.Count.{ones, ones_in}
@@ -17,15 +17,14 @@ use Rattle.gm_hare.specs.laws.MoveFacts.{is_step, steps_few, move_joined, led_jo
 unfoldable pub one : List Bool → ℕ → ℕ
 one xs k = if get_or xs k false then 1 else 0
 
--- the mask of three points
-unfoldable pub three : List Bool → ℕ → ℕ
-three xs k = one xs k + 2 * one xs (k + 1) + 4 * one xs (k + 2)
+-- the mask of the hounds
+abbrev mask_by : List Bool → ℕ
+mask_by xs = one xs 0 + 2 * one xs 1 + 4 * one xs 2 + 8 * one xs 3 + 16 * one xs 4 + 32 * one xs 5 + 64 * one xs 6 + 128 * one xs 7 + 256 * one xs 8 + 512 * one xs 9
+    + 1024 * one xs 10
 
--- the mask of the hounds, by columns
-pub mask_is : (xs : List Bool) → length xs ≡ 11 → one xs 0 + 2 * three xs 1 + 16 * three xs 4 + 128 * three xs 7 + 1024 * one xs 10 ≡ mask_of (reverse xs)
-unfolding one three
-mask_is xs l = eqb-true _ _
-    (each_list 11 (λ xs. eqb (one xs 0 + 2 * three xs 1 + 16 * three xs 4 + 128 * three xs 7 + 1024 * one xs 10) (mask_of (reverse xs))) refl xs l)
+pub mask_is : (xs : List Bool) → length xs ≡ 11 → mask_by xs ≡ mask_of (reverse xs)
+unfolding one
+mask_is xs l = eqb-true _ _ (each_list 11 (λ xs. eqb (mask_by xs) (mask_of (reverse xs))) refl xs l)
 
 -- how many hounds, by the mask
 pub ones_are : (xs : List Bool) → length xs ≡ 11 → count_ones (mask_of (reverse xs)) ≡ members xs
@@ -33,11 +32,12 @@ unfolding ones ones_in
 ones_are xs l = eqb-true _ _ (each_list 11 (λ xs. eqb (count_ones (mask_of (reverse xs))) (members xs)) refl xs l)
 
 -- the sum of the columns
-pub tier_is : (xs : List Bool) → length xs ≡ 11 → one xs 1 + one xs 2 + one xs 3 + 2 * (one xs 4 + one xs 5 + one xs 6) + 3 * (one xs 7 + one xs 8 + one xs 9)
-    + 4 * one xs 10 ≡ columns_from 0 xs
+abbrev columns_by : List Bool → ℕ
+columns_by xs = one xs 1 + one xs 2 + one xs 3 + 2 * (one xs 4 + one xs 5 + one xs 6) + 3 * (one xs 7 + one xs 8 + one xs 9) + 4 * one xs 10
+
+pub tier_is : (xs : List Bool) → length xs ≡ 11 → columns_by xs ≡ columns_from 0 xs
 unfolding column one
-tier_is xs l = eqb-true _ _ (each_list 11 (λ xs. eqb (one xs 1 + one xs 2 + one xs 3 + 2 * (one xs 4 + one xs 5 + one xs 6)
-    + 3 * (one xs 7 + one xs 8 + one xs 9) + 4 * one xs 10) (columns_from 0 xs)) refl xs l)
+tier_is xs l = eqb-true _ _ (each_list 11 (λ xs. eqb (columns_by xs) (columns_from 0 xs)) refl xs l)
 
 -- ---- numbering
 -- three hounds are on eleven points in 165 ways
@@ -53,36 +53,29 @@ pub ranked : (b : Hunt) → legal b ≡ true → (mask_rank (mask_of (reverse b.
 unfolding legal binomial mask_rank tests_of
 ranked b l = let t = each is_ranked refl b l in (eqb-true _ _ (and_left _ _ t), ltb-true _ _ (and_right _ _ t))
 
-abbrev pub is_tier : ℕ → Bool
-is_tier t = leb 2 t && leb t 10
-
 abbrev is_numbered : Hunt → Bool
-is_numbered b = is_tier (hunt_tier b) && (ltb (hunt_index b) 3630 && same (hunt_board (hunt_index b)) b)
+is_numbered b = leb (hunt_tier b) 10 && (ltb (hunt_index b) (hare_and_hounds.size (hunt_tier b)) && same (hunt_board (hunt_index b)) b)
 
 numbering : (b : Hunt) → legal b ≡ true → is_numbered b ≡ true
 unfolding legal column binomial hunt_index hunt_board
 numbering b l = each is_numbered refl b l
 
-tier_of : (b : Hunt) → legal b ≡ true → is_tier (hunt_tier b) ≡ true
-tier_of b l = and_left (is_tier (hunt_tier b)) _ (numbering b l)
+-- a tier has 3630 indexes, or none
+size : (t : ℕ) → hare_and_hounds.size t ≤ 3630
+size t = grind (arith, nat_tests)
 
 index_back : (i : ℕ) → i < 3630 → hunt_index (hunt_board i) ≡ i
 unfolding binomial hunt_index hunt_board
 index_back i l = eqb-true _ _ (at_below 3630 (λ i. eqb (hunt_index (hunt_board i)) i) refl i l)
 
--- a tier has 3630 indexes, or none
-size : (t : ℕ) → (hare_and_hounds.size t ≤ 3630) × (is_tier t ≡ true → hare_and_hounds.size t ≡ 3630)
-size t = (grind (arith, nat_tests), λ e. cond-true _ 3630 0 e)
-
 -- the numbering is one to one
 pub numbered : IsNumbered (board_game hare_and_hounds)
 numbered = record {
-  tier_fits = λ b l. let t = leb-true _ _ (and_right (leb 2 (hunt_tier b)) _ (tier_of b l)) in omega (arith, t);
-  size_fits = λ b l. let s = (size (hunt_tier b)).0 in omega (arith, s);
-  index_below = λ b l. let s = (size (hunt_tier b)).1 (tier_of b l) in
-      let i = ltb-true _ _ (and_left (ltb (hunt_index b) 3630) _ (and_right (is_tier (hunt_tier b)) _ (numbering b l))) in omega (arith, s, i);
-  board_back = λ b l. same_hunt _ b (and_right (ltb (hunt_index b) 3630) _ (and_right (is_tier (hunt_tier b)) _ (numbering b l)));
-  index_back = λ t i l k e. let s = (size t).0 in index_back i (omega (arith, s));
+  tier_fits = λ b l. let t = leb-true _ _ (and_left (leb (hunt_tier b) 10) _ (numbering b l)) in omega (arith, t);
+  size_fits = λ b l. let s = size (hunt_tier b) in omega (arith, s);
+  index_below = λ b l. ltb-true _ _ (and_left _ _ (and_right (leb (hunt_tier b) 10) _ (numbering b l)));
+  board_back = λ b l. same_hunt _ b (and_right _ _ (and_right (leb (hunt_tier b) 10) _ (numbering b l)));
+  index_back = λ t i l k e. let s = size t in index_back i (omega (arith, s, l));
 }
 
 -- the start has tier 2 and index 21
@@ -91,13 +84,12 @@ unfolding hunt_index column binomial
 start_position = refl
 
 -- ---- moves
--- the tier stays, or is the next
-next_tier : (t u : ℕ) → is_tier t ≡ true → is_tier u ≡ true → (eqb u t || eqb u (t + 1)) ≡ true → (u ≡ t) ⊎ (((leb 2 t && leb t 9) ≡ true) × (t + 1 ≡ u))
-next_tier t u k l e = grind (arith, nat_tests)
-
-child_in : (x : Bool) (t u : ℕ) → x ≡ true → t ≡ u → Contains (if x then t ∷ [] else []) u
-child_in true t u e f = subst (Contains (t ∷ [])) f (contains_head t [])
-child_in false t u e f = absurd (let z : ⊥ = cc in z)
+-- the tier stays, or is a child
+tier_in : (t u : ℕ) (us : List ℕ) → (eqb u t || list_any (eqb u) us) ≡ true → (u ≡ t) ⊎ Contains us u
+tier_in t u us e = elim (or_cases _ _ e) [
+  | inl f ↦ inl (eqb-true u t f)
+  | inr f ↦ (let x = any_at (eqb u) us f in inr (subst (Contains us) (sym (eqb-true u x.0 x.2)) x.1))
+]
 
 rank_less : (t u : ℕ) → (leb 2 t && leb t 9) ≡ true → t + 1 ≡ u → hare_and_hounds.tier_rank u < hare_and_hounds.tier_rank t
 rank_less t u e f = grind (arith, nat_tests)
@@ -111,12 +103,7 @@ lawful = record {
   start_legal = refl;
   numbers_fit = λ t. omega arith;
   moved_legal = λ b m l h. and_left (legal (play b m)) _ (and_left _ _ (kept b m l h.below h.can));
-  moved_tier = λ b m l h.
-      let k = and_left _ _ (kept b m l h.below h.can) in
-      elim (next_tier (hunt_tier b) (hunt_tier (play b m)) (tier_of b l) (tier_of (play b m) (and_left (legal (play b m)) _ k)) (and_right (legal (play b m)) _ k)) [
-        | inl e ↦ inl e
-        | inr e ↦ inr (child_in _ _ _ e.0 e.1)
-      ];
+  moved_tier = λ b m l h. tier_in (hunt_tier b) (hunt_tier (play b m)) _ (and_right (legal (play b m)) _ (and_left _ _ (kept b m l h.below h.can)));
   child_rank = λ t u c. let h = lone_in (leb 2 t && leb t 9) (t + 1) u c in rank_less t u h.0 h.1;
   child_tiers_ascending = λ t. cond_both (leb 2 t && leb t 9) ((t + 1) ∷ []) [] IsAscending (λ e. tt) (λ e. tt);
   undone = λ b m l h. let k = and_left _ _ (and_right _ _ (kept b m l h.below h.can)) in (and_left _ _ k, same_hunt _ b (and_right _ _ k));

@@ -1,12 +1,12 @@
 -- Moves along edges and moves of boards: facts that are computed.
-use Rattle.std.specs.Prelude.{◌≡◌, ◌+◌, ◌<◌, ◌≤◌, ◌&&◌, ◌||◌, if◌then◌else◌}
+use Rattle.std.specs.Prelude.{◌≡◌, ◌<◌, ◌≤◌, ◌&&◌, ◌||◌, if◌then◌else◌}
 use Rattle.gm_pieces.specs.Common.{ℕ, Bool, true, false, not, eqb, eqb-true, leb, leb-true, ltb, ltb-true, List, length, get_or, set, refl, arith}
-use Rattle.gm_pieces.specs.Common.{filter, list_all, range_with_len, and_left, and_right, is_plain, IsPlain, same_list, has_cell, contains_range, filter_to, all_at}
+use Rattle.gm_pieces.specs.Common.{filter, list_all, list_any, range_with_len, and_left, and_right, is_plain, IsPlain, same_list, has_cell, contains_range, filter_to, all_at}
 use Rattle.gm_pieces.specs.Common.{at_below, agree, agree_same, step_number, from_point, to_point}
 use Rattle.gm_pieces.specs.SmallTables.{implies}
 use Rattle.gm_hare.specs.declared.hunt.Hunt.{Hunt}
 use Rattle.gm_hare.specs.declared.points.TheConstants.{EDGES, AHEAD}
-use Rattle.gm_hare.specs.Board.{column, are_joined, is_ahead, has_hound, is_free, hunt_tier, legal, can_move, play, can_have_led_here, undo, mirror_point, mirrored}
+use Rattle.gm_hare.specs.Board.{column, are_joined, is_ahead, has_hound, is_free, hunt_tier, legal, can_move, play, can_have_led_here, undo, mirror_point, mirrored, hare_and_hounds}
 use Rattle.gm_hare.specs.Texts.{point_name, step_text}
 use Rattle.gm_hare.specs.laws.BoardFacts.{chosen, hunt, of_boards, each, same}
 
@@ -93,9 +93,9 @@ each_move : (p : Hunt → ℕ → Bool) → of_boards (λ b. list_all (p b) step
     → (b : Hunt) (m : ℕ) → legal b ≡ true → m < 176 → is_step m ≡ true → p b m ≡ true
 each_move p e b m l k s = each_step (p b) (each (λ b. list_all (p b) steps_along) e b l) m k s
 
--- the board after a move, d, is legal, of the same tier or the next, and the move taken back leads to b; the move's image leads to d's image
+-- the board after a move, d, is legal, of the same tier or a child tier, and the move taken back leads to b; the move's image leads to d's image
 abbrev pub is_kept : Hunt → Hunt → ℕ → Bool
-is_kept b d m = (legal d && (eqb (hunt_tier d) (hunt_tier b) || eqb (hunt_tier d) (hunt_tier b + 1))) && ((can_have_led_here d m && same (undo d m) b)
+is_kept b d m = (legal d && (eqb (hunt_tier d) (hunt_tier b) || list_any (eqb (hunt_tier d)) (hare_and_hounds.child_tiers (hunt_tier b)))) && ((can_have_led_here d m && same (undo d m) b)
     && (ltb (image_step m) 176 && (can_move (mirrored b) (image_step m) && same (play (mirrored b) (image_step m)) (mirrored d))))
 
 abbrev keeps : Hunt → ℕ → Bool
