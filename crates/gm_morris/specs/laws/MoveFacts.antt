@@ -7,7 +7,7 @@ use Rattle.gm_pieces.specs.Common.{theirs_turned, permute_turned, filled_turned,
 use Rattle.gm_pieces.specs.Common.{square_symmetries, IsMove, brought_back, IsStep, WasStep, IsLeft, step_left, placed_left, set_and_back, gone_again, back_again}
 use Rattle.gm_morris.specs.declared.variant.Variant.{Variant}
 use Rattle.gm_morris.specs.Points.{last_tier, lines, joins}
-use Rattle.gm_morris.specs.Morris.{theirs, pieces, has_line, end_by_last_move, can_move, move_number_bound, moved, play, child_tiers_of, morris}
+use Rattle.gm_morris.specs.Morris.{theirs, pieces, has_line, end_by_last_move, can_move, move_number_bound, moved, play, can_have_led_here, child_tiers_of, morris}
 use Rattle.gm_morris.specs.laws.PointFacts.{joined_within, joined_image, right}
 use Rattle.gm_morris.specs.laws.BoardFacts.{group, image_pieces, image_over, IsLegal}
 
@@ -63,6 +63,23 @@ pub slide_was : (v : Variant) (d : List Cell) (m : ℕ) → was_by v true d m �
 slide_was v d m e =
     let r = and_right (joins v (m / 16) (m % 16)) (is_theirs (cell_at d (m % 16)) && is_empty (cell_at d (m / 16))) e in
     record { there = their_cell _ (and_left _ _ r); left = empty_cell _ (and_right _ _ r) }
+
+-- a move in the last tier, and one that was made from there, is a step; any other placed a piece, which is the mover's when the roles are swapped back
+pub can_slide : (v : Variant) (b : List Cell) (m : ℕ) → length b ≡ 9 → is_last v b ≡ true → IsMove (morris v) b m → IsStep b (m / 16) (m % 16)
+can_slide v b m n last h = slide_step v b m n (subst (λ (x : Bool). can_by v x b m ≡ true) last (step_in v b m h).can)
+
+pub was_slid : (v : Variant) (t : ℕ) (d : List Cell) (m : ℕ) → eqb t (last_tier v) ≡ true → can_have_led_here v t d m ≡ true → (m / 16 < 9) × WasStep d (m / 16) (m % 16)
+unfolding can_have_led_here
+was_slid v t d m last e =
+    let was = ap (λ (x : Bool). was_by v x d m) (sym last) ∙ e in ((joined_within v (m / 16) (m % 16) (and_left _ _ was)).0, slide_was v d m was)
+
+pub was_placed : (v : Variant) (t : ℕ) (d : List Cell) (m : ℕ) → eqb t (last_tier v) ≡ false → m < move_number_bound v t → can_have_led_here v t d m ≡ true
+    → (m < 9) × (is_mine (cell_at (map turned d) m) ≡ true)
+unfolding can_have_led_here move_number_bound
+was_placed v t d m last l e = (
+  subst (λ (x : Bool). m < end_by x) last l,
+  ap is_mine (turned_cell d m Theirs (their_cell _ (ap (λ (x : Bool). was_by v x d m) (sym last) ∙ e))),
+)
 
 -- ---- a move made and taken back
 pub record IsMade (v : Variant) (x : Bool) (b : List Cell) (m : ℕ) : Type 0 where

@@ -47,16 +47,11 @@ joined_image v g a b c l k =
     agree_same _ _ (at_each 9 9 (λ a b. agree (joins v (get_or g a 0) (get_or g b 0)) (joins v a b))
     (all_at (keeps_joins v) (square_symmetries 3) g (right v).joins_kept c) a b l k)
 
--- a table of neighbors that passes the test on all points is right
-table_joins : (v : Variant) (table : List ℕ) → at_all 9 16 (λ a b. agree (has_cell (get_or table a 0) b) (joins v a b)) ≡ true
-    → (a b : ℕ) → a < 9 → b < 16 → has_cell (get_or table a 0) b ≡ joins v a b
-table_joins v table e a b l k = agree_same _ _ (at_each 9 16 (λ a b. agree (has_cell (get_or table a 0) b) (joins v a b)) e a b l k)
-
--- those of the code are
+-- the tables of the code are right
 pub beside_joins : (a b : ℕ) → a < 9 → b < 16 → has_cell (get_or BESIDE a 0) b ≡ joins ThreeMens a b
 unfolding joins
-beside_joins = table_joins ThreeMens BESIDE refl
+beside_joins a b l k = agree_same _ _ (at_each 9 16 (λ a b. agree (has_cell (get_or BESIDE a 0) b) (joins ThreeMens a b)) refl a b l k)
 
 pub along_joins : (a b : ℕ) → a < 9 → b < 16 → has_cell (get_or ALONG_LINES a 0) b ≡ joins Achi a b
 unfolding joins
-along_joins = table_joins Achi ALONG_LINES refl
+along_joins a b l k = agree_same _ _ (at_each 9 16 (λ a b. agree (has_cell (get_or ALONG_LINES a 0) b) (joins Achi a b)) refl a b l k)
