@@ -125,7 +125,8 @@ record IsImage (g : Bool) (b : Hunt) : Type 0 where
   pub twice : image g (image g b) ≡ b
 
 abbrev is_mirrored : Hunt → Bool
-is_mirrored b = (legal (mirrored b) && eqb (hunt_tier (mirrored b)) (hunt_tier b)) && (agree (has_escaped (mirrored b)) (has_escaped b) && same (mirrored (mirrored b)) b)
+is_mirrored b = (legal (mirrored b) && eqb (hunt_tier (mirrored b)) (hunt_tier b))
+    && (agree (has_escaped (mirrored b)) (has_escaped b) && same (mirrored (mirrored b)) b)
 
 image_of : (g : Bool) (b : Hunt) → legal b ≡ true → IsImage g b
 unfolding legal column has_escaped end_by_last_move
@@ -151,7 +152,8 @@ image_moves false b m l h = (m, h, refl)
 image_moves true b m l h =
     let k = and_right _ _ (and_right _ _ (kept b m l h.below h.can)) in
     let e = and_right _ _ k in
-    (image_step m, record { below = ltb-true _ _ (and_left _ _ k); not_over = (image_of true b l).over ∙ h.not_over; can = and_left _ _ e }, same_hunt _ _ (and_right _ _ e))
+    let over = (image_of true b l).over in
+    (image_step m, record { below = ltb-true _ _ (and_left _ _ k); not_over = over ∙ h.not_over; can = and_left _ _ e }, same_hunt _ _ (and_right _ _ e))
 
 both : (g : Bool) → Contains (false ∷ true ∷ []) g
 both false = (0, omega arith, refl)

@@ -14,8 +14,8 @@ use Rattle.gm_draw.specs.laws.Templates.{is_set, template_fits, same_bytes, pict
 use Rattle.gm_hare.specs.Board.{hunt_board, hare_and_hounds, hare_rules}
 use Rattle.gm_hare.specs.HarePicture.{hare_points, hunt_mover, hare_mover, hare_picture}
 use Rattle.gm_hare.specs.Texts.{point_name, step_text, hunt_text, position_text, move_text}
-use Rattle.gm_hare.specs.laws.MoveFacts.{move_ends}
-use Rattle.gm_hare.specs.laws.TextLaws.{board_told, told, text_told, same_marks, texts_readable}
+use Rattle.gm_hare.specs.laws.MoveFacts.{ends, move_joined}
+use Rattle.gm_hare.specs.laws.TextLaws.{marked, board_told, text_told, same_marks, texts_readable}
 
 set : is_set 11 hare_picture ≡ true
 unfolding hare_picture hare_points point_name
@@ -29,7 +29,7 @@ words : (p : Position) (m : ℕ) → hare_rules.is_legal p ≡ true → Contains
     → IsMoveWord hare_picture.style hare_picture.points (move_text p m)
 words p m l c =
     let k = move_in hare_and_hounds (hunt_board p.index) m c in
-    let s = move_ends (hunt_board p.index) m k.below k.can in
+    let s = ends m k.below (move_joined (hunt_board p.index) m k.can) in
     step_words m s.0 s.1
 
 -- the name of the side to move says the side
@@ -38,16 +38,18 @@ mover_told true = refl
 mover_told false = refl
 
 -- the drawing and the side to move say the text
-text_drawn : (p q : Position) → hare_rules.is_legal p ≡ true → hare_rules.is_legal q ≡ true → drawn hare_picture position_text p ≡ drawn hare_picture position_text q
-    → hare_picture.mover p ≡ hare_picture.mover q → position_text p ≡ position_text q
-unfolding hare_picture
+text_drawn : (p q : Position) → hare_rules.is_legal p ≡ true → hare_rules.is_legal q ≡ true
+    → drawn hare_picture position_text p ≡ drawn hare_picture position_text q → hare_picture.mover p ≡ hare_picture.mover q → position_text p ≡ position_text q
+unfolding hare_picture hunt_text
 text_drawn p q l k e m =
     let a = hunt_board p.index in
     let b = hunt_board q.index in
     let same = (λ (j : ℕ) (h : j < 11). same_bytes hare_rules position_text move_text 11 hare_picture set p q j e h) in
     ap hunt_text (sym (text_told a (legal_board (board_game hare_and_hounds) p l))
-    ∙ ap (λ (x : Bool). told x (hunt_text a)) (sym (mover_told a.hounds_move) ∙ ap (λ (t : List ℕ). eqb (length t) 6) m ∙ mover_told b.hounds_move)
-    ∙ ap₂ (board_told b.hounds_move) (same_marks (hunt_text a) (hunt_text b) 100 same) (same_marks (hunt_text a) (hunt_text b) 104 same)
+    ∙ ap (λ (x : Bool). board_told (eqb (if x then 100 else 104) 100) (marked (hunt_text a) 100) (marked (hunt_text a) 104))
+    (sym (mover_told a.hounds_move) ∙ ap (λ (t : List ℕ). eqb (length t) 6) m ∙ mover_told b.hounds_move)
+    ∙ ap₂ (board_told (eqb (if b.hounds_move then 100 else 104) 100))
+    (same_marks (hunt_text a) (hunt_text b) 100 same) (same_marks (hunt_text a) (hunt_text b) 104 same)
     ∙ text_told b (legal_board (board_game hare_and_hounds) q k))
 
 -- the last byte of a text is the side to move

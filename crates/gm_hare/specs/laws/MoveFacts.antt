@@ -35,9 +35,6 @@ pub ends : (m : ℕ) → m < 176 → is_step m ≡ true → (from_point m < 11) 
 unfolding are_joined from_point to_point
 ends m l s = let t = each_step (λ m. ltb (from_point m) 11 && ltb (to_point m) 11) refl m l s in (ltb-true _ _ (and_left _ _ t), ltb-true _ _ (and_right _ _ t))
 
-pub leads_ends : (t : Bool) (m : ℕ) → m < 176 → leads t m ≡ true → (from_point m < 11) × (to_point m < 11)
-leads_ends t m l e = ends m l (and_left _ _ e)
-
 -- the tables have the moves of a side
 pub hound_leads : (m : ℕ) → m < 176 → has_cell (get_or AHEAD (from_point m) 0) (to_point m) ≡ leads true m
 unfolding are_joined is_ahead column from_point to_point
@@ -77,38 +74,34 @@ pub led_joined : (d : Hunt) (m : ℕ) → can_have_led_here d m ≡ true → is_
 unfolding can_have_led_here
 led_joined d m e = and_left _ _ e
 
-pub move_ends : (b : Hunt) (m : ℕ) → m < 176 → can_move b m ≡ true → (from_point m < 11) × (to_point m < 11)
-move_ends b m l e = ends m l (move_joined b m e)
-
-pub led_ends : (d : Hunt) (m : ℕ) → m < 176 → can_have_led_here d m ≡ true → (from_point m < 11) × (to_point m < 11)
-led_ends d m l e = ends m l (led_joined d m e)
-
 -- ---- moves of boards
 -- the number of the move with top and bottom exchanged
 abbrev pub image_step : ℕ → ℕ
 image_step m = step_number (mirror_point (from_point m)) (mirror_point (to_point m))
 
--- a test of boards and moves along edges that passes at all of them passes at each
-each_move : (p : Hunt → ℕ → Bool) → of_boards (λ b. list_all (p b) steps_along) ≡ true
-    → (b : Hunt) (m : ℕ) → legal b ≡ true → m < 176 → is_step m ≡ true → p b m ≡ true
-each_move p e b m l k s = each_step (p b) (each (λ b. list_all (p b) steps_along) e b l) m k s
+-- a test that passes at each legal board for the moves along edges that pass another one
+each_move : (q p : Hunt → ℕ → Bool) → of_boards (λ b. list_all (λ m. implies (q b m) (p b m)) steps_along) ≡ true
+    → (b : Hunt) (m : ℕ) → legal b ≡ true → m < 176 → is_step m ≡ true → q b m ≡ true → p b m ≡ true
+each_move q p e b m l k s =
+    let t = each (λ b. list_all (λ m. implies (q b m) (p b m)) steps_along) e b l in chosen (q b m) (p b m) (each_step (λ m. implies (q b m) (p b m)) t m k s)
 
--- the board after a move, d, is legal, of the same tier or a child tier, and the move taken back leads to b; the move's image leads to d's image
+-- the board after a move, d, is legal, of the same tier or a child tier
+abbrev pub is_child : Hunt → Hunt → Bool
+is_child b d = legal d && (eqb (hunt_tier d) (hunt_tier b) || list_any (eqb (hunt_tier d)) (hare_and_hounds.child_tiers (hunt_tier b)))
+
+-- the image of the move that leads from b to d leads to d's image
+abbrev pub is_imaged : Hunt → Hunt → ℕ → Bool
+is_imaged b d n = ltb n 176 && (can_move (mirrored b) n && same (play (mirrored b) n) (mirrored d))
+
+-- both, and the move taken back leads to b
 abbrev pub is_kept : Hunt → Hunt → ℕ → Bool
-is_kept b d m = (legal d && (eqb (hunt_tier d) (hunt_tier b) || list_any (eqb (hunt_tier d)) (hare_and_hounds.child_tiers (hunt_tier b)))) && ((can_have_led_here d m && same (undo d m) b)
-    && (ltb (image_step m) 176 && (can_move (mirrored b) (image_step m) && same (play (mirrored b) (image_step m)) (mirrored d))))
-
-abbrev keeps : Hunt → ℕ → Bool
-keeps b m = implies (can_move b m) (is_kept b (play b m) m)
+is_kept b d m = is_child b d && ((can_have_led_here d m && same (undo d m) b) && is_imaged b d (image_step m))
 
 pub kept : (b : Hunt) (m : ℕ) → legal b ≡ true → m < 176 → can_move b m ≡ true → is_kept b (play b m) m ≡ true
 unfolding legal can_move play can_have_led_here undo from_point to_point are_joined is_ahead column
-kept b m l k e = chosen (can_move b m) _ (each_move keeps refl b m l k (move_joined b m e)) e
+kept b m l k e = each_move can_move (λ b m. is_kept b (play b m) m) refl b m l k (move_joined b m e) e
 
 -- a move taken back and made again leads to the same board
-abbrev redoes : Hunt → ℕ → Bool
-redoes d m = implies (can_have_led_here d m) (same (play (undo d m) m) d)
-
 pub redone : (d : Hunt) (m : ℕ) → legal d ≡ true → m < 176 → can_have_led_here d m ≡ true → same (play (undo d m) m) d ≡ true
 unfolding legal play can_have_led_here undo from_point to_point are_joined is_ahead column
-redone d m l k e = chosen (can_have_led_here d m) _ (each_move redoes refl d m l k (led_joined d m e)) e
+redone d m l k e = each_move can_have_led_here (λ d m. same (play (undo d m) m) d) refl d m l k (led_joined d m e) e

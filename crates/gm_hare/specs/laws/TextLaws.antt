@@ -1,7 +1,7 @@
 -- The texts of Hare and Hounds are plain, fit a line, and tell positions and moves apart.
-use Rattle.std.specs.Prelude.{◌≡◌, ◌^◌, ◌<◌, ◌&&◌, ◌∷◌, if◌then◌else◌}
+use Rattle.std.specs.Prelude.{◌≡◌, ◌^◌, ◌<◌, ◌&&◌, ◌∷◌}
 use Rattle.std.specs.Int.Count.{count_trailing_zeros}
-use Rattle.gm_pieces.specs.Common.{ℕ, w32, Bool, true, false, eqb, List, [], map, reverse, get_or, refl, sym, ap, ap₂, ◌∙◌, arith, nat_tests, lt-ltb}
+use Rattle.gm_pieces.specs.Common.{ℕ, w32, Bool, true, eqb, List, [], map, reverse, get_or, refl, sym, ap, ap₂, ◌∙◌, arith, nat_tests, lt-ltb}
 use Rattle.gm_pieces.specs.Common.{IsShown, plain_map, has_cell, mask_of, mask_tests_small, tests_of, IsRead, trailing_zeros, AreTexts, texts_are_shown}
 use Rattle.gm_pieces.specs.Common.{Contains, contains_head, contains_later, range_below, range_with_len}
 use Rattle.gm_hare.specs.declared.hunt.Hunt.{Hunt}
@@ -20,25 +20,14 @@ marked t c = map (λ k. eqb (get_or t k 0) c) (range_with_len 0 11)
 abbrev pub board_told : Bool → List Bool → List Bool → Hunt
 board_told x hounds hare = hunt x hounds (trailing_zeros w32 (mask_of (reverse hare)))
 
-abbrev pub told : Bool → List ℕ → Hunt
-told x t = board_told x (marked t 100) (marked t 104)
+-- the board that a text says
+abbrev pub told : List ℕ → Hunt
+told t = board_told (eqb (get_or t 12 0) 100) (marked t 100) (marked t 104)
 
-abbrev is_told : Hunt → Bool
-is_told b = same (told b.hounds_move (hunt_text b)) b
-
--- the text of a legal board and the side to move say the board
-pub text_told : (b : Hunt) → legal b ≡ true → told b.hounds_move (hunt_text b) ≡ b
+-- the text of a legal board says the board
+pub text_told : (b : Hunt) → legal b ≡ true → told (hunt_text b) ≡ b
 unfolding legal hunt_text count_trailing_zeros
-text_told b l = same_hunt _ b (each is_told refl b l)
-
-turn_by : (x : Bool) → eqb (if x then 100 else 104) 100 ≡ x
-turn_by true = refl
-turn_by false = refl
-
--- so does the text alone
-alone_told : (b : Hunt) (t : List ℕ) → legal b ≡ true → hunt_text b ≡ t → told (eqb (get_or t 12 0) 100) t ≡ b
-unfolding hunt_text
-alone_told b t l e = ap (λ (t : List ℕ). told (eqb (get_or t 12 0) 100) t) (sym e) ∙ ap (λ (x : Bool). told x (hunt_text b)) (turn_by b.hounds_move) ∙ text_told b l
+text_told b l = same_hunt _ b (each (λ b. same (told (hunt_text b)) b) refl b l)
 
 map_same : {X Y : Type 0} (f g : X → Y) (xs : List X) → ((x : X) → Contains xs x → f x ≡ g x) → map f xs ≡ map g xs
 map_same f g [] h = refl
@@ -59,8 +48,9 @@ pub read_is : (b : Hunt) (t : List ℕ) (x : Bool) (d n : ℕ) → legal b ≡ t
     → IsRead t 104 11 n → n < 2 ^ 11 → b ≡ hunt x (reverse (tests_of 11 d)) (trailing_zeros w32 n)
 unfolding tests_of
 read_is b t x d n l e f r s m =
-    sym (alone_told b t l e)
-    ∙ ap (λ (x : Bool). told x t) (sym f)
+    sym (text_told b l)
+    ∙ ap told e
+    ∙ ap (λ (x : Bool). board_told x (marked t 100) (marked t 104)) (sym f)
     ∙ ap₂ (board_told x) (tests_read t 100 d r) (tests_read t 104 n s)
     ∙ ap (λ (m : ℕ). hunt x (reverse (tests_of 11 d)) (trailing_zeros w32 m)) (mask_tests_small 11 n m)
 
@@ -70,7 +60,7 @@ unfolding hunt_text
 readable = record {
   text_plain = λ b l. plain_map (hunt_char b) (λ k. grind (arith, nat_tests)) (range_with_len 0 13);
   text_fits = λ b l. omega arith;
-  text_once = λ a b l k e. sym (alone_told a (hunt_text b) l e) ∙ alone_told b (hunt_text b) k refl;
+  text_once = λ a b l k e. sym (text_told a l) ∙ ap told e ∙ text_told b k;
   step_plain = λ b m l h. (step_texts m h.below (move_joined b m h.can)).1;
   step_fits = λ b m l h. let a = (step_texts m h.below (move_joined b m h.can)).0 in omega (arith, a);
   step_once = λ b m n l h k e. sym (step_texts m h.below (move_joined b m h.can)).2 ∙ ap step_told e ∙ (step_texts n k.below (move_joined b n k.can)).2;
