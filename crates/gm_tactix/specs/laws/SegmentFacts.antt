@@ -41,26 +41,6 @@ segments_within s = list_all (λ m. list_all (λ k. ltb k (s * s)) (segment_cell
 unfoldable pub segments_pass : ℕ → Bool
 segments_pass s = leb (length (segments s)) 128 && (segments_within s && keeps_segments s)
 
-pass_1 : segments_pass 1 ≡ true
-unfolding segments_pass keeps_segments segments_within segment_cells is_segment square_symmetries
-pass_1 = refl
-
-pass_2 : segments_pass 2 ≡ true
-unfolding segments_pass keeps_segments segments_within segment_cells is_segment square_symmetries
-pass_2 = refl
-
-pass_3 : segments_pass 3 ≡ true
-unfolding segments_pass keeps_segments segments_within segment_cells is_segment square_symmetries
-pass_3 = refl
-
-pass_4 : segments_pass 4 ≡ true
-unfolding segments_pass keeps_segments segments_within segment_cells is_segment square_symmetries
-pass_4 = refl
-
-pass_5 : segments_pass 5 ≡ true
-unfolding segments_pass keeps_segments segments_within segment_cells is_segment square_symmetries
-pass_5 = refl
-
 -- what holds for each side from 1 to 5
 pub for_sides : (P : ℕ → Type 0) → P 1 → P 2 → P 3 → P 4 → P 5 → (s : ℕ) → 1 ≤ s → s ≤ 5 → P s
 for_sides P a b c d e zero l h = absurd (omega arith)
@@ -72,7 +52,8 @@ for_sides P a b c d e (suc (suc (suc (suc (suc zero))))) l h = e
 for_sides P a b c d e (suc (suc (suc (suc (suc (suc s)))))) l h = absurd (omega arith)
 
 pass : (s : ℕ) → 1 ≤ s → s ≤ 5 → segments_pass s ≡ true
-pass = for_sides (λ s. segments_pass s ≡ true) pass_1 pass_2 pass_3 pass_4 pass_5
+unfolding segments_pass keeps_segments segments_within segment_cells is_segment square_symmetries
+pass = for_sides (λ s. segments_pass s ≡ true) refl refl refl refl refl
 
 -- a square has at most 25 cells
 pub square_small : (s : ℕ) → 1 ≤ s → s ≤ 5 → s * s ≤ 25

@@ -26,28 +26,9 @@ ends_within s m = ltb (first_cell m) (s * s) && ltb (last_cell s m) (s * s)
 abbrev side_test : ℕ → Bool
 side_test s = is_set (s * s) (tactix_picture s false) && (is_set (s * s) (tactix_picture s true) && list_all (ends_within s) (segments s))
 
-side_1 : side_test 1 ≡ true
-unfolding tactix_picture tactix_board square_points is_segment
-side_1 = refl
-
-side_2 : side_test 2 ≡ true
-unfolding tactix_picture tactix_board square_points is_segment
-side_2 = refl
-
-side_3 : side_test 3 ≡ true
-unfolding tactix_picture tactix_board square_points is_segment
-side_3 = refl
-
-side_4 : side_test 4 ≡ true
-unfolding tactix_picture tactix_board square_points is_segment
-side_4 = refl
-
-side_5 : side_test 5 ≡ true
-unfolding tactix_picture tactix_board square_points is_segment
-side_5 = refl
-
 each_side : (s : ℕ) → 1 ≤ s → s ≤ 5 → side_test s ≡ true
-each_side = for_sides (λ s. side_test s ≡ true) side_1 side_2 side_3 side_4 side_5
+unfolding tactix_picture tactix_board square_points is_segment
+each_side = for_sides (λ s. side_test s ≡ true) refl refl refl refl refl
 
 tactix_set : (s : ℕ) (misere : Bool) → 1 ≤ s → s ≤ 5 → is_set (s * s) (tactix_picture s misere) ≡ true
 tactix_set s false low high = and_left _ _ (each_side s low high)

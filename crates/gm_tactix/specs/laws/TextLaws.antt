@@ -48,30 +48,13 @@ text_passes s m = eqb (number_in_text s (segment_text s m)) m && list_all is_pla
 unfoldable pub texts_pass : ℕ → Bool
 texts_pass s = list_all (text_passes s) (segments s)
 
-texts_1 : texts_pass 1 ≡ true
+each_passes : (s : ℕ) → 1 ≤ s → s ≤ 5 → texts_pass s ≡ true
 unfolding texts_pass segment_text is_segment
-texts_1 = refl
-
-texts_2 : texts_pass 2 ≡ true
-unfolding texts_pass segment_text is_segment
-texts_2 = refl
-
-texts_3 : texts_pass 3 ≡ true
-unfolding texts_pass segment_text is_segment
-texts_3 = refl
-
-texts_4 : texts_pass 4 ≡ true
-unfolding texts_pass segment_text is_segment
-texts_4 = refl
-
-texts_5 : texts_pass 5 ≡ true
-unfolding texts_pass segment_text is_segment
-texts_5 = refl
+each_passes = for_sides (λ s. texts_pass s ≡ true) refl refl refl refl refl
 
 passes : (s m : ℕ) → 1 ≤ s → s ≤ 5 → is_segment s m ≡ true → text_passes s m ≡ true
 unfolding texts_pass
-passes s m low high e = all_at (text_passes s) (segments s) m (for_sides (λ s. texts_pass s ≡ true) texts_1 texts_2 texts_3 texts_4 texts_5 s low high)
-    (in_segments s m e)
+passes s m low high e = all_at (text_passes s) (segments s) m (each_passes s low high) (in_segments s m e)
 
 number_back : (s m : ℕ) → 1 ≤ s → s ≤ 5 → is_segment s m ≡ true → number_in_text s (segment_text s m) ≡ m
 number_back s m low high e = eqb-true _ _ (and_left _ _ (passes s m low high e))
