@@ -1,14 +1,15 @@
 -- The cells from which a piece can have slid to its cell, and the boards before a board, taken by the pieces that may have moved.
-use Rattle.std.specs.Prelude.{◌≡◌, ◌≢◌, ◌+◌, ◌-◌, ◌*◌, ◌/◌, ◌%◌, ◌^◌, ◌<◌, ◌≤◌, ◌&&◌, ◌||◌, ◌∷◌}
+use Rattle.std.specs.Prelude.{◌≡◌, ◌≢◌, ◌+◌, ◌-◌, ◌*◌, ◌/◌, ◌^◌, ◌<◌, ◌≤◌, ◌&&◌, ◌||◌, ◌∷◌}
 use Rattle.gm_pieces.specs.Common.{ℕ, zero, suc, Bool, true, false, not, cond, eqb, eqb-true, eq-eqb, ltb, ltb-true, List, [], length, map, set, None, Some, Option}
-use Rattle.gm_pieces.specs.Common.{refl, sym, ap, ap₂, ◌∙◌, subst, arith, inl, inr, bit_and, bit_or, list_all, filter, filter_map, range_with_len}
+use Rattle.gm_pieces.specs.Common.{refl, sym, ap, ap₂, ◌∙◌, subst, arith, inl, inr, bit_and, list_all, filter_map, range_with_len}
 use Rattle.gm_pieces.specs.Common.{cases_Bool, true≢false, Contains, put, put_all, put_more_none, put_more_some, Cell, Empty, Mine, Theirs, turned}
-use Rattle.gm_pieces.specs.Common.{has_cell, weight, none_left, board_of, from_point, to_point, from_back, to_back, all_at, all_from, at_all, at_each, and_left}
-use Rattle.gm_pieces.specs.Common.{and_right, and_both, cond-true, get_or-set_same, get_or-set_other, length-set, length-map, length-append, before_at, before_none}
-use Rattle.gm_pieces.specs.Common.{befores, is_theirs, is_empty, is_taken, cell_at, WasStep, brought_back, turned_cell, filter_in, filter_out}
+use Rattle.gm_pieces.specs.Common.{has_cell, none_left, board_of, from_point, to_point, from_back, to_back, all_at, all_from, at_all, at_each, and_left}
+use Rattle.gm_pieces.specs.Common.{and_right, and_both, cond-true, get_or-set_same, get_or-set_other, length-set, length-map, before_at, before_none}
+use Rattle.gm_pieces.specs.Common.{befores, is_theirs, is_empty, is_taken, cell_at, WasStep, brought_back, turned_cell}
 use Rattle.gm_pieces.specs.Common.{cells_counted, empty_cell, contains_range, range_below, their_cells, IsAscending}
 use Rattle.gm_board.specs.laws.Lists.{filter_map_from, filter_map_to, contains_head, contains_later, contains_cases}
-use Rattle.gm_board.specs.laws.Filters.{one_more_map}
+use Rattle.std.specs.Option.{is_some}
+use Rattle.gm_board.specs.laws.Filters.{filter_map_few}
 use Rattle.gm_game.proofs.Lists.{contains_none, map_in, map_from}
 use Rattle.gm_game.proofs.Putting.{put_all_ascending, put_all_from, put_all_later}
 use Rattle.gm_pieces.specs.laws.Skipped.{puts_skip}
@@ -16,30 +17,11 @@ use Rattle.gm_dao.specs.DaoRules.{in_line, path, beyond, legal, slides, can_have
 use Rattle.gm_dao.specs.MaskSlides.{came_by_masks, way_back, befores_below, AreBeforesBelow}
 use Rattle.gm_dao.specs.laws.BoardFacts.{legal_in}
 use Rattle.gm_dao.specs.laws.SlideFacts.{listed, listed_in, way}
-use Rattle.gm_dao.specs.laws.MoveFacts.{blocks_few}
+use Rattle.gm_dao.specs.laws.CountFacts.{blocks_few}
 use Rattle.gm_dao.specs.laws.BeforeFacts.{was_in}
 use Rattle.gm_dao.proofs.MoveSteps.{was_at}
 use Rattle.gm_dao.proofs.BeforeSteps.{no_before}
-use Rattle.gm_dao.proofs.LoopSteps.{passed_more, by_three}
-
--- ---- the mask of the cells
--- whether a piece can have come, by its three tests
-pub came_by : (free taken c a : ℕ) (x y z : Bool) → x ≡ in_line c a → (in_line c a ≡ true → y ≡ list_all (has_cell free) (path c a)) →
-    (in_line c a ≡ true → z ≡ list_all (has_cell taken) (beyond a c))
-    → ((x && y) && z) ≡ came_by_masks free taken c a
-came_by free taken c a x y z e f g = by_three (in_line c a) (list_all (has_cell free) (path c a)) (list_all (has_cell taken) (beyond a c)) x y z e f g
-
--- what is found of the first n cells
-pub record AreSources (free taken to n g : ℕ) : Type 0 where
-  pub within : g < 2 ^ n
-  pub cells : (k : ℕ) → k < n → has_cell g k ≡ came_by_masks free taken to k
-
--- one more cell, from which the piece can have come or not
-pub came_more : (free taken to n g v : ℕ) (x : Bool) → n < 16 → AreSources free taken to n g → x ≡ came_by_masks free taken to n → v ≡ weight x → AreSources
-    free taken to (n + 1) (bit_or g (v * 2 ^ n % 2 ^ 32))
-came_more free taken to n g v x l h e w =
-    let r = passed_more (came_by_masks free taken to) n g v x l (record { within = h.within; cells = h.cells }) e w in
-    record { within = r.within; cells = r.cells }
+use Rattle.gm_dao.proofs.CountSteps.{ascending_above}
 
 -- ---- a way and the way back
 -- whether a cell is neither of two
@@ -273,55 +255,24 @@ pub before_here : (t : ℕ) (d b : List Cell) (c a : ℕ) → a < 16 → before_
 before_here t d b c a l e = ap (before_at dao t d) (back_at a c l) ∙ e
 
 -- ---- how many there are
-few_more : {B : Type 0} (h : ℕ → Option B) (p : ℕ → Bool) (n : ℕ) (o : Option B) → h n ≡ o → (o ≢ None → p n ≡ true)
-    → length (filter_map h (range_with_len 0 n)) ≤ length (filter p (range_with_len 0 n))
-    → length (filter_map h (range_with_len 0 (n + 1))) ≤ length (filter p (range_with_len 0 (n + 1)))
-few_more h p n None e all i =
-    let more = one_more_map h n in
-    let none : length (filter_map h (n ∷ [])) ≡ 0 = rw e refl in
-    elim (cases_Bool (p n)) [
-      | inl t ↦ (let k = ap (λ (xs : List ℕ). length xs) (filter_in p n t) ∙ length-append (filter p (range_with_len 0 n)) (n ∷ []) in
-          omega (arith, i, more, none, k))
-      | inr t ↦ (let k = ap (λ (xs : List ℕ). length xs) (filter_out p n t) in omega (arith, i, more, none, k))
-    ]
-few_more h p n (Some b) e all i =
-    let more = one_more_map h n in
-    let one : length (filter_map h (n ∷ [])) ≡ 1 = rw e refl in
-    let k = ap (λ (xs : List ℕ). length xs) (filter_in p n (all (λ q. (let z : ⊥ = cc in z)))) ∙ length-append (filter p (range_with_len 0 n)) (n ∷ []) in
-    omega (arith, i, more, one, k)
-
-few_below : {B : Type 0} (h : ℕ → Option B) (p : ℕ → Bool) (n : ℕ) → ((m : ℕ) → m < n → h m ≢ None → p m ≡ true)
-    → length (filter_map h (range_with_len 0 n)) ≤ length (filter p (range_with_len 0 n))
-few_below h p zero all = omega arith
-few_below h p (suc n) all =
-    let e : suc n ≡ n + 1 = omega arith in
-    subst (λ (k : ℕ). length (filter_map h (range_with_len 0 k)) ≤ length (filter p (range_with_len 0 k))) (sym e)
-    (few_more h p n (h n) refl (all n (omega arith)) (few_below h p n (λ m l. all m (omega (arith, l)))))
-
 -- at most sixteen for each of the opponent's pieces
 pub befores_room : (t : ℕ) (d : List Cell) → legal d ≡ true → length (befores_below t d 256) ≤ 128
 unfolding from_point to_point
 befores_room t d l =
     let h = legal_in d l in
-    let few = few_below (λ (m : ℕ). before_at dao t d (way_back m)) (λ (m : ℕ). is_theirs (cell_at d (m / 16))) 256 (λ m k e.
+    let at : ℕ → Option (List Cell) = λ m. before_at dao t d (way_back m) in
+    let few = filter_map_few at (λ m. is_some (at m)) (λ m b e. ap (λ (o : Option (List Cell)). is_some o) e) (range_with_len 0 256) in
+    let blocks = blocks_few (λ m. is_some (at m)) (λ k. is_theirs (cell_at d k)) 16 (λ m k e.
     elim (cases_Bool (can_have_led_here d (way_back m))) [
       | inl w ↦ (
           let z : to_point (way_back m) ≡ m / 16 = omega (arith, k) in
           ap (λ (i : ℕ). is_theirs (cell_at d i)) (sym z) ∙ ap is_theirs (was_in d (way_back m) w).step.there)
-      | inr w ↦ absurd (e (before_not t d (way_back m) w))
+      | inr w ↦ absurd (true≢false (sym e ∙ ap (λ (o : Option (List Cell)). is_some o) (before_not t d (way_back m) w)))
     ]) in
-    let blocks = blocks_few (λ (m : ℕ). is_theirs (cell_at d (m / 16))) (λ (k : ℕ). is_theirs (cell_at d k)) (λ m e. e) 16 in
     let all = cells_counted is_theirs d 16 h.cells in
     omega (arith, few, blocks, all, h.other)
 
 -- ---- in another order
-after_first : (x : ℕ) (xs : List ℕ) → IsAscending (x ∷ xs) → (y : ℕ) → Contains xs y → x < y
-after_first x [] up y h = absurd (contains_none y h)
-after_first x (z ∷ zs) up y h = elim (contains_cases z zs y h) [
-  | inl e ↦ (let l = up.0 in omega (arith, l, e))
-  | inr t ↦ (let l = up.0 in let k = after_first z zs up.1 y t in omega (arith, l, k))
-]
-
 rest_ascending : (x : ℕ) (xs : List ℕ) → IsAscending (x ∷ xs) → IsAscending xs
 rest_ascending x [] up = tt
 rest_ascending x (y ∷ ys) up = up.1
@@ -334,20 +285,20 @@ same_list (x ∷ xs) [] u v f g = absurd (contains_none x (f x (contains_head x 
 same_list (x ∷ xs) (y ∷ ys) u v f g =
     let le : y ≤ x = elim (contains_cases y ys x (f x (contains_head x xs))) [
       | inl e ↦ omega (arith, e)
-      | inr t ↦ (let l = after_first y ys v x t in omega (arith, l))
+      | inr t ↦ (let l = ascending_above y ys v x t in omega (arith, l))
     ] in
     let ge : x ≤ y = elim (contains_cases x xs y (g y (contains_head y ys))) [
       | inl e ↦ omega (arith, e)
-      | inr t ↦ (let l = after_first x xs u y t in omega (arith, l))
+      | inr t ↦ (let l = ascending_above x xs u y t in omega (arith, l))
     ] in
     let here : x ≡ y = omega (arith, le, ge) in
     ap₂ (λ (z : ℕ) (zs : List ℕ). z ∷ zs) here (same_list xs ys (rest_ascending x xs u) (rest_ascending y ys v)
     (λ z c. elim (contains_cases y ys z (f z (contains_later x xs z c))) [
-      | inl e ↦ absurd (let l = after_first x xs u z c in omega (arith, l, e, here))
+      | inl e ↦ absurd (let l = ascending_above x xs u z c in omega (arith, l, e, here))
       | inr t ↦ t
     ])
     (λ z c. elim (contains_cases x xs z (g z (contains_later y ys z c))) [
-      | inl e ↦ absurd (let l = after_first y ys v z c in omega (arith, l, e, here))
+      | inl e ↦ absurd (let l = ascending_above y ys v z c in omega (arith, l, e, here))
       | inr t ↦ t
     ]))
 

@@ -2,14 +2,14 @@
 use Rattle.std.specs.Prelude.{◌≡◌, ◌+◌, ◌-◌, ◌*◌, ◌/◌, ◌%◌, ◌^◌, ◌<◌, ◌≤◌, ◌&&◌, ◌∷◌, ◌++◌}
 use Rattle.gm_pieces.specs.Common.{ℕ, Bool, true, false, eqb, eq-eqb, List, []}
 use Rattle.gm_pieces.specs.Common.{refl, sym, ap, ap₂, ◌∙◌, subst, arith, inl, inr, bit_or, mod-eq_of_lt, pow-lt, pow_mono}
-use Rattle.gm_pieces.specs.Common.{or_lt, w32, list_all, filter, range_with_len, cases_Bool, cases_eq}
+use Rattle.gm_pieces.specs.Common.{or_lt, w32, filter, range_with_len, cases_Bool, cases_eq}
 use Rattle.gm_pieces.specs.Common.{true≢false, bit_at_above, bit_at_set_same, bit_at_set_other, Cell, has_cell}
 use Rattle.gm_pieces.specs.Common.{weight, none_left, board_of, from_point, from_back, to_back, filter_in}
 use Rattle.gm_pieces.specs.Common.{steps, all_steps, is_mine}
 use Rattle.gm_pieces.specs.Common.{is_empty, is_taken, cell_at, own_cells}
 use Rattle.std.specs.Int.Bits.{or_zero_r}
 use Rattle.gm_pieces.specs.laws.Skipped.{filter_skip}
-use Rattle.gm_dao.specs.DaoRules.{in_line, path, beyond, can_move, dao}
+use Rattle.gm_dao.specs.DaoRules.{can_move, dao}
 use Rattle.gm_dao.specs.MaskSlides.{slides_by_masks, AreMovesBelow}
 use Rattle.gm_dao.specs.laws.MoveFacts.{move_slide}
 use Rattle.gm_dao.proofs.MoveSteps.{slides_by, move_by}
@@ -66,12 +66,6 @@ pub by_three : (l p q x y z : Bool) → x ≡ l → (l ≡ true → y ≡ p) →
 by_three true p q x y z e f g = ap (λ (u : Bool). (u && y) && z) e ∙ ap₂ (λ (u v : Bool). u && v) (f refl) (g refl)
 by_three false p q x y z e f g = ap (λ (u : Bool). (u && y) && z) e
 
--- a slide, by its three tests
-pub slide_by : (free taken a c : ℕ) (x y z : Bool) → x ≡ in_line a c → (in_line a c ≡ true → y ≡ list_all (has_cell free) (path a c)) →
-    (in_line a c ≡ true → z ≡ list_all (has_cell taken) (beyond a c))
-    → ((x && y) && z) ≡ slides_by_masks free taken a c
-slide_by free taken a c x y z e f g = by_three (in_line a c) (list_all (has_cell free) (path a c)) (list_all (has_cell taken) (beyond a c)) x y z e f g
-
 -- ---- masks of the cells that pass a test
 -- the mask has those of the first n cells that pass
 pub record HasPassed (p : ℕ → Bool) (n g : ℕ) : Type 0 where
@@ -110,19 +104,6 @@ passed_more p n g v false l h e w =
       cells = one_more (λ (k : ℕ). has_cell g k ≡ p k) n h.cells
           (ap (λ (u : ℕ). eqb u 1) (bit_at_above g n n h.within (omega arith)) ∙ e);
     })
-
--- the mask of the goals
--- what is found of the first n cells
-pub record AreFound (free taken from n g : ℕ) : Type 0 where
-  pub within : g < 2 ^ n
-  pub cells : (k : ℕ) → k < n → has_cell g k ≡ slides_by_masks free taken from k
-
--- one more cell, to which the piece slides or not
-pub found_more : (free taken from n g v : ℕ) (x : Bool) → n < 16 → AreFound free taken from n g → x ≡ slides_by_masks free taken from n → v ≡ weight x →
-    AreFound free taken from (n + 1) (bit_or g (v * 2 ^ n % 2 ^ 32))
-found_more free taken from n g v x l h e w =
-    let r = passed_more (slides_by_masks free taken from) n g v x l (record { within = h.within; cells = h.cells }) e w in
-    record { within = r.within; cells = r.cells }
 
 -- ---- ends of loops
 -- one more move

@@ -1,46 +1,15 @@
 -- How many cells a piece slides to: one in each direction in which the next cell is free.
 use Rattle.std.specs.Prelude.{◌≡◌, ◌+◌, ◌*◌, ◌^◌, ◌<◌, ◌&&◌, ◌∷◌, ◌++◌, count_ones}
-use Rattle.gm_pieces.specs.Common.{ℕ, zero, suc, Bool, true, false, not, cond, List, [], length, refl, sym, ap, ap₂, ◌∙◌, arith, inl, inr, bit_and}
-use Rattle.gm_pieces.specs.Common.{filter, filter_in, filter_out, range_with_len, length-append, cases_Bool, true≢false, list_all, get_or, has_cell, has_and}
+use Rattle.gm_pieces.specs.Common.{ℕ, zero, suc, Bool, true, false, not, cond, List, [], length, refl, sym, ap, ◌∙◌, arith, inl, inr, bit_and}
+use Rattle.gm_pieces.specs.Common.{filter, range_with_len, cases_Bool, true≢false, list_all, get_or, has_cell, has_and}
 use Rattle.gm_pieces.specs.Common.{weight, at_all, at_each, cond-true, ltb, ltb-true, at_below, and_le_r, same_list, same_list_true, Cell, Empty, Mine, Theirs}
-use Rattle.gm_pieces.specs.Common.{fills, is_empty, is_taken, cell_at, board_of, own_cells, from_back, to_back, same_within}
+use Rattle.gm_pieces.specs.Common.{fills, is_empty, is_taken, cell_at, board_of, own_cells, from_back, to_back}
 use Rattle.gm_dao.specs.declared.slides.TheConstants.{NEAR}
 use Rattle.gm_dao.specs.DaoRules.{in_line, path, beyond, can_move}
 use Rattle.gm_dao.specs.MaskSlides.{slides_over}
-use Rattle.gm_dao.specs.laws.SlideFacts.{way}
-use Rattle.gm_dao.proofs.MoveSteps.{move_by}
+use Rattle.gm_dao.specs.laws.CountFacts.{total, total_same, total_add, passed}
+use Rattle.gm_dao.proofs.MoveSteps.{slides_as, move_by}
 use Rattle.gm_dao.proofs.NumberSteps.{cells_of_mask}
-
--- ---- sums over the cells
--- what a function gives for the first n numbers
-abbrev total : (ℕ → ℕ) → ℕ → ℕ
-total f zero = 0
-total f (suc n) = total f n + f n
-
-total_same : (f g : ℕ → ℕ) (n : ℕ) → ((k : ℕ) → k < n → f k ≡ g k) → total f n ≡ total g n
-total_same f g zero h = refl
-total_same f g (suc n) h = ap₂ (λ (x y : ℕ). x + y) (total_same f g n (λ k l. h k (omega (arith, l)))) (h n (omega arith))
-
-total_add : (f g : ℕ → ℕ) (n : ℕ) → total (λ k. f k + g k) n ≡ total f n + total g n
-total_add f g zero = refl
-total_add f g (suc n) = let i = total_add f g n in omega (arith, i)
-
--- numbers that pass, as a sum
-passed : (p : ℕ → Bool) (n : ℕ) → length (filter p (range_with_len 0 n)) ≡ total (λ k. weight (p k)) n
-passed p zero = refl
-passed p (suc n) =
-    let i = passed p n in
-    let own = ap (λ (k : ℕ). length (filter p (range_with_len 0 k))) (let f : suc n ≡ n + 1 = omega arith in f) in
-    elim (cases_Bool (p n)) [
-      | inl t ↦ (
-          let x = ap (λ (xs : List ℕ). length xs) (filter_in p n t) ∙ length-append (filter p (range_with_len 0 n)) (n ∷ []) in
-          let w : weight (p n) ≡ 1 = rw t refl in
-          omega (arith, i, own, x, w))
-      | inr t ↦ (
-          let x = ap (λ (xs : List ℕ). length xs) (filter_out p n t) in
-          let w : weight (p n) ≡ 0 = rw t refl in
-          omega (arith, i, own, x, w))
-    ]
 
 -- ---- along a way
 -- the value at the cell that follows, if there is one
@@ -188,19 +157,8 @@ free_taken Theirs = refl
 
 over_by : (b : List Cell) (free a c : ℕ) → ((k : ℕ) → k < 16 → has_cell free k ≡ is_empty (cell_at b k))
     → slides_over (has_cell free) a c ≡ (in_line a c && (fills Empty is_empty b (path a c) && fills Empty is_taken b (beyond a c)))
-over_by b free a c f = elim (cases_Bool (in_line a c)) [
-  | inl e ↦ (
-      let w = way a c e in
-      ap₂ (λ (x y : Bool). in_line a c && (x && y))
-      (same_within 16 (has_cell free) (λ (k : ℕ). is_empty (cell_at b k)) (path a c) w.path_within f)
-      (same_within 16 (λ (k : ℕ). not (has_cell free k)) (λ (k : ℕ). is_taken (cell_at b k)) (beyond a c) w.beyond_within
-      (λ k l. ap not (f k l) ∙ free_taken (cell_at b k))))
-  | inr e ↦ first_false _ _ e ∙ sym (first_false _ _ e)
-]
-  where
-    first_false : (x y : Bool) → x ≡ false → (x && y) ≡ false
-    first_false true y e = absurd (true≢false e)
-    first_false false y e = refl
+over_by b free a c f =
+    slides_as b (has_cell free) (λ (k : ℕ). not (has_cell free k)) a c f (λ k l. ap not (f k l) ∙ free_taken (cell_at b k))
 
 -- the moves of the piece on a cell
 pub moves_over : (a b free from : ℕ) → a < 2 ^ 16 → has_cell a from ≡ true → ((k : ℕ) → k < 16 → has_cell free k ≡ is_empty (cell_at (board_of 16 a b) k))

@@ -5,7 +5,8 @@ use Rattle.gm_pieces.specs.Common.{from_point, to_point, is_theirs, is_empty, ce
 use Rattle.gm_pieces.specs.Common.{back_again}
 use Rattle.gm_dao.specs.DaoRules.{in_line, move_number_bound, play, can_have_led_here, undo, legal}
 use Rattle.gm_dao.specs.laws.BoardFacts.{legal_in}
-use Rattle.gm_dao.specs.laws.MoveFacts.{IsSlide, slide_step, blocks_few, from_is}
+use Rattle.gm_dao.specs.laws.CountFacts.{blocks_few}
+use Rattle.gm_dao.specs.laws.MoveFacts.{IsSlide, slide_step, from_is}
 
 -- ---- what the tests say
 -- a move that can have led to d
@@ -45,8 +46,8 @@ taken_played b m n h =
 pub befores_few : (d : List Cell) → legal d ≡ true → length (filter (can_have_led_here d) (range_with_len 0 move_number_bound)) ≤ 128
 befores_few d l =
     let h = legal_in d l in
-    let blocks = blocks_few (can_have_led_here d) (λ k. is_empty (cell_at d k))
-    (λ m f. ap (λ (k : ℕ). is_empty (cell_at d k)) (sym (from_is m)) ∙ ap is_empty (was_in d m f).step.left) 16 in
+    let blocks = blocks_few (can_have_led_here d) (λ k. is_empty (cell_at d k)) 16
+    (λ m l f. ap (λ (k : ℕ). is_empty (cell_at d k)) (sym (from_is m)) ∙ ap is_empty (was_in d m f).step.left) in
     let all = cells_counted is_empty d 16 h.cells in
     let cells = all_cells d in
     omega (arith, blocks, all, cells, h.cells, h.own, h.other)

@@ -1,10 +1,11 @@
 -- Moves of Dao: which there are, how many, and the ends of games.
-use Rattle.std.specs.Prelude.{◌≡◌, ◌+◌, ◌*◌, ◌/◌, ◌<◌, ◌≤◌, ◌∷◌}
-use Rattle.gm_pieces.specs.Common.{ℕ, zero, suc, Bool, true, false, cond, List, [], length, None, Some, inl, inr, refl, sym}
-use Rattle.gm_pieces.specs.Common.{ap, ◌∙◌, subst, arith, filter, range_with_len, cases_Bool, cond-true, length-append, Lose, Cell, Empty, Mine, and_left}
-use Rattle.gm_pieces.specs.Common.{and_right, and_both, fills, all_at, from_point, to_point, number_below, filter_in, filter_out, steps, is_mine, is_theirs}
+use Rattle.std.specs.Prelude.{◌≡◌, ◌/◌, ◌<◌, ◌≤◌}
+use Rattle.gm_pieces.specs.Common.{ℕ, true, false, List, length, None, Some, inl, inr, refl, sym}
+use Rattle.gm_pieces.specs.Common.{ap, ◌∙◌, arith, cases_Bool, cond-true, Lose, Cell, Empty, Mine, and_left}
+use Rattle.gm_pieces.specs.Common.{and_right, and_both, fills, all_at, from_point, to_point, number_below, steps, is_mine, is_theirs}
 use Rattle.gm_pieces.specs.Common.{is_empty, is_taken, cell_at, number_of, IsStep, mine_cell, empty_cell, cells_counted}
 use Rattle.gm_dao.specs.DaoRules.{has_formation, in_line, path, beyond, can_go, can_move, move_number_bound, end_by_last_move, dao}
+use Rattle.gm_dao.specs.laws.CountFacts.{blocks_few}
 use Rattle.gm_dao.specs.laws.SlideFacts.{line_within, way}
 
 -- ---- what a move is
@@ -65,57 +66,6 @@ no_formation b e = elim (cases_Bool (has_formation is_theirs b)) [
 ]
 
 -- ---- lists of moves
--- in the block of sixteen numbers after 16 n only those pass whose n passes the second test
-block_few : (p q : ℕ → Bool) → ((m : ℕ) → p m ≡ true → q (m / 16) ≡ true) → (n k : ℕ) → k ≤ 16
-    → length (filter p (range_with_len 0 (16 * n + k))) ≤ length (filter p (range_with_len 0 (16 * n))) + cond (q n) k 0
-block_few p q h n zero l = let e : 16 * n + 0 ≡ 16 * n = omega arith in rw e (omega arith)
-block_few p q h n (suc k) l =
-    let m = 16 * n + k in
-    let e : 16 * n + suc k ≡ m + 1 = omega arith in
-    let d : m / 16 ≡ n = omega (arith, l) in
-    let i = block_few p q h n k (omega arith) in
-    elim (cases_Bool (p m)) [
-      | inl f ↦ (
-          let here : q n ≡ true = ap q (sym d) ∙ h m f in
-          let more = ap (λ (xs : List ℕ). length xs) (filter_in p m f) ∙ length-append (filter p (range_with_len 0 m)) (m ∷ []) in
-          let i2 : length (filter p (range_with_len 0 m)) ≤ length (filter p (range_with_len 0 (16 * n))) + k = subst
-          (λ (x : Bool). length (filter p (range_with_len 0 m)) ≤ length (filter p (range_with_len 0 (16 * n))) + cond x k 0) here i in
-          rw (e, here) (omega (arith, more, i2)))
-      | inr f ↦ (
-          let same = ap (λ (xs : List ℕ). length xs) (filter_out p m f) in
-          let grow : cond (q n) k 0 ≤ cond (q n) (suc k) 0 = cond_grow (q n) k in
-          rw e (omega (arith, same, i, grow)))
-    ]
-  where
-    cond_grow : (x : Bool) (k : ℕ) → cond x k 0 ≤ cond x (suc k) 0
-    cond_grow true k = omega arith
-    cond_grow false k = omega arith
-
--- at most sixteen numbers for each n that passes the second test
-pub blocks_few : (p q : ℕ → Bool) → ((m : ℕ) → p m ≡ true → q (m / 16) ≡ true) → (n : ℕ) → length (filter p (range_with_len 0 (16 * n))) ≤ 16 * length
-    (filter q (range_with_len 0 n))
-blocks_few p q h zero = omega arith
-blocks_few p q h (suc n) =
-    let e : 16 * (n + 1) ≡ 16 * n + 16 = omega arith in
-    let s : suc n ≡ n + 1 = omega arith in
-    let b = block_few p q h n 16 (omega arith) in
-    let i = blocks_few p q h n in
-    let next : length (filter p (range_with_len 0 (16 * n + 16))) ≤ 16 * length (filter q (range_with_len 0 (n + 1))) =
-    elim (cases_Bool (q n)) [
-      | inl f ↦ (
-          let more = ap (λ (xs : List ℕ). length xs) (filter_in q n f) ∙ length-append (filter q (range_with_len 0 n)) (n ∷ []) in
-          let b2 : length (filter p (range_with_len 0 (16 * n + 16))) ≤ length (filter p (range_with_len 0 (16 * n))) + 16 = subst
-          (λ (x : Bool). length (filter p (range_with_len 0 (16 * n + 16))) ≤ length (filter p (range_with_len 0 (16 * n))) + cond x 16 0) f b in
-          omega (arith, more, b2, i))
-      | inr f ↦ (
-          let same = ap (λ (xs : List ℕ). length xs) (filter_out q n f) in
-          let b2 : length (filter p (range_with_len 0 (16 * n + 16))) ≤ length (filter p (range_with_len 0 (16 * n))) + 0 = subst
-          (λ (x : Bool). length (filter p (range_with_len 0 (16 * n + 16))) ≤ length (filter p (range_with_len 0 (16 * n))) + cond x 16 0) f b in
-          omega (arith, same, b2, i))
-    ] in
-    subst (λ (k : ℕ). length (filter p (range_with_len 0 (16 * k))) ≤ 16 * length (filter q (range_with_len 0 k))) (sym s)
-    (subst (λ (k : ℕ). length (filter p (range_with_len 0 k)) ≤ 16 * length (filter q (range_with_len 0 (n + 1)))) (sym e) next)
-
 -- the cell that a move leaves, by its number
 pub from_is : (m : ℕ) → from_point m ≡ m / 16
 unfolding from_point
@@ -125,7 +75,7 @@ from_is m = refl
 pub steps_few : (b : List Cell) → length b ≡ 16 → number_of is_mine b ≡ 4 → length (steps dao b) ≤ 128
 unfolding steps
 steps_few b e n =
-    let few = blocks_few (can_move b) (λ k. is_mine (cell_at b k))
-    (λ m f. ap (λ (k : ℕ). is_mine (cell_at b k)) (sym (from_is m)) ∙ ap is_mine (move_slide b m f).mine) 16 in
+    let few = blocks_few (can_move b) (λ k. is_mine (cell_at b k)) 16
+    (λ m l f. ap (λ (k : ℕ). is_mine (cell_at b k)) (sym (from_is m)) ∙ ap is_mine (move_slide b m f).mine) in
     let all = cells_counted is_mine b 16 e in
     omega (arith, few, all, n)

@@ -2,7 +2,8 @@ use Rattle.std.specs.Prelude.{◌≡◌, ◌+◌, ◌*◌}
 use Rattle.gm_pieces.specs.Common.{ℕ, List, length, refl, ap, ◌∙◌, arith, trailing_zeros, w32, board_of, next_cell, cell_below, filter, range_with_len}
 use Rattle.gm_dao.specs.DaoRules.{can_move}
 use Rattle.gm_dao.proofs.LoopSteps.{moves_skip, moves_end}
-use Rattle.gm_dao.proofs.NumberSteps.{range_few, piece_counted}
+use Rattle.gm_dao.specs.laws.CountFacts.{sixteen_most}
+use Rattle.gm_dao.proofs.NumberSteps.{piece_counted}
 use Rattle.gm_dao.proofs.NearSteps.{moves_over}
 use Rattle.gm_dao.specs.MaskSlides.{slides_over}
 use Rattle.gm_board.specs.Masks.{has_cell}
@@ -24,7 +25,7 @@ loop-rest-preserved c =
     let z = next_cell a c.loop-rest.next c.loop-rest.rest i.is_rest (omega arith) (omega arith) in
     let l = cell_below a 16 _ c.args.board.mine_within z.has in
     let p = slides_over (has_cell c.free-free.result) (c.loop-rest.next + trailing_zeros w32 c.loop-rest.rest) in
-    let few = range_few p 16 in
+    let few = sixteen_most p in
     let more = piece_counted b _ p (moves_over a c.args.board.theirs c.free-free.result _ c.args.board.mine_within z.has c.free-free.ensures.cells) in
     let skip = ap (λ (xs : List ℕ). length xs) (moves_skip a c.args.board.theirs c.loop-rest.next _ (filter (can_move b)
     (range_with_len 0 (16 * c.loop-rest.next))) c.args.board.mine_within z.none refl) in
@@ -42,7 +43,7 @@ overflow_add-count c =
     let i = c.loop-rest.invariant in
     let z = next_cell a c.loop-rest.next c.loop-rest.rest i.is_rest (omega arith) (omega arith) in
     let l = cell_below a 16 _ c.args.board.mine_within z.has in
-    let few = range_few (slides_over (has_cell c.free-free.result) (c.loop-rest.next + trailing_zeros w32 c.loop-rest.rest)) 16 in
+    let few = sixteen_most (slides_over (has_cell c.free-free.result) (c.loop-rest.next + trailing_zeros w32 c.loop-rest.rest)) in
     omega (arith, few, l, i.few, c.count_goals-count.ensures)
 
 pub returns : goal.returns

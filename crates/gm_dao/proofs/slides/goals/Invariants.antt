@@ -1,5 +1,6 @@
-use Rattle.gm_dao.proofs.LoopSteps.{AreFound}
+use Rattle.gm_dao.specs.MaskSlides.{slides_by_masks}
+use Rattle.gm_dao.proofs.LoopSteps.{HasPassed}
 use Rattle.gm_dao.proofs.slides.goals.Given as goal
 
 abbrev pub invariant-loop-to : goal.invariant-loop-to
-invariant-loop-to l = AreFound l.free l.taken l.from l.to l.goals
+invariant-loop-to l = HasPassed (slides_by_masks l.free l.taken l.from) l.to l.goals

@@ -1,5 +1,6 @@
-use Rattle.gm_dao.proofs.CameSteps.{AreSources}
+use Rattle.gm_dao.specs.MaskSlides.{came_by_masks}
+use Rattle.gm_dao.proofs.LoopSteps.{HasPassed}
 use Rattle.gm_dao.proofs.slides.sources.Given as goal
 
 abbrev pub invariant-loop-from : goal.invariant-loop-from
-invariant-loop-from l = AreSources l.free l.taken l.to l.from l.sources
+invariant-loop-from l = HasPassed (came_by_masks l.free l.taken l.to) l.from l.sources
