@@ -1,11 +1,12 @@
 -- The steps of packing the opponent's pieces on the cells without the mover's, and of spreading them again.
-use Rattle.gm_board.proofs.Lower.{◌≡◌, ℕ, zero, suc, ◌+◌, ◌-◌, ◌*◌, ◌/◌, ◌%◌, ◌^◌, ◌<◌, ◌≤◌, Bool, true, false, List, [], ◌∷◌, length, refl, sym, ap, ap₂, ◌∙◌}
+use Rattle.gm_board.proofs.Lower.{◌≡◌, ℕ, suc, ◌+◌, ◌-◌, ◌*◌, ◌/◌, ◌%◌, ◌^◌, ◌<◌, ◌≤◌, Bool, true, false, List, [], ◌∷◌, length, refl, sym, ap, ap₂, ◌∙◌}
 use Rattle.gm_board.proofs.Lower.{subst, arith, add-one, lt_of_le_of_lt, bit_and, count_ones, bit_at, trailing_zeros, w32, two-pow-succ, mod-eq_of_lt, pow_mono}
 use Rattle.gm_board.proofs.Lower.{shr-shr, shr_split, div-mul-add, bit_at-lt, Cell, members, members_le, has_cell, tests_of, mask_of, tests_none, tests_more}
 use Rattle.gm_board.proofs.Lower.{tests_length, mask_cons, mask_below, weight_bit, members_small, members_skips, members_add, no_bit, their_bits, their_cell}
 use Rattle.gm_board.proofs.Lower.{merge, cell_by, cells_of, their_tests, cells_none, cells_more, free_length, apart_below}
 use Rattle.std.proofs.Math.Nat.{mul-add, add-mul, div-eq_of_lt}
 use Rattle.gm_board.specs.Pieces.{spread_mask}
+use Rattle.gm_board.specs.laws.Masks.{steady}
 use Rattle.gm_board.specs.laws.NextCells.{cell_below, cell_one, cell_none}
 use Rattle.gm_board.proofs.LowestCells.{IsRest, rest_whole, lowest, nothing_left}
 
@@ -26,12 +27,8 @@ moved t n k =
     ∙ ap (λ (v : ℕ). bit_at t n * 2 ^ k + v) (add-mul a a (2 ^ k) ∙ sym (twice a k))
 
 -- what doesn't change from n to c
-steady : (f : ℕ → ℕ) (n c : ℕ) → n ≤ c → ((i : ℕ) → i < c - n → f (n + i + 1) ≡ f (n + i)) → f c ≡ f n
-steady f n c l h = ap f (let e : c ≡ n + (c - n) = omega arith in e) ∙ same (c - n) h
-  where
-    same : (s : ℕ) → ((i : ℕ) → i < s → f (n + i + 1) ≡ f (n + i)) → f (n + s) ≡ f n
-    same zero g = ap f (let e : n + 0 ≡ n = omega arith in e)
-    same (suc s) g = ap f (let e : n + suc s ≡ n + s + 1 = omega arith in e) ∙ g s (omega arith) ∙ same s (λ i m. g i (omega arith))
+unchanged : (f : ℕ → ℕ) (n c : ℕ) → n ≤ c → ((i : ℕ) → i < c - n → f (n + i + 1) ≡ f (n + i)) → f c ≡ f n
+unchanged f n c l h = ap f (let e : c ≡ n + (c - n) = omega arith in e) ∙ steady f n (c - n) (λ i k. ap f (sym (add-one (n + i))) ∙ h i k)
 
 -- ---- the cells below n without the mover's
 -- their number
@@ -136,7 +133,7 @@ pack_turn cells mine theirs rest passed packed h f a j g p =
     let none : has_cell theirs c ≡ false = apart_below (c + 1) mine theirs a c (omega arith) own in
     let at : n + (c - n) ≡ c = omega (arith, z.from) in
     let count : members (tests_of c mine) ≡ passed = ap (λ (k : ℕ). members (tests_of k mine)) (sym at) ∙ members_skips n (c - n) mine z.none ∙ sym h.is_passed in
-    let to : packed_to mine theirs c ≡ packed = steady (packed_to mine theirs) n c z.from (λ i l. packed_free mine theirs (n + i) (cell_none mine (n + i)
+    let to : packed_to mine theirs c ≡ packed = unchanged (packed_to mine theirs) n c z.from (λ i l. packed_free mine theirs (n + i) (cell_none mine (n + i)
     (z.none i l))) ∙ sym h.is_packed in
     let down : theirs / 2 ^ c / 2 * 2 ^ (c - passed) ≡ theirs / 2 ^ c / 2 * 2 ^ free_below mine c = ap (λ (k : ℕ). theirs / 2 ^ c / 2 * 2 ^ (c - k)) (sym count) in
     let d = packed_own mine theirs c own none in
@@ -162,7 +159,7 @@ pub pack_done : (cells mine theirs rest passed packed : ℕ) → IsPacking cells
 pack_done cells mine theirs rest passed packed h l e =
     let n = h.next in
     h.is_packed
-    ∙ sym (steady (packed_to mine theirs) n cells h.within (λ i k. packed_free mine theirs (n + i) (cell_none mine (n + i)
+    ∙ sym (unchanged (packed_to mine theirs) n cells h.within (λ i k. packed_free mine theirs (n + i) (cell_none mine (n + i)
     (nothing_left mine n rest (n + i) h.is_rest e (omega arith)))))
     ∙ packed_all cells mine theirs l
 
@@ -273,7 +270,7 @@ spread_turn cells mine packed rest theirs h w f g p =
     let z = lowest mine n rest h.is_rest g p in
     let own : has_cell mine c ≡ true = cell_one mine c z.has in
     let below : c < cells = cell_below mine cells c f own in
-    let to : spread_to mine packed c ≡ theirs = steady (spread_to mine packed) n c z.from (λ i l. spread_free mine packed (n + i) (cell_none mine (n + i)
+    let to : spread_to mine packed c ≡ theirs = unchanged (spread_to mine packed) n c z.from (λ i l. spread_free mine packed (n + i) (cell_none mine (n + i)
     (z.none i l))) ∙ sym h.is_theirs in
     let up = theirs / 2 ^ c * 2 ^ c in
     let part : up ≤ theirs = omega (arith, shr_split theirs c) in
@@ -301,6 +298,6 @@ pub spread_done : (cells mine packed rest theirs : ℕ) → IsSpreading cells mi
 spread_done cells mine packed rest theirs h f g e =
     let n = h.next in
     h.is_theirs
-    ∙ sym (steady (spread_to mine packed) n cells h.within (λ i k. spread_free mine packed (n + i) (cell_none mine (n + i)
+    ∙ sym (unchanged (spread_to mine packed) n cells h.within (λ i k. spread_free mine packed (n + i) (cell_none mine (n + i)
     (nothing_left mine n rest (n + i) h.is_rest e (omega arith)))))
     ∙ spread_all cells mine packed f g

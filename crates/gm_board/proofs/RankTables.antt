@@ -1,18 +1,9 @@
 -- Ranks of subsets of sixteen cells, by bytes.
-use Rattle.std.proofs.Common.{◌≡◌, ℕ, zero, suc, ◌+◌, ◌-◌, ◌*◌, ◌/◌, ◌%◌, ◌^◌, ◌<◌, ◌≤◌, Bool, true, false, List, [], ◌∷◌, ◌++◌, map, length, get_or, eqb, refl}
-use Rattle.std.proofs.Common.{sym, ap, ap₂, ◌∙◌, arith}
-use Rattle.std.specs.Prelude.{count_ones}
-use Rattle.std.specs.Int.{bit_at}
-use Rattle.std.specs.List.{range_with_len}
-use Rattle.std.proofs.lemmas.Nat.Bits.{bit_at_cat_low, bit_at_cat_high}
-use Rattle.std.proofs.lemmas.List.FromFn.{get_or-map-range_with_len}
-use Rattle.gm_board.specs.Binomials.{binomial}
-use Rattle.gm_board.specs.Ranks.{members, rank}
-use Rattle.gm_board.specs.laws.Ranks.{members_le}
-use Rattle.gm_board.specs.Masks.{tests_of, mask_rank}
-use Rattle.gm_board.specs.laws.Masks.{tests_none, tests_more, tests_length, tests_same, mask_rank_at, members_small}
-use Rattle.gm_board.specs.declared.pascal.TheConstants.{ROWS}
-use Rattle.gm_board.specs.declared.ranks.TheConstants.{ONES, LOW, HIGH, UPPER}
+use Rattle.gm_board.proofs.Lower.{◌≡◌, ℕ, zero, suc, ◌+◌, ◌-◌, ◌*◌, ◌/◌, ◌%◌, ◌^◌, ◌<◌, ◌≤◌, Bool, true, false, List, [], ◌∷◌, ◌++◌, map, length, get_or, eqb, refl}
+use Rattle.gm_board.proofs.Lower.{sym, ap, ap₂, ◌∙◌, arith, count_ones, bit_at, range_with_len, bit_at_cat_low, bit_at_cat_high, get_or-map-range_with_len}
+use Rattle.gm_board.proofs.Lower.{binomial, members, rank, members_le, mask_rank, tests_none, tests_more, tests_length, tests_same, mask_rank_at}
+use Rattle.gm_board.proofs.Lower.{members_small, ROWS, ONES, LOW, HIGH, UPPER}
+use Rattle.gm_board.specs.Masks.{tests_of}
 use Rattle.gm_board.proofs.PascalRows.{triangle_is}
 
 -- what cells add to a rank that have so many cells and so many members below them
@@ -121,13 +112,28 @@ low_at b l =
     ∙ by_rows 0 0 (tests_of 8 b) (omega (arith, tests_length 8 b)) (omega (arith, tests_length 8 b))
     ∙ rank_alone (tests_of 8 b)
 
-high_at : (k b : ℕ) → k ≤ 8 → b < 256 → get_or (get_or HIGH k []) b 0 ≡ rank_above 8 k (tests_of 8 b)
-high_at k b l h =
-    ap (λ (xs : List (List ℕ)). get_or (get_or xs k []) b 0) (sym high_are)
-    ∙ ap (λ (xs : List ℕ). get_or xs b 0) (get_or-map-range_with_len (λ (k : ℕ). map (λ (b : ℕ). rank_by_rows 8 k (tests_of 8 b)) (range_with_len 0 256)) 0
-    9 k k [] (omega (arith, l)) (omega arith))
-    ∙ get_or-map-range_with_len (λ (b : ℕ). rank_by_rows 8 k (tests_of 8 b)) 0 256 b b 0 h (omega arith)
-    ∙ by_rows 8 k (tests_of 8 b) (omega (arith, tests_length 8 b)) (omega (arith, l, tests_length 8 b))
+-- an entry of a table of what w cells above n others add, by the members of those
+entry_at : (n w top k b : ℕ) (T : List (List ℕ)) → map (λ k. map (λ b. rank_by_rows n k (tests_of w b)) (range_with_len 0 (2 ^ w))) (range_with_len 0 top) ≡ T
+    → k < top → b < 2 ^ w → n + w ≤ 32 → k + w ≤ 31 → get_or (get_or T k []) b 0 ≡ rank_above n k (tests_of w b)
+entry_at n w top k b T e l h wide few =
+    ap (λ (xs : List (List ℕ)). get_or (get_or xs k []) b 0) (sym e)
+    ∙ ap (λ (xs : List ℕ). get_or xs b 0) (get_or-map-range_with_len (λ (k : ℕ). map (λ (b : ℕ). rank_by_rows n k (tests_of w b)) (range_with_len 0 (2 ^ w))) 0
+    top k k [] l (omega arith))
+    ∙ get_or-map-range_with_len (λ (b : ℕ). rank_by_rows n k (tests_of w b)) 0 (2 ^ w) b b 0 h (omega arith)
+    ∙ by_rows n k (tests_of w b) (omega (arith, wide, tests_length w b)) (omega (arith, few, tests_length w b))
+
+-- the rank of a subset of n + w cells, by its two parts
+rank_parts : (n w mask low high upper : ℕ) → n + w ≤ 32 → mask < 2 ^ (w + n) → low < 2 ^ n → high * 2 ^ n + low ≡ mask
+    → upper ≡ rank_above n (count_ones low) (tests_of w high) → rank (tests_of n low) + upper ≡ mask_rank mask
+rank_parts n w mask low high upper wide f l whole e =
+    let ls = tests_of n low in
+    let hs = tests_of w high in
+    ap (λ (v : ℕ). rank ls + v) e
+    ∙ ap₂ (λ (j k : ℕ). rank ls + rank_above j k hs) (sym (tests_length n low)) (sym (members_small n low l))
+    ∙ sym (rank_both hs ls)
+    ∙ sym (ap rank (tests_both w n high low l))
+    ∙ ap (λ (v : ℕ). rank (tests_of (w + n) v)) whole
+    ∙ sym (mask_rank_at (w + n) mask (omega (arith, wide)) f)
 
 -- a byte has at most eight members
 pub byte_members : (b : ℕ) → b < 2 ^ 8 → count_ones b ≤ 8
@@ -138,26 +144,10 @@ pub short_rank_is : (mask low high : ℕ) → mask < 2 ^ 16 → low ≡ mask % 2
     (get_or HIGH (count_ones low) []) high 0 ≡ mask_rank mask
 short_rank_is mask low high f e g =
     let l : low < 2 ^ 8 = omega (arith, e) in
-    let h : high < 2 ^ 8 = omega (arith, g, f) in
-    let ls = tests_of 8 low in
-    let hs = tests_of 8 high in
-    let whole : high * 2 ^ 8 + low ≡ mask = omega (arith, e, g) in
-    let m : members ls ≡ count_ones low = members_small 8 low l in
-    ap₂ (λ (a b : ℕ). a + b) (low_at low l) (high_at (count_ones low) high (byte_members low l) h)
-    ∙ ap₂ (λ (n k : ℕ). rank ls + rank_above n k hs) (sym (tests_length 8 low)) (sym m)
-    ∙ sym (rank_both hs ls)
-    ∙ sym (ap rank (tests_both 8 8 high low l))
-    ∙ ap (λ (v : ℕ). rank (tests_of 16 v)) whole
-    ∙ sym (mask_rank_at 16 mask (omega arith) f)
-
--- the rank of a subset of 25 cells
-upper_at : (k b : ℕ) → k ≤ 16 → b < 512 → get_or (get_or UPPER k []) b 0 ≡ rank_above 16 k (tests_of 9 b)
-upper_at k b l h =
-    ap (λ (xs : List (List ℕ)). get_or (get_or xs k []) b 0) (sym upper_are)
-    ∙ ap (λ (xs : List ℕ). get_or xs b 0) (get_or-map-range_with_len (λ (k : ℕ). map (λ (b : ℕ). rank_by_rows 16 k (tests_of 9 b)) (range_with_len 0 512)) 0
-    17 k k [] (omega (arith, l)) (omega arith))
-    ∙ get_or-map-range_with_len (λ (b : ℕ). rank_by_rows 16 k (tests_of 9 b)) 0 512 b b 0 h (omega arith)
-    ∙ by_rows 16 k (tests_of 9 b) (omega (arith, tests_length 9 b)) (omega (arith, l, tests_length 9 b))
+    ap (λ (v : ℕ). v + get_or (get_or HIGH (count_ones low) []) high 0) (low_at low l)
+    ∙ rank_parts 8 8 mask low high _ (omega arith) f l (omega (arith, e, g))
+    (entry_at 8 8 9 (count_ones low) high HIGH high_are (omega (arith, byte_members low l)) (omega (arith, g, f)) (omega arith)
+    (omega (arith, byte_members low l)))
 
 pub short_members : (b : ℕ) → b < 2 ^ 16 → count_ones b ≤ 16
 short_members b l = omega (arith, members_small 16 b l, members_le (tests_of 16 b), tests_length 16 b)
@@ -166,14 +156,7 @@ pub long_rank_is : (mask low high low_rank : ℕ) → mask < 2 ^ 25 → low ≡ 
     (get_or UPPER (count_ones low) []) high 0 ≡ mask_rank mask
 long_rank_is mask low high low_rank f e g r =
     let l : low < 2 ^ 16 = omega (arith, e) in
-    let h : high < 2 ^ 9 = omega (arith, g, f) in
-    let ls = tests_of 16 low in
-    let hs = tests_of 9 high in
-    let whole : high * 2 ^ 16 + low ≡ mask = omega (arith, e, g) in
-    let m : members ls ≡ count_ones low = members_small 16 low l in
-    ap₂ (λ (a b : ℕ). a + b) (r ∙ mask_rank_at 16 low (omega arith) l) (upper_at (count_ones low) high (short_members low l) h)
-    ∙ ap₂ (λ (n k : ℕ). rank ls + rank_above n k hs) (sym (tests_length 16 low)) (sym m)
-    ∙ sym (rank_both hs ls)
-    ∙ sym (ap rank (tests_both 9 16 high low l))
-    ∙ ap (λ (v : ℕ). rank (tests_of 25 v)) whole
-    ∙ sym (mask_rank_at 25 mask (omega arith) f)
+    ap (λ (v : ℕ). v + get_or (get_or UPPER (count_ones low) []) high 0) (r ∙ mask_rank_at 16 low (omega arith) l)
+    ∙ rank_parts 16 9 mask low high _ (omega arith) f l (omega (arith, e, g))
+    (entry_at 16 9 17 (count_ones low) high UPPER upper_are (omega (arith, short_members low l)) (omega (arith, g, f)) (omega arith)
+    (omega (arith, short_members low l)))

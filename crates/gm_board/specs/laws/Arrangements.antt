@@ -106,17 +106,13 @@ arrangement_is n m t i l =
 pub index_below_at : (n m t : ℕ) (cs : List Cell) → length cs ≡ n → members (mine_bits cs) ≡ m → members (their_bits cs) ≡ t → arrangement_index cs <
     arrangements n m t
 index_below_at n m t cs e f h =
-    subst (λ (a : ℕ). arrangement_index cs < arrangements a m t) e
-    (subst (λ (a : ℕ). arrangement_index cs < arrangements (length cs) a t) f
-    (subst (λ (a : ℕ). arrangement_index cs < arrangements (length cs) (members (mine_bits cs)) a) h (arrangement_index_below cs)))
+    rw (← e, ← f, ← h) (arrangement_index_below cs)
 
 -- the index of a board gives the board back, with the numbers of cells and pieces as a game has them
 pub back_at : (n m t : ℕ) (cs : List Cell) → length cs ≡ n → members (mine_bits cs) ≡ m → members (their_bits cs) ≡ t → arrangement n m t
     (arrangement_index cs) ≡ cs
 back_at n m t cs e f h =
-    subst (λ (a : ℕ). arrangement a m t (arrangement_index cs) ≡ cs) e
-    (subst (λ (a : ℕ). arrangement (length cs) a t (arrangement_index cs) ≡ cs) f
-    (subst (λ (a : ℕ). arrangement (length cs) (members (mine_bits cs)) a (arrangement_index cs) ≡ cs) h (arrangement_back cs)))
+    rw (← e, ← f, ← h) (arrangement_back cs)
 
 -- the number of arrangements of a board of up to 32 cells fits 64 bits
 pub arrangements_fit : (n m t : ℕ) → n ≤ 32 → arrangements n m t < 2 ^ 64

@@ -3,6 +3,8 @@ use Rattle.gm_board.specs.laws.Lower.{get_or-map, length-map, Contains-get_or, m
 use Rattle.gm_board.specs.laws.Lower.{Contains, list_all, fold, filter, filter_map, cons_option, range_with_len}
 use Rattle.std.proofs.Common.{◌≡◌, ℕ, zero, suc, ◌+◌, ◌<◌, ◌≤◌, min, Bool, true, false, ◌&&◌, cond, if◌then◌else◌, List, [], ◌∷◌, ◌++◌, map, Option, None, Some}
 use Rattle.std.proofs.Common.{zero-add, length, get_or, ◌⊎◌, inl, inr, refl, sym, ap, ◌∙◌, subst, arith}
+pub use Rattle.std.proofs.Math.Bool.{and-true as and_true, and-false as and_false}
+pub use Rattle.std.proofs.lemmas.Bool.{and_from as and_both}
 
 -- the first test of a conjunction
 pub and_left : (a b : Bool) → (a && b) ≡ true → a ≡ true
@@ -11,18 +13,6 @@ and_left a b e = grind arith
 -- the second test of a conjunction
 pub and_right : (a b : Bool) → (a && b) ≡ true → b ≡ true
 and_right a b e = grind arith
-
--- a conjunction of two tests that are passed
-pub and_both : (a b : Bool) → a ≡ true → b ≡ true → (a && b) ≡ true
-and_both a b e f = grind arith
-
--- a test and one that is passed
-pub and_true : (a : Bool) → (a && true) ≡ a
-and_true a = grind arith
-
--- a test and one that fails
-pub and_false : (a : Bool) → (a && false) ≡ false
-and_false a = grind arith
 
 -- the head of a list is in the list
 pub contains_head : {X : Type 0} (x : X) (xs : List X) → Contains (x ∷ xs) x

@@ -103,21 +103,18 @@ rank_add n m e =
     ap rank (tests_more n m)
     ∙ rw e (ap (λ (k : ℕ). binomial k (suc (members (tests_of n m))) + rank (tests_of n m)) (tests_length n m))
 
+-- what s steps leave alone
+pub steady : (f : ℕ → ℕ) (n s : ℕ) → ((i : ℕ) → i < s → f (suc (n + i)) ≡ f (n + i)) → f (n + s) ≡ f n
+steady f n zero h = ap f (let e : n + 0 ≡ n = omega arith in e)
+steady f n (suc s) h = ap f (let e : n + suc s ≡ suc (n + s) = omega arith in e) ∙ h s (omega arith) ∙ steady f n s (λ i l. h i (omega arith))
+
 -- s cells that the mask does not have don't change the number of members
 pub members_skips : (n s m : ℕ) → ((i : ℕ) → i < s → bit_at m (n + i) ≡ 0) → members (tests_of (n + s) m) ≡ members (tests_of n m)
-members_skips n zero m h = ap (λ (k : ℕ). members (tests_of k m)) (let e : n + 0 ≡ n = omega arith in e)
-members_skips n (suc s) m h =
-    ap (λ (k : ℕ). members (tests_of k m)) (let e : n + suc s ≡ suc (n + s) = omega arith in e)
-    ∙ members_skip (n + s) m (h s (omega arith))
-    ∙ members_skips n s m (λ i l. h i (omega arith))
+members_skips n s m h = steady (λ k. members (tests_of k m)) n s (λ i l. members_skip (n + i) m (h i l))
 
 -- s cells that the mask does not have don't change the rank
 pub rank_skips : (n s m : ℕ) → ((i : ℕ) → i < s → bit_at m (n + i) ≡ 0) → rank (tests_of (n + s) m) ≡ rank (tests_of n m)
-rank_skips n zero m h = ap (λ (k : ℕ). rank (tests_of k m)) (let e : n + 0 ≡ n = omega arith in e)
-rank_skips n (suc s) m h =
-    ap (λ (k : ℕ). rank (tests_of k m)) (let e : n + suc s ≡ suc (n + s) = omega arith in e)
-    ∙ rank_skip (n + s) m (h s (omega arith))
-    ∙ rank_skips n s m (λ i l. h i (omega arith))
+rank_skips n s m h = steady (λ k. rank (tests_of k m)) n s (λ i l. rank_skip (n + i) m (h i l))
 
 -- a mask that fits a narrower board has the same rank on a wider one
 pub rank_wide : (n w m : ℕ) → n ≤ w → m < 2 ^ n → rank (tests_of w m) ≡ rank (tests_of n m)

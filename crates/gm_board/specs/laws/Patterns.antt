@@ -1,11 +1,12 @@
 -- What follows from the definitions of specs/Patterns.antt.
 use Rattle.gm_board.specs.laws.Lower.{Contains, list_any, list_all, permute, same_list, IsGroup}
-use Rattle.std.proofs.Common.{◌≡◌, ℕ, ◌<◌, Bool, true, false, ◌&&◌, ◌||◌, ltb, List, [], ◌∷◌, length, get_or, refl, sym, ap, ap₂, ◌∙◌, subst, arith, ◌⊎◌, inl}
+use Rattle.std.proofs.Common.{◌≡◌, ℕ, ◌<◌, Bool, true, false, ◌&&◌, ◌||◌, ltb, List, [], ◌∷◌, length, get_or, refl, sym, ap, ap₂, ◌∙◌, subst, arith, inl}
 use Rattle.std.proofs.Common.{inr, ltb-true}
 use Rattle.gm_board.specs.laws.Lists.{contains_cases, and_left, and_right}
 use Rattle.gm_board.specs.laws.Permutations.{same_list_true, all_at, permute_get}
 use Rattle.gm_board.specs.laws.Groups.{any_at, group_length, image_back}
 use Rattle.gm_board.specs.Patterns.{sort_in, sort, fills, has_filled, keeps_patterns}
+pub use Rattle.std.proofs.lemmas.Bool.{cases_Bool as two_ways, or_left, or_right}
 
 -- two tests that imply each other are the same
 pub same_tests : (a b : Bool) → (a ≡ true → b ≡ true) → (b ≡ true → a ≡ true) → a ≡ b
@@ -14,26 +15,11 @@ same_tests true false f g = sym (f refl)
 same_tests false true f g = g refl
 same_tests false false f g = refl
 
--- a test is passed or not
-pub two_ways : (b : Bool) → (b ≡ true) ⊎ (b ≡ false)
-two_ways true = inl refl
-two_ways false = inr refl
-
 swapped : (a b c : Bool) → (b && (a && c)) ≡ (a && (b && c))
 swapped true true c = refl
 swapped true false c = refl
 swapped false true c = refl
 swapped false false c = refl
-
--- a disjunction holds where its first test is passed
-pub or_left : (a b : Bool) → a ≡ true → (a || b) ≡ true
-or_left true b e = refl
-or_left false b e = cc
-
--- a disjunction holds where its second test is passed
-pub or_right : (a b : Bool) → b ≡ true → (a || b) ≡ true
-or_right true b e = refl
-or_right false b e = e
 
 -- if an element passes a test, some element does
 pub any_from : {X : Type 0} (p : X → Bool) (xs : List X) (x : X) → Contains xs x → p x ≡ true → list_any p xs ≡ true
