@@ -1,8 +1,9 @@
 -- The boards before a board: which numbers of segments give one.
 use Rattle.std.specs.Prelude.{◌≡◌, ◌≢◌, ◌+◌, ◌-◌, ◌*◌, ◌<◌, ◌≤◌}
-use Rattle.gm_pieces.specs.Common.{ℕ, Bool, true, false, eq-eqb, List, [], map, length, None, Some, refl, sym, ap, ap₂, ◌∙◌}
-use Rattle.gm_pieces.specs.Common.{subst, arith, inl, inr, cases_Bool, ne_eqb, true≢false, put, put_all, least_index, put_more_none, put_more_some, and_both}
-use Rattle.gm_pieces.specs.Common.{all_from, members, or_right, board_game, plays_on, before_at, befores, before_some, before_none, before_room, all_befores}
+use Rattle.gm_pieces.specs.Common.{ℕ, Bool, true, false, eq-eqb, List, [], map, length, Some, refl, sym, ap, ap₂, ◌∙◌}
+use Rattle.gm_pieces.specs.Common.{subst, arith, inl, inr, cases_Bool, ne_eqb, put, put_all, least_index, put_more_none, put_more_some, and_both}
+use Rattle.gm_pieces.specs.Common.{all_from, members, or_right, board_game, plays_on, before_at, befores, before_some, before_room, all_befores}
+use Rattle.gm_pieces.specs.laws.MoveLaws.{before_skip}
 use Rattle.gm_pieces.specs.laws.Skipped.{puts_skip}
 use Rattle.gm_tactix.specs.Segments.{segment_length, segment_cells}
 use Rattle.gm_tactix.specs.Board.{has_counter, is_among, with_counters, can_take, was_taken, end_by_last_move, tactix}
@@ -38,10 +39,6 @@ module _ (s t : ℕ) (d : List Bool) (low : 1 ≤ s) (high : s ≤ 5) (long : le
       before_some (tactix s misere) t d m e
       (and_both _ _ (eq-eqb _ _ (length_with d (segment_cells s m) ∙ long)) (and_both _ _ (eq-eqb _ _ tier) (and_both _ _ (with_some misere b some) can)))
 
-  -- and any other number gives none
-  before_other : (misere : Bool) (m : ℕ) → was_taken s t d m ≡ false → before_at (tactix s misere) t d m ≡ None
-  before_other misere m e = before_none (tactix s misere) t d m (λ w. absurd (true≢false (sym w ∙ e)))
-
   -- no segment of another length can have been taken
   other_length : (m : ℕ) → segment_length m ≢ t - members d → was_taken s t d m ≡ false
   other_length m n = elim (cases_Bool (was_taken s t d m)) [
@@ -54,7 +51,7 @@ module _ (s t : ℕ) (d : List Bool) (low : 1 ≤ s) (high : s ≤ 5) (long : le
       → AreBeforesBelow s misere t d (n + k) is
   others_skip misere n k is h e =
       e ∙ sym (puts_skip (least_index (board_game (tactix s misere))) (before_at (tactix s misere) t d) n k
-      (λ i l. before_other misere (n + i) (other_length (n + i) (h i l))))
+      (λ i l. before_skip (tactix s misere) t d (n + i) (other_length (n + i) (h i l))))
 
   too_long : (m : ℕ) → s < t - members d → was_taken s t d m ≡ false
   too_long m l = elim (cases_Bool (was_taken s t d m)) [
@@ -68,7 +65,7 @@ module _ (s t : ℕ) (d : List Bool) (low : 1 ≤ s) (high : s ≤ 5) (long : le
       let n = 16 * (s * s) in
       subst (λ (k : ℕ). AreBeforesBelow s misere t d k []) (let z : 0 + n ≡ n = omega arith in z)
       (sym (puts_skip (least_index (board_game (tactix s misere))) (before_at (tactix s misere) t d) 0 n
-      (λ i k. before_other misere (0 + i) (too_long (0 + i) l))))
+      (λ i k. before_skip (tactix s misere) t d (0 + i) (too_long (0 + i) l))))
 
   -- the list has room for the board before
   pub taken_room : (misere : Bool) (m : ℕ) (is : List ℕ) → was_taken s t d m ≡ true → AreBeforesBelow s misere t d m is → length is < 128
@@ -88,7 +85,7 @@ module _ (s t : ℕ) (d : List Bool) (low : 1 ≤ s) (high : s ≤ 5) (long : le
   pub taken_less : (misere : Bool) (m : ℕ) (is : List ℕ) → was_taken s t d m ≡ false → AreBeforesBelow s misere t d m is → AreBeforesBelow s misere t d
       (m + 1) is
   taken_less misere m is e h = h ∙ sym (put_more_none (least_index (board_game (tactix s misere))) (before_at (tactix s misere) t d) m
-      (before_other misere m e))
+      (before_skip (tactix s misere) t d m e))
 
   -- a cell's numbers of segments that are shorter
   pub shorter_skip : (misere : Bool) (n l : ℕ) (is : List ℕ) → l ≡ t - members d → l ≤ s → AreBeforesBelow s misere t d (16 * n) is → AreBeforesBelow s

@@ -3,17 +3,12 @@ use Rattle.std.specs.Prelude.{◌≡◌, ◌+◌, ◌-◌, ◌*◌, ◌/◌, ◌
 use Rattle.gm_pieces.specs.Common.{ℕ, zero, suc, Bool, true, false, eqb, eqb-true, List, [], get_or, refl, sym, ap, ap₂, ◌∙◌, arith, bit_and, list_all}
 use Rattle.gm_pieces.specs.Common.{range_with_len, div-div-eq-div-mul, cond_below, cond-false, le-ltb, pow-add, and_le_r, bit_at_ones, has_cell, tests_of}
 use Rattle.gm_pieces.specs.Common.{mask_of, mask_below, mask_tests_small, tests_mask, contains_range, and_true, has_and, all_at}
+use Rattle.std.proofs.Math.Bool.{and_comm}
 use Rattle.gm_tactix.specs.Lines.{line_cell}
 
 -- a cell of a mask moved down
 moved_down : (m k i : ℕ) → has_cell (m / 2 ^ k) i ≡ has_cell m (k + i)
 moved_down m k i = ap (λ (n : ℕ). eqb (n % 2) 1) (div-div-eq-div-mul m (2 ^ k) (2 ^ i) ∙ ap (λ (n : ℕ). m / n) (sym (pow-add 2 k i)))
-
-and_swap : (a b : Bool) → (a && b) ≡ (b && a)
-and_swap true true = refl
-and_swap true false = refl
-and_swap false true = refl
-and_swap false false = refl
 
 -- a row's cells
 pub row_cell : (counters line place : ℕ) → line < 5 → place < 5
@@ -34,7 +29,7 @@ both (x ∷ xs) (y ∷ ys) = (x && y) ∷ both xs ys
 tests_both : (n a b : ℕ) → tests_of n (bit_and a b) ≡ both (tests_of n b) (tests_of n a)
 unfolding tests_of
 tests_both zero a b = refl
-tests_both (suc n) a b = ap₂ (λ (x : Bool) (xs : List Bool). x ∷ xs) (has_and a b n ∙ and_swap (has_cell a n) (has_cell b n)) (tests_both n a b)
+tests_both (suc n) a b = ap₂ (λ (x : Bool) (xs : List Bool). x ∷ xs) (has_and a b n ∙ and_comm (has_cell a n) (has_cell b n)) (tests_both n a b)
 
 -- tests of cells five apart
 abbrev wide : List Bool → List Bool

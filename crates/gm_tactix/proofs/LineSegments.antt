@@ -7,10 +7,11 @@ use Rattle.std.proofs.lemmas.Grind.{flat_map-append}
 use Rattle.std.proofs.Math.Seq.{take-append-add}
 use Rattle.gm_tactix.specs.declared.segments.TheConstants.{SHIFTS}
 use Rattle.gm_tactix.specs.Segments.{segment_cells, is_segment, segments, move_number_bound}
-use Rattle.gm_tactix.specs.Board.{has_counter, is_full, can_take}
+use Rattle.gm_tactix.specs.Board.{has_counter, can_take}
 use Rattle.gm_tactix.specs.CounterMasks.{counters_of}
 use Rattle.gm_tactix.specs.Lines.{line_cell, line_place, line_of, lies_in, line_segments}
 use Rattle.gm_tactix.specs.laws.CounterMaskFacts.{counter_at}
+use Rattle.gm_tactix.proofs.MaskMoves.{when_segment}
 use Rattle.gm_tactix.proofs.LineTable.{block, held, shifted, kept_is, placed}
 
 -- tests that agree on the elements of a list keep the same
@@ -26,10 +27,6 @@ in_line : (line m : ℕ) → Contains (line_segments line) m → is_segment 5 m 
 unfolding line_segments
 in_line line m c = (filter_from (is_segment 5) (range_with_len 0 (move_number_bound 5)) m (filter_from (λ (m : ℕ). eqb (line_of m) line) (segments 5) m c).0).1
 
-when_segment : (b : List Bool) (m : ℕ) → is_segment 5 m ≡ true → is_full b (segment_cells 5 m) ≡ can_take 5 b m
-unfolding can_take
-when_segment b m e = rw e refl
-
 module _ (counters line content : ℕ) (within : line < 10)
     (cells : (place : ℕ) → place < 5 → has_cell content place ≡ has_cell counters (line_cell line place)) where
   -- a segment of the line can be taken where it lies in the line's content
@@ -40,7 +37,7 @@ module _ (counters line content : ℕ) (within : line < 10)
       (λ cell d.
       let at = placed line m cell within c d in
       cells (line_place line cell) at.0 ∙ ap (has_cell counters) at.1 ∙ sym (counter_at 25 counters cell at.2))
-      ∙ when_segment (counters_of 25 counters) m (in_line line m c)
+      ∙ sym (when_segment 5 (counters_of 25 counters) m (in_line line m c))
 
   -- the segments of the line that can be taken
   pub line_taken : filter (lies_in line content) (line_segments line) ≡ filter (can_take 5 (counters_of 25 counters)) (line_segments line)

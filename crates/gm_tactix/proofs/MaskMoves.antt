@@ -12,7 +12,7 @@ use Rattle.gm_tactix.specs.laws.CounterMaskFacts.{counters_members, full_mask, f
 use Rattle.gm_tactix.proofs.MaskSteps.{pattern_below}
 
 -- ---- tests
-when_segment : (s : ℕ) (b : List Bool) (m : ℕ) → is_segment s m ≡ true → can_take s b m ≡ is_full b (segment_cells s m)
+pub when_segment : (s : ℕ) (b : List Bool) (m : ℕ) → is_segment s m ≡ true → can_take s b m ≡ is_full b (segment_cells s m)
 unfolding can_take
 when_segment s b m e = rw e refl
 

@@ -1,9 +1,10 @@
 -- Boards of counters: cells emptied and filled, and how many counters there are.
-use Rattle.std.specs.Prelude.{◌≡◌, ◌+◌, ◌<◌, ◌&&◌, ◌||◌, ◌∷◌, ◌++◌}
+use Rattle.std.specs.Prelude.{◌≡◌, ◌+◌, ◌<◌, ◌&&◌, ◌||◌, ◌∷◌}
 use Rattle.gm_pieces.specs.Common.{ℕ, zero, suc, Bool, true, false, not, List, [], map, reverse, length, set, refl, sym}
 use Rattle.gm_pieces.specs.Common.{ap, ap₂, ◌∙◌, subst, arith, inl, inr, length-set, get_or-set_same, get_or-set_other, eq-eqb, Contains, range_with_len}
-use Rattle.gm_pieces.specs.Common.{sum_by, cases_lt, cases_eq, ne_eqb, not-true, ext_get_or, get_or_past, reverse-append, length-map-range_with_len}
+use Rattle.gm_pieces.specs.Common.{sum_by, cases_lt, cases_eq, ne_eqb, not-true, ext_get_or, get_or_past, length-map-range_with_len}
 use Rattle.gm_pieces.specs.Common.{get_or-map-range_with_len, all_from, and_left, and_right, and_true, and_false, weight, members, all_at}
+use Rattle.std.proofs.lemmas.List.Sorted.{sum_by-IsPermutation, IsPermutation-reverse}
 use Rattle.std.proofs.lemmas.List.Sums.{sum_by-cons}
 use Rattle.gm_tactix.specs.Segments.{cells_from}
 use Rattle.gm_tactix.specs.Board.{has_counter, is_full, is_free, is_among, without, with_counters}
@@ -99,23 +100,9 @@ members_weight [] = refl
 members_weight (true ∷ b) = let e = sum_by-cons weight true b in omega (arith, members_weight b, e)
 members_weight (false ∷ b) = let e = sum_by-cons weight false b in omega (arith, members_weight b, e)
 
-members_append : (a b : List Bool) → members (a ++ b) ≡ members a + members b
-members_append [] b = omega arith
-members_append (true ∷ a) b = omega (arith, members_append a b)
-members_append (false ∷ a) b = omega (arith, members_append a b)
-
-members_one : (x : Bool) (b : List Bool) → members (x ∷ b) ≡ members b + members (x ∷ [])
-members_one true b = omega arith
-members_one false b = omega arith
-
 -- the order of the cells does not matter
 pub members_reverse : (b : List Bool) → members (reverse b) ≡ members b
-members_reverse [] = refl
-members_reverse (x ∷ b) =
-    ap members (reverse-append (x ∷ []) b)
-    ∙ members_append (reverse b) (x ∷ [])
-    ∙ ap (λ (n : ℕ). n + members (x ∷ [])) (members_reverse b)
-    ∙ sym (members_one x b)
+members_reverse b = members_weight (reverse b) ∙ sum_by-IsPermutation weight b (reverse b) (IsPermutation-reverse b) ∙ sym (members_weight b)
 
 -- a board with one counter fewer
 members_set : (b : List Bool) (c : ℕ) → has_counter b c ≡ true → members (set b c false) + 1 ≡ members b

@@ -4,7 +4,6 @@ use Rattle.gm_pieces.specs.Common.{ℕ, zero, suc, Bool, true, false, cond, eqb,
 use Rattle.gm_pieces.specs.Common.{subst, arith, inl, inr, eqb-true, eq-eqb, Contains, filter, range_with_len, cases_lt, ne_eqb, true≢false}
 use Rattle.gm_pieces.specs.Common.{length-range_with_len, get_or-range_with_len, map-range_with_len_more, map-id, IsAscending, contains_head, and_left}
 use Rattle.gm_pieces.specs.Common.{and_right, and_both, members, filter_few, nil_or, steps, step_in, step_listed}
-use Rattle.gm_pieces.specs.laws.Listed.{filter_ascending}
 use Rattle.gm_tactix.specs.Segments.{first_cell, segment_length, goes_down, stride, cells_from, segment_cells, is_segment, move_number_bound}
 use Rattle.gm_tactix.specs.Board.{is_full, is_free, without, with_counters, can_take, play, was_taken, tactix}
 use Rattle.gm_tactix.specs.laws.SegmentFacts.{number_below, length_bounds, single, single_cells, segments_few}
@@ -28,11 +27,9 @@ range_push a n =
 
 -- a range ascends
 pub range_ascending : (a n : ℕ) → IsAscending (range_with_len a n)
-range_ascending a n = subst IsAscending (all_kept (range_with_len a n)) (filter_ascending (λ k. true) a n)
-  where
-    all_kept : (xs : List ℕ) → filter (λ k. true) xs ≡ xs
-    all_kept [] = refl
-    all_kept (x ∷ xs) = ap (λ (ys : List ℕ). x ∷ ys) (all_kept xs)
+range_ascending a zero = tt
+range_ascending a (suc zero) = tt
+range_ascending a (suc (suc n)) = (omega arith, range_ascending (a + 1) (suc n))
 
 -- ---- moves
 -- a move is a segment whose cells all have counters

@@ -1,10 +1,11 @@
 -- Segments of the squares of side 1 to 5: what computing shows of each, and what follows for all.
-use Rattle.std.specs.Prelude.{◌≡◌, ◌+◌, ◌-◌, ◌*◌, ◌/◌, ◌%◌, ◌<◌, ◌≤◌, ◌&&◌, ◌||◌, ◌∷◌, ◌++◌}
+use Rattle.std.specs.Prelude.{◌≡◌, ◌+◌, ◌-◌, ◌*◌, ◌/◌, ◌%◌, ◌<◌, ◌≤◌, ◌&&◌, ◌||◌, ◌∷◌}
 use Rattle.gm_pieces.specs.Common.{ℕ, zero, suc, min, max, Bool, true, false, cond, eqb, ltb, leb, List}
 use Rattle.gm_pieces.specs.Common.{[], reverse, length, get_or, refl, sym, ap, ap₂, ◌∙◌, subst, arith, inl, inr, eqb-true, eq-eqb, ltb-true, lt-ltb}
-use Rattle.gm_pieces.specs.Common.{leb-true, le-leb, Contains, list_all, range_with_len, or_cases, reverse-append, and_left, and_right, and_both}
+use Rattle.gm_pieces.specs.Common.{leb-true, le-leb, Contains, list_all, range_with_len, or_cases, and_left, and_right, and_both}
 use Rattle.gm_pieces.specs.Common.{contains_range, contains_head, contains_later, filter_to, same_list, same_list_true, permute, all_at, IsGroup, any_at}
 use Rattle.gm_pieces.specs.Common.{group_inverse, undone, same_tests, any_from, square_symmetries, square_group}
+use Rattle.std.proofs.lemmas.List.Sorted.{IsPermutation-reverse, IsPermutation-sym, Contains-permutation}
 use Rattle.gm_tactix.specs.Segments.{first_cell, segment_length, goes_down, segment_cells, is_segment, move_number_bound, segments}
 use Rattle.gm_tactix.specs.Board.{is_among}
 
@@ -145,34 +146,13 @@ among_in k cs e =
 pub among_from : (k : ℕ) (cs : List ℕ) → Contains cs k → is_among k cs ≡ true
 among_from k cs c = any_from (λ (c : ℕ). eqb c k) cs k c (eq-eqb k k refl)
 
-among_append : (k : ℕ) (xs ys : List ℕ) → is_among k (xs ++ ys) ≡ (is_among k ys || is_among k xs)
-among_append k [] ys = or_false_right (is_among k ys)
-  where
-    or_false_right : (b : Bool) → b ≡ (b || false)
-    or_false_right true = refl
-    or_false_right false = refl
-among_append k (x ∷ xs) ys = ap (λ (b : Bool). eqb x k || b) (among_append k xs ys) ∙ swap (eqb x k) (is_among k ys) (is_among k xs)
-  where
-    swap : (a b c : Bool) → (a || (b || c)) ≡ (b || (a || c))
-    swap true true c = refl
-    swap true false c = refl
-    swap false b c = refl
-
 -- the order of the cells does not matter
 among_reverse : (k : ℕ) (cs : List ℕ) → is_among k (reverse cs) ≡ is_among k cs
-among_reverse k [] = refl
-among_reverse k (c ∷ cs) =
-    ap (is_among k) (reverse_cons c cs)
-    ∙ among_append k (reverse cs) (c ∷ [])
-    ∙ or_one (eqb c k) (is_among k (reverse cs))
-    ∙ ap (λ (b : Bool). eqb c k || b) (among_reverse k cs)
-  where
-    reverse_cons : (x : ℕ) (xs : List ℕ) → reverse (x ∷ xs) ≡ reverse xs ++ x ∷ []
-    reverse_cons x xs = reverse-append (x ∷ []) xs
-
-    or_one : (a b : Bool) → ((a || false) || b) ≡ (a || b)
-    or_one true b = refl
-    or_one false b = refl
+among_reverse k cs =
+    let order = IsPermutation-reverse cs in
+    same_tests _ _
+    (λ e. among_from k cs (Contains-permutation (reverse cs) cs k (IsPermutation-sym cs (reverse cs) order) (among_in k (reverse cs) e)))
+    (λ e. among_from k (reverse cs) (Contains-permutation cs (reverse cs) k order (among_in k cs e)))
 
 module _ (n : ℕ) (G : List (List ℕ)) (o : IsGroup n G) (g h : List ℕ) (c : Contains G g) (d : Contains G h)
     (gh : permute 0 g h ≡ range_with_len 0 n) (hg : permute 0 h g ≡ range_with_len 0 n) where
