@@ -3,7 +3,7 @@ use Rattle.std.specs.Prelude.{◌≡◌, ◌+◌, ◌*◌, ◌<◌}
 use Rattle.gm_pieces.specs.Common.{ℕ, true, false, not, eqb, eqb-true, eq-eqb, List, map, length, set, None, Some, subst, sym, ap, ap₂}
 use Rattle.gm_pieces.specs.Common.{◌∙◌, arith, inl, inr, get_or-set_same, length-set, length-map, cases_Bool, cond-false, cond-true, true≢false, not-true}
 use Rattle.gm_pieces.specs.Common.{Cell, Empty, Mine, turned, is_mine, is_theirs, cell_at, number_of, mine_turned, theirs_turned, and_left, and_right}
-use Rattle.gm_pieces.specs.Common.{and_both, from_point, to_point, from_back, to_back, plays_on, goes_on, before_at, before_some, before_none, WasStep, gone}
+use Rattle.gm_pieces.specs.Common.{and_both, to_point, from_back, to_back, plays_on, goes_on, before_at, before_some, before_none, WasStep, gone}
 use Rattle.gm_pieces.specs.Common.{brought_back, step_left, gone_again}
 use Rattle.gm_dao.specs.DaoRules.{has_formation, has_trapped, legal, end_by_last_move, in_line, slides, can_move, can_have_led_here, undo, dao}
 use Rattle.gm_dao.specs.MaskSlides.{is_open}
@@ -52,13 +52,10 @@ plays_not e g = elim (cases_Bool (has_formation is_theirs e)) [
 
 -- the slide, by the cells that the code has
 slide_number : (e : List Cell) (a c : ℕ) → c < 16 → IsSlide e a c → can_move e (16 * a + c) ≡ true
-slide_number e a c l h =
-    slide_move e (16 * a + c) (subst (λ (p : ℕ). IsSlide e p (to_point (16 * a + c))) (sym (from_back a c l))
-    (subst (λ (q : ℕ). IsSlide e a q) (sym (to_back a c l)) h))
+slide_number e a c l h = slide_move e (16 * a + c) (rw (from_back a c l, to_back a c l) h)
 
 number_slide : (e : List Cell) (a c : ℕ) → c < 16 → can_move e (16 * a + c) ≡ true → IsSlide e a c
-number_slide e a c l h =
-    subst (λ (p : ℕ). IsSlide e p c) (from_back a c l) (subst (λ (q : ℕ). IsSlide e (from_point (16 * a + c)) q) (to_back a c l) (move_slide e (16 * a + c) h))
+number_slide e a c l h = rw (from_back a c l, to_back a c l) at (move_slide e (16 * a + c) h)
 
 -- ---- the board before a step that led to a legal board
 module _ (t : ℕ) (d e : List Cell) (a c : ℕ) (la : a < 16) (lc : c < 16) (l : legal d ≡ true) (w : WasStep d a c) (q : e ≡ brought_back d a c)

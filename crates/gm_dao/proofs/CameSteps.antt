@@ -4,7 +4,7 @@ use Rattle.gm_pieces.specs.Common.{ℕ, zero, suc, Bool, true, false, not, cond,
 use Rattle.gm_pieces.specs.Common.{refl, sym, ap, ap₂, ◌∙◌, subst, arith, inl, inr, bit_and, list_all, filter_map, range_with_len}
 use Rattle.gm_pieces.specs.Common.{cases_Bool, true≢false, Contains, put, put_all, put_more_none, put_more_some, Cell, Empty, Mine, Theirs, turned}
 use Rattle.gm_pieces.specs.Common.{has_cell, none_left, board_of, from_point, to_point, from_back, to_back, all_at, all_from, at_all, at_each, and_left}
-use Rattle.gm_pieces.specs.Common.{and_right, and_both, cond-true, get_or-set_same, get_or-set_other, length-set, length-map, before_at, before_none}
+use Rattle.gm_pieces.specs.Common.{and_right, and_both, cond-true, get_or-set_same, get_or-set_other, length-set, length-map, before_at}
 use Rattle.gm_pieces.specs.Common.{befores, is_theirs, is_empty, is_taken, cell_at, WasStep, brought_back, turned_cell}
 use Rattle.gm_pieces.specs.Common.{cells_counted, empty_cell, contains_range, range_below, their_cells, IsAscending}
 use Rattle.gm_board.specs.laws.Lists.{filter_map_from, filter_map_to, contains_head, contains_later, contains_cases}
@@ -12,6 +12,7 @@ use Rattle.std.specs.Option.{is_some}
 use Rattle.gm_board.specs.laws.Filters.{filter_map_few}
 use Rattle.gm_game.proofs.Lists.{contains_none, map_in, map_from}
 use Rattle.gm_game.proofs.Putting.{put_all_ascending, put_all_from, put_all_later}
+use Rattle.gm_pieces.specs.laws.MoveLaws.{before_skip}
 use Rattle.gm_pieces.specs.laws.Skipped.{puts_skip}
 use Rattle.gm_dao.specs.DaoRules.{in_line, path, beyond, legal, slides, can_have_led_here, least_index_of, dao}
 use Rattle.gm_dao.specs.MaskSlides.{came_by_masks, way_back, befores_below, AreBeforesBelow}
@@ -162,10 +163,6 @@ module _ (d : List Cell) (c free taken a : ℕ) (la : a < 16) (there : cell_at d
       came_slid d a c free taken la lc (legal_in d l).cells (was_step h) f t (line_back a c la lc (and_left _ _ h)) h
 
 -- ---- boards before
--- no board before a move that cannot have led to d
-before_not : (t : ℕ) (d : List Cell) (m : ℕ) → can_have_led_here d m ≡ false → before_at dao t d m ≡ None
-before_not t d m e = before_none dao t d m (λ w. absurd (true≢false (sym w ∙ e)))
-
 -- the number of the move that comes from a
 back_at : (a c : ℕ) → a < 16 → way_back (16 * c + a) ≡ 16 * a + c
 back_at a c l = ap₂ (λ (x y : ℕ). 16 * x + y) (to_back c a l) (from_back c a l)
@@ -182,7 +179,7 @@ module _ (t : ℕ) (d : List Cell) (c free taken : ℕ) (is_legal : legal d ≡ 
         long in
         no_before t d (brought_back d a c) a c l lc is_legal m.step refl n
         (λ h z o. absurd (true≢false (sym (slid_came d a c free taken l lc long m.step f s h) ∙ e))))
-    | inr w ↦ before_not t d (16 * a + c) w
+    | inr w ↦ before_skip dao t d (16 * a + c) w
   ]
 
   -- n cells from which it cannot have come
@@ -210,7 +207,7 @@ ended_past t d c is lc e h =
     h
     ∙ sym (puts_skip least_index_of (λ (m : ℕ). before_at dao t d (way_back m)) (16 * c) 16 (λ a l.
     ap (before_at dao t d) (back_at a c l)
-    ∙ before_not t d (16 * a + c) (elim (cases_Bool (can_have_led_here d (16 * a + c))) [
+    ∙ before_skip dao t d (16 * a + c) (elim (cases_Bool (can_have_led_here d (16 * a + c))) [
       | inl w ↦ absurd (true≢false (sym (ap is_theirs (was_at d (16 * a + c) a c w (sym (from_back a c lc)) (sym (to_back a c lc))).step.there) ∙ e))
       | inr g ↦ g
     ])))
@@ -267,7 +264,7 @@ befores_room t d l =
       | inl w ↦ (
           let z : to_point (way_back m) ≡ m / 16 = omega (arith, k) in
           ap (λ (i : ℕ). is_theirs (cell_at d i)) (sym z) ∙ ap is_theirs (was_in d (way_back m) w).step.there)
-      | inr w ↦ absurd (true≢false (sym e ∙ ap (λ (o : Option (List Cell)). is_some o) (before_not t d (way_back m) w)))
+      | inr w ↦ absurd (true≢false (sym e ∙ ap (λ (o : Option (List Cell)). is_some o) (before_skip dao t d (way_back m) w)))
     ]) in
     let all = cells_counted is_theirs d 16 h.cells in
     omega (arith, few, blocks, all, h.other)

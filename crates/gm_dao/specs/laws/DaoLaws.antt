@@ -1,6 +1,6 @@
 -- Dao has the laws of a game.
-use Rattle.std.specs.Prelude.{◌≡◌, ◌<◌, if◌then◌else◌, ◌&&◌}
-use Rattle.gm_pieces.specs.Common.{ℕ, Bool, true, false, not, eqb, length, refl, sym, ap, ap₂, ◌∙◌, subst, arith, inl, eq-eqb}
+use Rattle.std.specs.Prelude.{◌≡◌, ◌<◌, if◌then◌else◌}
+use Rattle.gm_pieces.specs.Common.{ℕ, Bool, true, false, not, eqb, length, refl, sym, ap, subst, arith, inl, eq-eqb}
 use Rattle.gm_pieces.specs.Common.{IsPaddedText, at, position_of, IsNumbered, Empty, binomial, arrangements, arrangement_index, square_symmetries, board_game}
 use Rattle.gm_pieces.specs.Common.{IsMoveGame, IsMoveSymmetric, permuted_group, is_mine, is_theirs, number_of, board_index, board_numbers, index_below}
 use Rattle.gm_pieces.specs.Common.{board_back, index_back}
@@ -82,7 +82,4 @@ pub legal_at : (i : ℕ) (x : Bool) → i < arrangements 16 4 4 → x ≡ has_fo
 unfolding legal
 legal_at i x l e =
     let h = board_numbers 16 4 4 i l in
-    ap not e
-    ∙ sym (ap₂ (λ (y z : Bool). y && (z && (eqb (number_of is_theirs (board_at i)) 4 && not (has_formation is_mine (board_at i))))) (eq-eqb _ _ h.cells)
-    (eq-eqb _ _ h.own)
-    ∙ ap (λ (y : Bool). y && not (has_formation is_mine (board_at i))) (eq-eqb _ _ h.other))
+    rw (eq-eqb _ _ h.cells, eq-eqb _ _ h.own, eq-eqb _ _ h.other) (ap not e)
