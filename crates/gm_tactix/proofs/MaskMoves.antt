@@ -2,13 +2,14 @@
 use Rattle.std.specs.Prelude.{◌≡◌, ◌+◌, ◌*◌, ◌^◌, ◌<◌, ◌≤◌, ◌&&◌}
 use Rattle.gm_pieces.specs.Common.{ℕ, Bool, true, false, not, eqb, List, w32, refl, sym, ap, ap₂, ◌∙◌, subst, arith}
 use Rattle.gm_pieces.specs.Common.{eqb-true, eq-eqb, bit_and, bit_or, count_ones, bit_not, true≢false, false_from_ne_true, or_lt, pow-lt, has_cell, same_tests}
-use Rattle.gm_pieces.specs.Common.{pattern_mask, members, has_and, has_not}
+use Rattle.gm_board.specs.laws.BoardMasks.{filled_by}
+use Rattle.gm_pieces.specs.Common.{same_all, pattern_mask, members, has_and, has_not}
 use Rattle.gm_tactix.specs.Segments.{segment_length, segment_cells, is_segment}
-use Rattle.gm_tactix.specs.Board.{is_full, is_free, with_counters, can_take, play, was_taken}
+use Rattle.gm_tactix.specs.Board.{has_counter, is_full, is_free, with_counters, can_take, play, was_taken}
 use Rattle.gm_tactix.specs.laws.SegmentFacts.{square_small, cells_within}
 use Rattle.gm_tactix.specs.laws.MoveFacts.{taken_in}
 use Rattle.gm_tactix.specs.CounterMasks.{counters_of}
-use Rattle.gm_tactix.specs.laws.CounterMaskFacts.{counters_members, full_mask, free_mask, without_mask, with_mask}
+use Rattle.gm_tactix.specs.laws.CounterMaskFacts.{counters_members, counter_at, free_mask, without_mask, with_mask}
 use Rattle.gm_tactix.proofs.MaskSteps.{pattern_below}
 
 -- ---- tests
@@ -26,10 +27,9 @@ pub take_of : (s mask m cells : ℕ) → 1 ≤ s → s ≤ 5 → is_segment s m 
     → eqb (bit_and mask cells) cells ≡ can_take s (counters_of (s * s) mask) m
 take_of s mask m cells low high e f =
     let cs = segment_cells s m in
-    let t = full_mask (s * s) mask cs (λ k c. cells_within s low high m k e c) in
-    let same : eqb (bit_and mask (pattern_mask cs)) (pattern_mask cs) ≡ is_full (counters_of (s * s) mask) cs =
-    same_tests _ _ (λ g. t.0 (eqb-true _ _ g)) (λ g. eq-eqb _ _ (t.1 g)) in
-    ap (λ (v : ℕ). eqb (bit_and mask v) v) f ∙ same ∙ sym (when_segment s (counters_of (s * s) mask) m e)
+    filled_by mask cells cs (sym f)
+    ∙ sym (same_all (has_counter (counters_of (s * s) mask)) (has_cell mask) cs (λ k c. counter_at (s * s) mask k (cells_within s low high m k e c)))
+    ∙ sym (when_segment s (counters_of (s * s) mask) m e)
 
 -- ---- a move
 square_bits : (s : ℕ) → 1 ≤ s → s ≤ 5 → s * s < 32

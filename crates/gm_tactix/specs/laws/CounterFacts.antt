@@ -74,10 +74,7 @@ without_with b cs e =
     ∙ back (has_counter b k) (is_among k cs) (λ f. free_at b cs k e (among_in k cs f)))
   where
     back : (x y : Bool) → (y ≡ true → x ≡ false) → ((x || y) && not y) ≡ x
-    back true true h = sym (h refl)
-    back true false h = refl
-    back false true h = refl
-    back false false h = refl
+    back x y h = grind arith
 
 -- full cells that are emptied and filled again leave the board unchanged
 pub with_without : (b : List Bool) (cs : List ℕ) → is_full b cs ≡ true → with_counters (without b cs) cs ≡ b
@@ -89,10 +86,7 @@ with_without b cs e =
     ∙ back (has_counter b k) (is_among k cs) (λ f. full_at b cs k e (among_in k cs f)))
   where
     back : (x y : Bool) → (y ≡ true → x ≡ true) → ((x && not y) || y) ≡ x
-    back true true h = refl
-    back true false h = refl
-    back false true h = sym (h refl)
-    back false false h = refl
+    back x y h = grind arith
 
 -- ---- numbers of counters
 pub members_weight : (b : List Bool) → members b ≡ sum_by weight b

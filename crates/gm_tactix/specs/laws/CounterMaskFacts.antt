@@ -2,11 +2,11 @@
 use Rattle.std.specs.Prelude.{◌≡◌, ◌+◌, ◌*◌, ◌^◌, ◌<◌, ◌≤◌, ◌&&◌, ◌||◌, ◌∷◌, ◌↔◌}
 use Rattle.gm_pieces.specs.Common.{ℕ, zero, suc, Bool, true, false, not, eqb, List, [], map, reverse, length}
 use Rattle.gm_pieces.specs.Common.{refl, sym, ap, ap₂, ◌∙◌, subst, arith, inl, inr, zero-add, eq-eqb, bit_and, bit_or, count_ones, bit_at, Contains}
-use Rattle.gm_pieces.specs.Common.{list_all, range_with_len, cases_eq, ne_eqb, not-true, true≢false, reverse-append, reverse-reverse, length-map-range_with_len}
+use Rattle.gm_pieces.specs.Common.{range_with_len, cases_eq, ne_eqb, not-true, reverse-append, reverse-reverse, length-map-range_with_len}
 use Rattle.gm_pieces.specs.Common.{get_or-map-range_with_len, map-range_with_len_more, bit_at-zero, bit_at-pow_same, bit_at-pow_other, members, rank, has_cell}
 use Rattle.gm_pieces.specs.Common.{tests_of, mask_rank, mask_unrank, tests_none, tests_more, members_small, mask_rank_at, tests_unrank, permute, all_at}
-use Rattle.gm_pieces.specs.Common.{IsPermutationOf, image_mask, image_tests, pattern_mask, pattern_filled, has_or, has_and, has_none, same_all, all_from}
-use Rattle.gm_tactix.specs.Board.{has_counter, is_full, is_free, is_among, without, with_counters, counters_index, counters_at}
+use Rattle.gm_pieces.specs.Common.{IsPermutationOf, image_mask, image_tests, pattern_mask, has_or, has_and, has_none, all_from, and_false}
+use Rattle.gm_tactix.specs.Board.{has_counter, is_free, is_among, without, with_counters, counters_index, counters_at}
 use Rattle.gm_tactix.specs.laws.SegmentFacts.{among_in, among_from}
 use Rattle.gm_tactix.specs.laws.CounterFacts.{same_board, length_without, length_with, without_at, with_at, members_reverse}
 use Rattle.gm_tactix.specs.CounterMasks.{counters_of}
@@ -68,16 +68,7 @@ has_pattern (c ∷ cs) k =
 
 -- ---- segments and masks
 module _ (n mask : ℕ) (cs : List ℕ) (below : (k : ℕ) → Contains cs k → k < n) where
-  -- the mask has all cells of the list exactly if they all have counters
-  pub full_mask : (bit_and mask (pattern_mask cs) ≡ pattern_mask cs) ↔ (is_full (counters_of n mask) cs ≡ true)
-  full_mask =
-      let same : is_full (counters_of n mask) cs ≡ list_all (has_cell mask) cs = same_all (has_counter (counters_of n mask)) (has_cell mask) cs
-      (λ k c. counter_at n mask k (below k c)) in (
-        λ e. same ∙ (pattern_filled mask cs).0 e,
-        λ e. (pattern_filled mask cs).1 (sym same ∙ e),
-      )
-
-  -- it has none of them exactly if none has a counter
+  -- the mask has none of the cells exactly if none has a counter
   pub free_mask : (bit_and mask (pattern_mask cs) ≡ 0) ↔ (is_free (counters_of n mask) cs ≡ true)
   free_mask = (
     λ e. all_from (λ (k : ℕ). not (has_counter (counters_of n mask) k)) cs
@@ -95,14 +86,11 @@ module _ (n mask : ℕ) (cs : List ℕ) (below : (k : ℕ) → Contains cs k →
   )
     where
       first_false : (x y : Bool) → (x && y) ≡ false → y ≡ true → x ≡ false
-      first_false true true e f = absurd (true≢false e)
-      first_false true false e f = absurd (true≢false (sym f))
-      first_false false y e f = refl
+      first_false x y e f = grind arith
 
       both_false : (x y : Bool) → (y ≡ true → x ≡ false) → (x && y) ≡ false
-      both_false true true h = absurd (true≢false (h refl))
-      both_false true false h = refl
-      both_false false y h = refl
+      both_false x true h = ap (λ (z : Bool). z && true) (h refl)
+      both_false x false h = and_false x
 
 -- the board with cells emptied is that of the mask without them
 pub without_mask : (n mask rest : ℕ) (cs : List ℕ) → ((k : ℕ) → k < n → has_cell rest k ≡ (has_cell mask k && not (has_cell (pattern_mask cs) k)))

@@ -20,17 +20,11 @@ module _ (s : ℕ) (low : 1 ≤ s) (high : s ≤ 5) where
   -- an index is below the size of its tier
   pub index_below : (b : List Bool) → length b ≡ s * s → counters_index b < binomial (s * s) (members b)
   unfolding counters_index
-  index_below b e =
-      subst (λ (n : ℕ). rank (reverse b) < binomial n (members b)) (length-reverse b ∙ e)
-      (subst (λ (k : ℕ). rank (reverse b) < binomial (length (reverse b)) k) (members_reverse b) (rank_below (reverse b)))
+  index_below b e = let r = rank_below (reverse b) in rw (length-reverse b, e, members_reverse b) at r
 
   board_back : (b : List Bool) → length b ≡ s * s → counters_at s (members b) (counters_index b) ≡ b
   unfolding counters_index counters_at
-  board_back b e =
-      ap reverse
-      (subst (λ (n : ℕ). unrank n (members b) (rank (reverse b)) ≡ reverse b) (length-reverse b ∙ e)
-      (subst (λ (k : ℕ). unrank (length (reverse b)) k (rank (reverse b)) ≡ reverse b) (members_reverse b) (unrank_rank (reverse b))))
-      ∙ reverse-reverse b
+  board_back b e = let r = unrank_rank (reverse b) in ap reverse (rw (length-reverse b, e, members_reverse b) at r) ∙ reverse-reverse b
 
   index_back : (t i : ℕ) → i < binomial (s * s) t → counters_index (counters_at s t i) ≡ i
   unfolding counters_index counters_at
