@@ -1,11 +1,12 @@
 -- The cells from which a piece can have slid to its cell, and the boards before a board, taken by the pieces that may have moved.
-use Rattle.std.specs.Prelude.{◌≡◌, ◌≢◌, ◌+◌, ◌-◌, ◌*◌, ◌/◌, ◌^◌, ◌<◌, ◌≤◌, ◌&&◌, ◌||◌, ◌∷◌}
-use Rattle.gm_pieces.specs.Common.{ℕ, zero, suc, Bool, true, false, not, cond, eqb, eqb-true, eq-eqb, ltb, ltb-true, List, [], length, map, set, None, Some, Option}
+use Rattle.std.specs.Prelude.{◌++◌, ◌≡◌, ◌≢◌, ◌+◌, ◌*◌, ◌/◌, ◌^◌, ◌<◌, ◌≤◌, ◌&&◌, ◌∷◌}
+use Rattle.gm_pieces.specs.Common.{ℕ, zero, suc, Bool, true, false, not, cond, eqb, eq-eqb, ltb, ltb-true, List, [], length, map, set, None, Some, Option}
 use Rattle.gm_pieces.specs.Common.{refl, sym, ap, ap₂, ◌∙◌, subst, arith, inl, inr, bit_and, list_all, filter_map, range_with_len}
 use Rattle.gm_pieces.specs.Common.{cases_Bool, true≢false, Contains, put, put_all, put_more_none, put_more_some, Cell, Empty, Mine, Theirs, turned}
-use Rattle.gm_pieces.specs.Common.{has_cell, none_left, board_of, from_point, to_point, from_back, to_back, all_at, all_from, at_all, at_each, and_left}
-use Rattle.gm_pieces.specs.Common.{and_right, and_both, cond-true, get_or-set_same, get_or-set_other, length-set, length-map, before_at}
+use Rattle.gm_pieces.specs.Common.{has_cell, board_of, from_point, to_point, from_back, to_back, all_at, all_from, at_all, at_each, and_left}
+use Rattle.gm_pieces.specs.Common.{and_right, cond-true, get_or-set_same, get_or-set_other, length-set, length-map, before_at}
 use Rattle.gm_pieces.specs.Common.{befores, is_theirs, is_empty, is_taken, cell_at, WasStep, brought_back, turned_cell}
+use Rattle.gm_pieces.specs.Common.{filter, reverse, same_all, same_list, same_list_true, same_tests}
 use Rattle.gm_pieces.specs.Common.{cells_counted, empty_cell, contains_range, range_below, their_cells, IsAscending}
 use Rattle.gm_board.specs.laws.Lists.{filter_map_from, filter_map_to, contains_head, contains_later, contains_cases}
 use Rattle.std.specs.Option.{is_some}
@@ -17,10 +18,11 @@ use Rattle.gm_pieces.specs.laws.Skipped.{puts_skip}
 use Rattle.gm_dao.specs.DaoRules.{in_line, path, beyond, legal, slides, can_have_led_here, least_index_of, dao}
 use Rattle.gm_dao.specs.MaskSlides.{came_by_masks, way_back, befores_below, AreBeforesBelow}
 use Rattle.gm_dao.specs.laws.BoardFacts.{legal_in}
-use Rattle.gm_dao.specs.laws.SlideFacts.{listed, listed_in, way}
+use Rattle.gm_dao.specs.laws.SlideFacts.{way}
 use Rattle.gm_dao.specs.laws.CountFacts.{blocks_few}
 use Rattle.gm_dao.specs.laws.BeforeFacts.{was_in}
-use Rattle.gm_dao.proofs.MoveSteps.{was_at}
+use Rattle.std.proofs.lemmas.List.Sorted.{IsPermutation-reverse, IsPermutation-sym, Contains-permutation}
+use Rattle.gm_dao.proofs.MoveSteps.{all_more, was_at}
 use Rattle.gm_dao.proofs.BeforeSteps.{no_before}
 use Rattle.gm_dao.proofs.CountSteps.{ascending_above}
 
@@ -29,12 +31,16 @@ use Rattle.gm_dao.proofs.CountSteps.{ascending_above}
 abbrev apart : ℕ → ℕ → ℕ → Bool
 apart a c k = not (eqb k a) && not (eqb k c)
 
--- the way back has the cells of the way, but for its ends; and what follows the way is neither end
+-- the cells of a way but its end
+abbrev between : ℕ → ℕ → List ℕ
+between a c = filter (λ k. not (eqb k c)) (path a c)
+
+-- the way back has the same cells in the other order and its own end; and what follows the way is neither end
 abbrev turns : ℕ → ℕ → Bool
 turns a c =
     cond (in_line a c)
-    (in_line c a && (list_all (λ k. eqb k a || (apart a c k && listed (path a c) k)) (path c a)
-    && (list_all (λ k. eqb k c || (apart a c k && listed (path c a) k)) (path a c) && list_all (apart a c) (beyond a c))))
+    (in_line c a && (same_list (path a c) (between a c ++ c ∷ []) && (same_list (path c a) (reverse (between a c) ++ a ∷ [])
+    && (list_all (λ k. apart a c k && ltb k 16) (between a c) && list_all (apart a c) (beyond a c)))))
     true
 
 ways_turn : at_all 16 16 turns ≡ true
@@ -43,8 +49,9 @@ ways_turn = refl
 
 record IsTurned (a c : ℕ) : Type 0 where
   line : in_line c a ≡ true
-  back : list_all (λ k. eqb k a || (apart a c k && listed (path a c) k)) (path c a) ≡ true
-  forth : list_all (λ k. eqb k c || (apart a c k && listed (path c a) k)) (path a c) ≡ true
+  forth : path a c ≡ between a c ++ c ∷ []
+  back : path c a ≡ reverse (between a c) ++ a ∷ []
+  inner : list_all (λ k. apart a c k && ltb k 16) (between a c) ≡ true
   after : list_all (apart a c) (beyond a c) ≡ true
 
 way_turned : (a c : ℕ) → a < 16 → c < 16 → in_line a c ≡ true → IsTurned a c
@@ -52,7 +59,22 @@ way_turned a c l k e =
     let t = sym (cond-true _ _ _ e) ∙ at_each 16 16 turns ways_turn a c l k in
     let u = and_right _ _ t in
     let v = and_right _ _ u in
-    record { line = and_left _ _ t; back = and_left _ _ u; forth = and_left _ _ v; after = and_right _ _ v }
+    let w = and_right _ _ v in
+    record {
+      line = and_left _ _ t;
+      forth = same_list_true _ _ (and_left _ _ u);
+      back = same_list_true _ _ (and_left _ _ v);
+      inner = and_left _ _ w;
+      after = and_right _ _ w;
+    }
+
+-- the order of the cells does not matter to a test of all
+all_reverse : (p : ℕ → Bool) (xs : List ℕ) → list_all p (reverse xs) ≡ list_all p xs
+all_reverse p xs =
+    let order = IsPermutation-reverse xs in
+    same_tests _ _
+    (λ e. all_from p xs (λ x c. all_at p (reverse xs) x e (Contains-permutation xs (reverse xs) x order c)))
+    (λ e. all_from p (reverse xs) (λ x c. all_at p xs x e (Contains-permutation (reverse xs) xs x (IsPermutation-sym xs (reverse xs) order) c)))
 
 not_eqb : (x y : ℕ) → not (eqb x y) ≡ true → x ≢ y
 not_eqb x y e q = true≢false (sym e ∙ ap not (eq-eqb x y q))
@@ -85,62 +107,33 @@ module _ (d : List Cell) (a c free taken : ℕ) (la : a < 16) (lc : c < 16) (lon
       get_or-set_other (set (map turned d) c Empty) a c Mine Empty ends_apart
       ∙ get_or-set_same (map turned d) c Empty Empty (let n = length-map d turned in omega (arith, n, long, lc))
 
-  -- where the piece slid there, it can have come
-  pub slid_came : slides (brought_back d a c) a c ≡ true → came_by_masks free taken c a ≡ true
-  slid_came h =
-      let e = and_left _ _ h in
-      let r = and_right _ _ h in
-      let u = way_turned a c la lc e in
-      let v = way c a u.line in
-      let x = way a c e in
-      and_both _ _ u.line (and_both _ _
-      (all_from (has_cell free) (path c a) (λ k m. f k (ltb-true _ _ (all_at (λ (i : ℕ). ltb i 16) (path c a) k v.path_within m))
-      ∙ clear r k (all_at (λ (i : ℕ). eqb i a || (apart a c i && listed (path a c) i)) (path c a) k u.back m)))
-      (all_from (has_cell taken) (beyond a c) (λ k m. t k (ltb-true _ _ (all_at (λ (i : ℕ). ltb i 16) (beyond a c) k x.beyond_within m))
-      ∙ sym (taken_turned (cell_at d k))
-      ∙ ap is_taken (sym (other k (all_at (apart a c) (beyond a c) k u.after m)))
-      ∙ all_at (λ (i : ℕ). is_taken (cell_at (brought_back d a c) i)) (beyond a c) k (and_right _ _ r) m)))
-    where
-      clear : list_all (λ i. is_empty (cell_at (brought_back d a c) i)) (path a c) && list_all (λ i. is_taken (cell_at (brought_back d a c) i)) (beyond a c) ≡
-          true
-          → (k : ℕ) → (eqb k a || (apart a c k && listed (path a c) k)) ≡ true → is_empty (cell_at d k) ≡ true
-      clear r k y = elim (cases_Bool (eqb k a)) [
-        | inl q ↦ ap (λ (i : ℕ). is_empty (cell_at d i)) (eqb-true _ _ q) ∙ ap is_empty w.left
-        | inr q ↦ (
-            let z : apart a c k && listed (path a c) k ≡ true = sym (ap (λ (b : Bool). b || (apart a c k && listed (path a c) k)) q) ∙ y in
-            sym (empty_turned (cell_at d k))
-            ∙ ap is_empty (sym (other k (and_left _ _ z)))
-            ∙ all_at (λ (i : ℕ). is_empty (cell_at (brought_back d a c) i)) (path a c) k (and_left _ _ r) (listed_in (path a c) k (and_right _ _ z)))
-      ]
+  module _ (e : in_line a c ≡ true) where
+    turned_way : IsTurned a c
+    turned_way = way_turned a c la lc e
 
-  -- and if it can have come, it slid
-  pub came_slid : in_line a c ≡ true → came_by_masks free taken c a ≡ true → slides (brought_back d a c) a c ≡ true
-  came_slid e h =
-      let r = and_right _ _ h in
-      let u = way_turned a c la lc e in
-      let v = way c a u.line in
-      let x = way a c e in
-      and_both _ _ e (and_both _ _
-      (all_from (λ (i : ℕ). is_empty (cell_at (brought_back d a c) i)) (path a c)
-      (λ k m. clear r k (all_at (λ (i : ℕ). eqb i c || (apart a c i && listed (path c a) i)) (path a c) k u.forth m)
-      (ltb-true _ _ (all_at (λ (i : ℕ). ltb i 16) (path a c) k x.path_within m))))
-      (all_from (λ (i : ℕ). is_taken (cell_at (brought_back d a c) i)) (beyond a c)
-      (λ k m. ap is_taken (other k (all_at (apart a c) (beyond a c) k u.after m))
-      ∙ taken_turned (cell_at d k)
-      ∙ sym (t k (ltb-true _ _ (all_at (λ (i : ℕ). ltb i 16) (beyond a c) k x.beyond_within m)))
-      ∙ all_at (has_cell taken) (beyond a c) k (and_right _ _ r) m)))
-    where
-      clear : list_all (has_cell free) (path c a) && list_all (has_cell taken) (beyond a c) ≡ true
-          → (k : ℕ) → (eqb k c || (apart a c k && listed (path c a) k)) ≡ true → k < 16 → is_empty (cell_at (brought_back d a c) k) ≡ true
-      clear r k y l = elim (cases_Bool (eqb k c)) [
-        | inl q ↦ ap (λ (i : ℕ). is_empty (cell_at (brought_back d a c) i)) (eqb-true _ _ q) ∙ ap is_empty end_free
-        | inr q ↦ (
-            let z : apart a c k && listed (path c a) k ≡ true = sym (ap (λ (b : Bool). b || (apart a c k && listed (path c a) k)) q) ∙ y in
-            ap is_empty (other k (and_left _ _ z))
-            ∙ empty_turned (cell_at d k)
-            ∙ sym (f k l)
-            ∙ all_at (has_cell free) (path c a) k (and_left _ _ r) (listed_in (path c a) k (and_right _ _ z)))
-      ]
+    clear : list_all (λ i. is_empty (cell_at (brought_back d a c) i)) (path a c) ≡ list_all (has_cell free) (path c a)
+    clear =
+        let empty : ℕ → Bool = λ i. is_empty (cell_at (brought_back d a c) i) in
+        let cs = between a c in
+        ap (list_all empty) turned_way.forth
+        ∙ all_more empty cs c
+        ∙ ap (λ (x : Bool). list_all empty cs && x) (ap is_empty end_free)
+        ∙ ap (λ (x : Bool). x && true) (same_all empty (has_cell free) cs (λ k m.
+        let z = all_at (λ (i : ℕ). apart a c i && ltb i 16) cs k turned_way.inner m in
+        ap is_empty (other k (and_left _ _ z)) ∙ empty_turned (cell_at d k) ∙ sym (f k (ltb-true _ _ (and_right (apart a c k) _ z)))))
+        ∙ sym (ap (list_all (has_cell free)) turned_way.back
+        ∙ all_more (has_cell free) (reverse cs) a
+        ∙ ap₂ (λ (x y : Bool). x && y) (all_reverse (has_cell free) cs) (f a la ∙ ap is_empty w.left))
+
+    stopped : list_all (λ i. is_taken (cell_at (brought_back d a c) i)) (beyond a c) ≡ list_all (has_cell taken) (beyond a c)
+    stopped = same_all (λ (i : ℕ). is_taken (cell_at (brought_back d a c) i)) (has_cell taken) (beyond a c) (λ k m.
+        ap is_taken (other k (all_at (apart a c) (beyond a c) k turned_way.after m))
+        ∙ taken_turned (cell_at d k)
+        ∙ sym (t k (ltb-true _ _ (all_at (λ (i : ℕ). ltb i 16) (beyond a c) k (way a c e).beyond_within m))))
+
+    -- the piece slid there exactly if it can have come
+    pub same_slide : slides (brought_back d a c) a c ≡ came_by_masks free taken c a
+    same_slide = ap₂ (λ (x y : Bool). x && y) (e ∙ sym turned_way.line) (ap₂ (λ (x y : Bool). x && y) clear stopped)
 
 -- the line, from either end
 pub line_back : (a c : ℕ) → a < 16 → c < 16 → in_line c a ≡ true → in_line a c ≡ true
@@ -160,7 +153,7 @@ module _ (d : List Cell) (c free taken a : ℕ) (la : a < 16) (there : cell_at d
   pub was_slid : legal d ≡ true → c < 16 → ((k : ℕ) → k < 16 → has_cell taken k ≡ is_taken (cell_at d k)) → came_by_masks free taken c a ≡ true → slides
       (brought_back d a c) a c ≡ true
   was_slid l lc t h =
-      came_slid d a c free taken la lc (legal_in d l).cells (was_step h) f t (line_back a c la lc (and_left _ _ h)) h
+      same_slide d a c free taken la lc (legal_in d l).cells (was_step h) f t (line_back a c la lc (and_left _ _ h)) ∙ h
 
 -- ---- boards before
 -- the number of the move that comes from a
@@ -178,7 +171,7 @@ module _ (t : ℕ) (d : List Cell) (c free taken : ℕ) (is_legal : legal d ≡ 
         let n : length (brought_back d a c) ≡ 16 = length-set (set (map turned d) c Empty) a Mine ∙ length-set (map turned d) c Empty ∙ length-map d turned ∙
         long in
         no_before t d (brought_back d a c) a c l lc is_legal m.step refl n
-        (λ h z o. absurd (true≢false (sym (slid_came d a c free taken l lc long m.step f s h) ∙ e))))
+        (λ h z o. absurd (true≢false (sym h ∙ same_slide d a c free taken l lc long m.step f s (and_left _ _ h) ∙ e))))
     | inr w ↦ before_skip dao t d (16 * a + c) w
   ]
 
@@ -192,13 +185,6 @@ module _ (t : ℕ) (d : List Cell) (c free taken : ℕ) (is_legal : legal d ≡ 
       ∙ puts_skip least_index_of (λ (m : ℕ). before_at dao t d (way_back m)) (16 * c + n) k (λ i l.
       ap (λ (m : ℕ). before_at dao t d (way_back m)) (let z : 16 * c + n + i ≡ 16 * c + (n + i) = omega arith in z)
       ∙ came_none (n + i) (omega (arith, w, l)) (sym (h (n + i) (omega (arith, w, l))) ∙ none i l)))
-
-  -- no cell is left from which it can have come
-  pub came_end : (g n rest : ℕ) (is : List ℕ) → ((i : ℕ) → i < 16 → has_cell g i ≡ came_by_masks free taken c i) → n ≤ 16 → rest ≡ g / 2 ^ n → rest ≡ 0
-      → AreBeforesBelow t d (16 * c + n) is → AreBeforesBelow t d (16 * c + 16) is
-  came_end g n rest is h l e z m =
-      subst (λ (k : ℕ). AreBeforesBelow t d (16 * c + k) is) (let p : n + (16 - n) ≡ 16 = omega (arith, l) in p)
-      (came_skip g n (16 - n) is h (omega (arith, l)) (λ i k. none_left g n rest (n + i) e z (omega arith)) m)
 
 -- no move has ended on a cell without a piece of the opponent's
 ended_past : (t : ℕ) (d : List Cell) (c : ℕ) (is : List ℕ) → c < 16 → is_theirs (cell_at d c) ≡ false → AreBeforesBelow t d (16 * c) is → AreBeforesBelow t d
@@ -221,14 +207,6 @@ others_skip t a b n (suc s) is w q l none m =
     subst (λ (k : ℕ). AreBeforesBelow t (board_of 16 a b) k is) (let z : 16 * (n + s) + 16 ≡ 16 * (n + suc s) = omega arith in z)
     (ended_past t (board_of 16 a b) (n + s) is (omega (arith, l)) (sym (their_cells 16 a b w q (n + s)) ∙ none s (omega arith))
     (others_skip t a b n s is w q (omega (arith, l)) (λ i k. none i (omega (arith, k))) m))
-
--- no piece of the opponent's is left
-pub others_end : (t a b n rest : ℕ) (is : List ℕ) → b < 2 ^ 16 → bit_and a b ≡ 0 → n ≤ 16 → rest ≡ b / 2 ^ n → rest ≡ 0 → AreBeforesBelow t (board_of 16 a b)
-    (16 * n) is
-    → AreBeforesBelow t (board_of 16 a b) 256 is
-others_end t a b n rest is w q l e z m =
-    subst (λ (k : ℕ). AreBeforesBelow t (board_of 16 a b) k is) (let p : 16 * (n + (16 - n)) ≡ 256 = omega (arith, l) in p)
-    (others_skip t a b n (16 - n) is w q (omega (arith, l)) (λ i k. none_left b n rest (n + i) e z (omega arith)) m)
 
 -- the number has no board before it
 pub before_less : (t : ℕ) (d : List Cell) (c a : ℕ) (is : List ℕ) → a < 16 → before_at dao t d (16 * a + c) ≡ None → AreBeforesBelow t d (16 * c + a) is →
@@ -275,11 +253,11 @@ rest_ascending x [] up = tt
 rest_ascending x (y ∷ ys) up = up.1
 
 -- ascending lists of the same numbers are one
-same_list : (xs ys : List ℕ) → IsAscending xs → IsAscending ys → ((z : ℕ) → Contains xs z → Contains ys z) → ((z : ℕ) → Contains ys z → Contains xs z) → xs ≡ ys
-same_list [] [] u v f g = refl
-same_list [] (y ∷ ys) u v f g = absurd (contains_none y (g y (contains_head y ys)))
-same_list (x ∷ xs) [] u v f g = absurd (contains_none x (f x (contains_head x xs)))
-same_list (x ∷ xs) (y ∷ ys) u v f g =
+same_ascending : (xs ys : List ℕ) → IsAscending xs → IsAscending ys → ((z : ℕ) → Contains xs z → Contains ys z) → ((z : ℕ) → Contains ys z → Contains xs z) → xs ≡ ys
+same_ascending [] [] u v f g = refl
+same_ascending [] (y ∷ ys) u v f g = absurd (contains_none y (g y (contains_head y ys)))
+same_ascending (x ∷ xs) [] u v f g = absurd (contains_none x (f x (contains_head x xs)))
+same_ascending (x ∷ xs) (y ∷ ys) u v f g =
     let le : y ≤ x = elim (contains_cases y ys x (f x (contains_head x xs))) [
       | inl e ↦ omega (arith, e)
       | inr t ↦ (let l = ascending_above y ys v x t in omega (arith, l))
@@ -289,7 +267,7 @@ same_list (x ∷ xs) (y ∷ ys) u v f g =
       | inr t ↦ (let l = ascending_above x xs u y t in omega (arith, l))
     ] in
     let here : x ≡ y = omega (arith, le, ge) in
-    ap₂ (λ (z : ℕ) (zs : List ℕ). z ∷ zs) here (same_list xs ys (rest_ascending x xs u) (rest_ascending y ys v)
+    ap₂ (λ (z : ℕ) (zs : List ℕ). z ∷ zs) here (same_ascending xs ys (rest_ascending x xs u) (rest_ascending y ys v)
     (λ z c. elim (contains_cases y ys z (f z (contains_later x xs z c))) [
       | inl e ↦ absurd (let l = ascending_above x xs u z c in omega (arith, l, e, here))
       | inr t ↦ t
@@ -303,7 +281,7 @@ same_list (x ∷ xs) (y ∷ ys) u v f g =
 same_put : {B : Type 0} (f : B → ℕ) (xs ys : List B) → ((b : B) → Contains xs b → Contains ys b) → ((b : B) → Contains ys b → Contains xs b) → put_all []
     (map f xs) ≡ put_all [] (map f ys)
 same_put {B} f xs ys g h =
-    same_list (put_all [] (map f xs)) (put_all [] (map f ys)) (put_all_ascending [] (map f xs) tt) (put_all_ascending [] (map f ys) tt) (moved xs ys g)
+    same_ascending (put_all [] (map f xs)) (put_all [] (map f ys)) (put_all_ascending [] (map f xs) tt) (put_all_ascending [] (map f ys) tt) (moved xs ys g)
     (moved ys xs h)
   where
     moved : (us vs : List B) → ((b : B) → Contains us b → Contains vs b) → (z : ℕ) → Contains (put_all [] (map f us)) z → Contains (put_all [] (map f vs)) z

@@ -116,16 +116,16 @@ move_more b from k ms new e h is =
     ∙ sym (filter_in (can_move b) m e)
     ∙ ap (λ (n : ℕ). filter (can_move b) (range_with_len 0 n)) (let z : m + 1 ≡ 16 * from + (k + 1) = omega arith in z)
 
--- no goal is left
-pub goals_end : (b : List Cell) (from g n rest : ℕ) (ms : List ℕ) → AreGoals b from g → n ≤ 16 → rest ≡ g / 2 ^ n → rest ≡ 0 → AreMovesBelow b
-    (16 * from + n) ms → AreMovesBelow b (16 * from + 16) ms
-goals_end b from g n rest ms h l e z m =
-    subst (λ (k : ℕ). AreMovesBelow b (16 * from + k) ms) (let q : n + (16 - n) ≡ 16 = omega (arith, l) in q)
-    (goals_skip b from g n (16 - n) ms h (omega (arith, l)) (λ i k. none_left g n rest (n + i) e z (omega arith)) m)
+-- no cell of a mask is left
+pub end_at : (P : ℕ → Type 0) (mask n rest : ℕ) → n ≤ 16 → rest ≡ mask / 2 ^ n → rest ≡ 0
+    → ((k : ℕ) → n + k ≤ 16 → ((i : ℕ) → i < k → has_cell mask (n + i) ≡ false) → P n → P (n + k)) → P n → P 16
+end_at P mask n rest l e z skip h =
+    subst P (let q : n + (16 - n) ≡ 16 = omega (arith, l) in q)
+    (skip (16 - n) (omega (arith, l)) (λ i k. none_left mask n rest (n + i) e z (omega arith)) h)
 
 -- no piece is left
 pub moves_end : (a b n rest : ℕ) (ms : List ℕ) → a < 2 ^ 16 → n ≤ 16 → rest ≡ a / 2 ^ n → rest ≡ 0 → AreMovesBelow (board_of 16 a b) (16 * n) ms → ms ≡
     steps dao (board_of 16 a b)
 moves_end a b n rest ms w l e z m =
-    let q : AreMovesBelow (board_of 16 a b) (16 * (n + (16 - n))) ms = moves_skip a b n (16 - n) ms w (λ i k. none_left a n rest (n + i) e z (omega arith)) m in
-    q ∙ all_steps dao (board_of 16 a b) (16 * (n + (16 - n))) (let t : 16 * (n + (16 - n)) ≡ 256 = omega (arith, l) in t)
+    end_at (λ (k : ℕ). AreMovesBelow (board_of 16 a b) (16 * k) ms) a n rest l e z (λ k j none. moves_skip a b n k ms w none) m
+    ∙ all_steps dao (board_of 16 a b) 256 refl

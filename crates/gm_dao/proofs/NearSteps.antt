@@ -4,12 +4,14 @@ use Rattle.gm_pieces.specs.Common.{ℕ, zero, suc, Bool, true, false, not, cond,
 use Rattle.gm_pieces.specs.Common.{filter, range_with_len, cases_Bool, true≢false, list_all, get_or, has_cell, has_and}
 use Rattle.gm_pieces.specs.Common.{weight, at_all, at_each, cond-true, ltb, ltb-true, at_below, and_le_r, same_list, same_list_true, Cell, Empty, Mine, Theirs}
 use Rattle.gm_pieces.specs.Common.{fills, is_empty, is_taken, cell_at, board_of, own_cells, from_back, to_back}
+use Rattle.gm_pieces.specs.Common.{board_length, is_mine, cells_counted}
+use Rattle.std.specs.Int.Bits.{and_zero_r}
+use Rattle.gm_pieces.specs.laws.MaskFacts.{own_pieces}
 use Rattle.gm_dao.specs.declared.slides.TheConstants.{NEAR}
 use Rattle.gm_dao.specs.DaoRules.{in_line, path, beyond, can_move}
 use Rattle.gm_dao.specs.MaskSlides.{slides_over}
-use Rattle.gm_dao.specs.laws.CountFacts.{total, total_same, total_add, passed}
-use Rattle.gm_dao.proofs.MoveSteps.{slides_as, move_by}
-use Rattle.gm_dao.proofs.NumberSteps.{cells_of_mask}
+use Rattle.gm_dao.specs.laws.CountFacts.{same_number, total, total_same, total_add, passed}
+use Rattle.gm_dao.proofs.MoveSteps.{all_more, slides_as, move_by}
 
 -- ---- along a way
 -- the value at the cell that follows, if there is one
@@ -29,18 +31,6 @@ ways a c = cond (in_line a c) (longer a c (beyond a c)) true
 ways_pass : at_all 16 16 ways ≡ true
 unfolding in_line path beyond
 ways_pass = refl
-
-all_more : (x : ℕ → Bool) (ps : List ℕ) (e : ℕ) → list_all x (ps ++ e ∷ []) ≡ (list_all x ps && x e)
-all_more x [] e = and_end (x e)
-  where
-    and_end : (q : Bool) → (q && true) ≡ (true && q)
-    and_end true = refl
-    and_end false = refl
-all_more x (p ∷ ps) e = ap (λ (q : Bool). x p && q) (all_more x ps e) ∙ regroup (x p) (list_all x ps) (x e)
-  where
-    regroup : (p q r : Bool) → (p && (q && r)) ≡ ((p && q) && r)
-    regroup true q r = refl
-    regroup false q r = refl
 
 last_weight : (p : Bool) → weight (p && true) + 0 ≡ weight p
 last_weight true = refl
@@ -129,6 +119,13 @@ one_near free a c l k = elim (cases_Bool (has_cell (get_or NEAR a 0) c)) [
     none : (q : Bool) → weight (q && false) ≡ 0
     none true = refl
     none false = refl
+
+-- the cells of a mask are as many as its ones
+cells_of_mask : (g : ℕ) → g < 2 ^ 16 → length (filter (has_cell g) (range_with_len 0 16)) ≡ count_ones g
+cells_of_mask g l =
+    same_number (has_cell g) (λ (k : ℕ). is_mine (cell_at (board_of 16 g 0) k)) 16 (λ k m. own_cells 16 g 0 l k)
+    ∙ cells_counted is_mine (board_of 16 g 0) 16 (board_length 16 g 0)
+    ∙ own_pieces 16 g 0 l (omega arith) (and_zero_r g)
 
 meet : (ones m n h sf s f found : ℕ) → ones ≡ m → n ≡ m → sf ≡ h → sf ≡ s + f → h ≡ f + n → found ≡ s → ones ≡ found
 meet ones m n h sf s f found p q r t u v = omega (arith, p, q, r, t, u, v)

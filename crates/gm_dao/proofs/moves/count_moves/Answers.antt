@@ -2,8 +2,7 @@ use Rattle.std.specs.Prelude.{◌≡◌, ◌+◌, ◌*◌}
 use Rattle.gm_pieces.specs.Common.{ℕ, List, length, refl, ap, ◌∙◌, arith, trailing_zeros, w32, board_of, next_cell, cell_below, filter, range_with_len}
 use Rattle.gm_dao.specs.DaoRules.{can_move}
 use Rattle.gm_dao.proofs.LoopSteps.{moves_skip, moves_end}
-use Rattle.gm_dao.specs.laws.CountFacts.{sixteen_most}
-use Rattle.gm_dao.proofs.NumberSteps.{piece_counted}
+use Rattle.gm_dao.specs.laws.CountFacts.{number_from, sixteen_most}
 use Rattle.gm_dao.proofs.NearSteps.{moves_over}
 use Rattle.gm_dao.specs.MaskSlides.{slides_over}
 use Rattle.gm_board.specs.Masks.{has_cell}
@@ -26,7 +25,7 @@ loop-rest-preserved c =
     let l = cell_below a 16 _ c.args.board.mine_within z.has in
     let p = slides_over (has_cell c.free-free.result) (c.loop-rest.next + trailing_zeros w32 c.loop-rest.rest) in
     let few = sixteen_most p in
-    let more = piece_counted b _ p (moves_over a c.args.board.theirs c.free-free.result _ c.args.board.mine_within z.has c.free-free.ensures.cells) in
+    let more = number_from (can_move b) p _ 16 (moves_over a c.args.board.theirs c.free-free.result _ c.args.board.mine_within z.has c.free-free.ensures.cells) in
     let skip = ap (λ (xs : List ℕ). length xs) (moves_skip a c.args.board.theirs c.loop-rest.next _ (filter (can_move b)
     (range_with_len 0 (16 * c.loop-rest.next))) c.args.board.mine_within z.none refl) in
     let e = ap (λ (n : ℕ). length (filter (can_move b) (range_with_len 0 n))) (next_block (c.loop-rest.next + trailing_zeros w32 c.loop-rest.rest)) in

@@ -1,7 +1,8 @@
-use Rattle.std.specs.Prelude.{◌<◌}
-use Rattle.gm_pieces.specs.Common.{length, sym, ◌∙◌, arith, board_of, next_cell, cell_below, filter_room, steps}
+use Rattle.std.specs.Prelude.{◌+◌, ◌*◌, ◌<◌}
+use Rattle.gm_pieces.specs.Common.{ℕ, length, sym, ◌∙◌, arith, board_of, next_cell, cell_below, filter_room, steps}
 use Rattle.gm_dao.specs.DaoRules.{can_move, move_number_bound}
-use Rattle.gm_dao.proofs.LoopSteps.{AreGoals, goals_are, goals_skip, goals_end, move_more}
+use Rattle.gm_dao.specs.MaskSlides.{AreMovesBelow}
+use Rattle.gm_dao.proofs.LoopSteps.{AreGoals, goals_are, goals_skip, end_at, move_more}
 use Rattle.gm_dao.proofs.moves.push_moves.Goals as goal
 use Rattle.gm_dao.proofs.moves.push_moves.Goals.{After-goals-reached}
 
@@ -43,5 +44,7 @@ loop-rest-preserved c =
 pub returns : goal.returns
 returns c =
     let i = c.loop-rest.invariant in
-    goals_end (board_of 16 c.args.board.mine c.args.board.theirs) c.args.from c.goals-reached.result c.loop-rest.next c.loop-rest.rest c.loop-rest.list.items
-    (reached ((goal.at.returns c).After-goals-reached)) i.within i.is_rest c.loop-rest-test.false i.below
+    let b = board_of 16 c.args.board.mine c.args.board.theirs in
+    let h = reached ((goal.at.returns c).After-goals-reached) in
+    end_at (λ (k : ℕ). AreMovesBelow b (16 * c.args.from + k) c.loop-rest.list.items) c.goals-reached.result c.loop-rest.next c.loop-rest.rest i.within
+    i.is_rest c.loop-rest-test.false (λ k w none. goals_skip b c.args.from c.goals-reached.result c.loop-rest.next k c.loop-rest.list.items h w none) i.below

@@ -1,9 +1,11 @@
+use Rattle.std.specs.Prelude.{◌+◌, ◌*◌}
 use Rattle.gm_pieces.specs.Common.{ℕ, sym, ◌∙◌, arith, board_of, next_cell, cell_below, before_at}
 use Rattle.gm_pieces.specs.laws.Listed.{put_room}
 use Rattle.gm_dao.specs.DaoRules.{least_index_of, dao}
-use Rattle.gm_dao.specs.MaskSlides.{way_back}
+use Rattle.gm_dao.specs.MaskSlides.{way_back, AreBeforesBelow}
 use Rattle.gm_dao.specs.laws.BoardFacts.{legal_in}
-use Rattle.gm_dao.proofs.CameSteps.{came_skip, came_end, before_less, before_more, before_here, was_step, was_slid}
+use Rattle.gm_dao.proofs.LoopSteps.{end_at}
+use Rattle.gm_dao.proofs.CameSteps.{came_skip, before_less, before_more, before_here, was_step, was_slid}
 use Rattle.gm_dao.proofs.parents.put_befores.Goals as goal
 use Rattle.gm_dao.proofs.parents.put_befores.Goals.{in-Some, in-None}
 
@@ -79,6 +81,8 @@ loop-rest-smaller c =
 pub returns : goal.returns
 returns c =
     let i = c.loop-rest.invariant in
-    came_end c.args.tier (board_of 16 c.args.board.mine c.args.board.theirs) c.args.to c.free.result c.taken.result c.requires.legal c.requires.cell
-    c.free.ensures.cells c.taken.ensures.cells c.sources-came.result c.loop-rest.next c.loop-rest.rest c.loop-rest.list.items
-    c.sources-came.ensures.cells i.within i.is_rest c.loop-rest-test.false i.below
+    let d = board_of 16 c.args.board.mine c.args.board.theirs in
+    let g = c.sources-came.result in
+    end_at (λ (k : ℕ). AreBeforesBelow c.args.tier d (16 * c.args.to + k) c.loop-rest.list.items) g c.loop-rest.next c.loop-rest.rest i.within i.is_rest
+    c.loop-rest-test.false (λ k w none. came_skip c.args.tier d c.args.to c.free.result c.taken.result c.requires.legal c.requires.cell c.free.ensures.cells
+    c.taken.ensures.cells g c.loop-rest.next k c.loop-rest.list.items c.sources-came.ensures.cells w none) i.below
