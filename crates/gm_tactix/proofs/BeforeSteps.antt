@@ -1,8 +1,8 @@
 -- The boards before a board: which numbers of segments give one.
 use Rattle.std.specs.Prelude.{◌≡◌, ◌≢◌, ◌+◌, ◌-◌, ◌*◌, ◌<◌, ◌≤◌}
-use Rattle.gm_pieces.specs.Common.{ℕ, Bool, true, false, eq-eqb, List, [], map, length, Some, refl, sym, ap, ap₂, ◌∙◌}
-use Rattle.gm_pieces.specs.Common.{subst, arith, inl, inr, cases_Bool, ne_eqb, put, put_all, least_index, put_more_none, put_more_some, and_both}
-use Rattle.gm_pieces.specs.Common.{all_from, members, or_right, board_game, plays_on, before_at, befores, before_some, before_room, all_befores}
+use Rattle.gm_pieces.specs.Common.{ℕ, Bool, true, false, eq-eqb, List, [], map, length, Some, refl, sym, ap, ap₂, ◌∙◌, subst, arith, ne_eqb, put, put_all}
+use Rattle.gm_pieces.specs.Common.{least_index, put_more_none, put_more_some, and_both, all_from, members, or_right, board_game, plays_on, before_at, befores}
+use Rattle.gm_pieces.specs.Common.{before_some, before_room, all_befores, false_from_ne_true}
 use Rattle.gm_pieces.specs.laws.MoveLaws.{before_skip}
 use Rattle.gm_pieces.specs.laws.Skipped.{puts_skip}
 use Rattle.gm_tactix.specs.Segments.{segment_length, segment_cells}
@@ -41,10 +41,7 @@ module _ (s t : ℕ) (d : List Bool) (low : 1 ≤ s) (high : s ≤ 5) (long : le
 
   -- no segment of another length can have been taken
   other_length : (m : ℕ) → segment_length m ≢ t - members d → was_taken s t d m ≡ false
-  other_length m n = elim (cases_Bool (was_taken s t d m)) [
-    | inl e ↦ absurd (n (let h = (taken_in s t d m e).tier in omega (arith, h)))
-    | inr f ↦ f
-  ]
+  other_length m n = false_from_ne_true _ (λ e. n (let h = (taken_in s t d m e).tier in omega (arith, h)))
 
   -- k numbers of segments of other lengths
   pub others_skip : (misere : Bool) (n k : ℕ) (is : List ℕ) → ((i : ℕ) → i < k → segment_length (n + i) ≢ t - members d) → AreBeforesBelow s misere t d n is
@@ -54,10 +51,7 @@ module _ (s t : ℕ) (d : List Bool) (low : 1 ≤ s) (high : s ≤ 5) (long : le
       (λ i l. before_skip (tactix s misere) t d (n + i) (other_length (n + i) (h i l))))
 
   too_long : (m : ℕ) → s < t - members d → was_taken s t d m ≡ false
-  too_long m l = elim (cases_Bool (was_taken s t d m)) [
-    | inl e ↦ absurd (let h = taken_in s t d m e in let n = (length_bounds s m h.segment).1 in omega (arith, h.tier, n, l))
-    | inr f ↦ f
-  ]
+  too_long m l = false_from_ne_true _ (λ e. let h = taken_in s t d m e in let n = (length_bounds s m h.segment).1 in omega (arith, h.tier, n, l))
 
   -- there is none where a segment would have to be longer than a side
   pub none_long : (misere : Bool) → s < t - members d → AreBeforesBelow s misere t d (16 * (s * s)) []

@@ -1,8 +1,9 @@
 -- The table of the segments' masks against the segments.
 use Rattle.std.specs.Prelude.{◌≡◌, ◌≢◌, ◌+◌, ◌-◌, ◌*◌, ◌^◌, ◌<◌, ◌≤◌, ◌&&◌}
-use Rattle.gm_pieces.specs.Common.{ℕ, Bool, true, false, not, cond, eqb, eqb-true, eq-eqb, ltb, ltb-true, get_or, refl, sym, ap, ◌∙◌, arith, inl, inr, list_all}
-use Rattle.gm_pieces.specs.Common.{range_with_len, cases_Bool, cond-true, cond-false, true≢false, and_left, and_right, pattern_mask, at_below}
+use Rattle.gm_pieces.specs.Common.{ℕ, Bool, true, false, not, cond, eqb, eqb-true, eq-eqb, ltb, ltb-true, get_or, refl, sym, ap, ◌∙◌, arith, list_all}
+use Rattle.gm_pieces.specs.Common.{range_with_len, cond-true, cond-false, true≢false, and_left, and_right, pattern_mask, at_below}
 use Rattle.gm_tactix.specs.declared.masks.TheConstants.{MASKS, STARTS}
+use Rattle.std.proofs.lemmas.Bool.{false_from_ne_true, true_from_ne_false}
 use Rattle.gm_tactix.specs.Segments.{segment_cells, is_segment}
 use Rattle.gm_tactix.specs.SegmentMasks.{segment_mask}
 use Rattle.gm_tactix.specs.laws.SegmentFacts.{for_sides, square_small, number_below}
@@ -65,24 +66,15 @@ segment_below s m low high e = let l = number_below s m e in let k = square_smal
 
 -- a number from there on has no mask
 pub mask_past : (s m : ℕ) → 1 ≤ s → s ≤ 5 → 16 * (s * s) ≤ m → 0 ≡ segment_mask s m
-mask_past s m low high l = elim (cases_Bool (is_segment s m)) [
-  | inl e ↦ absurd (let k = number_below s m e in omega (arith, k, l))
-  | inr f ↦ sym (mask_of_none s m f)
-]
+mask_past s m low high l = sym (mask_of_none s m (false_from_ne_true _ (λ e. let k = number_below s m e in omega (arith, k, l))))
 
 -- a segment has a mask other than 0
 pub none_by_mask : (s m v : ℕ) → 1 ≤ s → s ≤ 5 → v ≡ segment_mask s m → v ≡ 0 → is_segment s m ≡ false
-none_by_mask s m v low high h z = elim (cases_Bool (is_segment s m)) [
-  | inl e ↦ (
-      let l = number_below s m e in
-      let none : get_or MASKS (place s m) 0 ≡ 0 = mask_at s m low high l ∙ sym h ∙ z in
-      absurd (true≢false (sym (mask_shown s m low high l e) ∙ ap not (eq-eqb _ _ none))))
-  | inr f ↦ f
-]
+none_by_mask s m v low high h z = false_from_ne_true _ (λ e.
+    let l = number_below s m e in
+    let none : get_or MASKS (place s m) 0 ≡ 0 = mask_at s m low high l ∙ sym h ∙ z in
+    true≢false (sym (mask_shown s m low high l e) ∙ ap not (eq-eqb _ _ none)))
 
 -- and no other number has
 pub segment_by_mask : (s m v : ℕ) → v ≡ segment_mask s m → v ≢ 0 → is_segment s m ≡ true
-segment_by_mask s m v h n = elim (cases_Bool (is_segment s m)) [
-  | inl e ↦ e
-  | inr f ↦ absurd (n (h ∙ mask_of_none s m f))
-]
+segment_by_mask s m v h n = true_from_ne_false _ (λ f. n (h ∙ mask_of_none s m f))

@@ -1,12 +1,11 @@
 -- Steps on the texts of boards.
-use Rattle.std.specs.Prelude.{◌≡◌, ◌+◌, ◌<◌, ◌&&◌, ◌∷◌, ◌++◌}
+use Rattle.std.specs.Prelude.{◌≡◌, ◌+◌, ◌&&◌, ◌∷◌, ◌++◌}
 use Rattle.gm_pieces.specs.Common.{ℕ, Bool, false, eqb, lt-ltb, List, [], map, length, get_or, refl, sym, ap, ap₂, ◌∙◌, arith}
 use Rattle.gm_pieces.specs.Common.{zero-add, range_with_len, get_or-map, map_push, map-range_with_len_more, has_cell, IsRead}
 use Rattle.gm_tactix.specs.Texts.{counter_text, board_text}
 use Rattle.gm_tactix.specs.laws.TextLaws.{text_length, counter_back}
-use Rattle.gm_tactix.specs.laws.CounterFacts.{same_board}
 use Rattle.gm_tactix.specs.CounterMasks.{counters_of}
-use Rattle.gm_tactix.specs.laws.CounterMaskFacts.{counters_length, counter_at}
+use Rattle.gm_tactix.specs.laws.CounterMaskFacts.{counters_length, same_mask}
 
 -- the text of no cell
 pub text_none : (mask : ℕ) → board_text (counters_of 0 mask) ≡ []
@@ -27,11 +26,7 @@ text_long n mask = text_length (counters_of n mask) ∙ counters_length n mask
 pub read_all : (n marks : ℕ) (b : List Bool) (text : List ℕ) → IsRead text 120 n marks → length b ≡ n → board_text b ≡ text → b ≡ counters_of n marks
 unfolding board_text
 read_all n marks b text h long e =
-    same_board b (counters_of n marks) (long ∙ sym (counters_length n marks))
-    (λ i l.
-    let k : i < n = omega (arith, l, long) in
-    let byte : get_or text i 0 ≡ counter_text (get_or b i false) = ap (λ (t : List ℕ). get_or t i 0) (sym e) ∙ get_or-map counter_text b i false 0 l in
-    sym (
-    counter_at n marks i k
-    ∙ h i
-    ∙ ap₂ (λ (x y : Bool). x && y) (lt-ltb i n k) (ap (λ (v : ℕ). eqb v 120) byte ∙ counter_back (get_or b i false))))
+    sym (same_mask n marks b long (λ i k.
+    let byte : get_or text i 0 ≡ counter_text (get_or b i false) =
+    ap (λ (t : List ℕ). get_or t i 0) (sym e) ∙ get_or-map counter_text b i false 0 (omega (arith, k, long)) in
+    h i ∙ ap₂ (λ (x y : Bool). x && y) (lt-ltb i n k) (ap (λ (v : ℕ). eqb v 120) byte ∙ counter_back (get_or b i false))))

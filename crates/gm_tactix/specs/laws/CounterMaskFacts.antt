@@ -92,24 +92,25 @@ module _ (n mask : ℕ) (cs : List ℕ) (below : (k : ℕ) → Contains cs k →
       both_false x true h = ap (λ (z : Bool). z && true) (h refl)
       both_false x false h = and_false x
 
+-- the board of a mask that has the cells on which a board has counters
+pub same_mask : (n mask : ℕ) (b : List Bool) → length b ≡ n → ((k : ℕ) → k < n → has_cell mask k ≡ has_counter b k) → counters_of n mask ≡ b
+same_mask n mask b e h =
+    same_board (counters_of n mask) b (counters_length n mask ∙ sym e)
+    (λ k l. let m : k < n = omega (arith, l, counters_length n mask) in counter_at n mask k m ∙ h k m)
+
 -- the board with cells emptied is that of the mask without them
 pub without_mask : (n mask rest : ℕ) (cs : List ℕ) → ((k : ℕ) → k < n → has_cell rest k ≡ (has_cell mask k && not (has_cell (pattern_mask cs) k)))
     → counters_of n rest ≡ without (counters_of n mask) cs
 without_mask n mask rest cs h =
-    same_board (counters_of n rest) (without (counters_of n mask) cs)
-    (counters_length n rest ∙ sym (length_without (counters_of n mask) cs ∙ counters_length n mask))
-    (λ k l. let m : k < n = omega (arith, counters_length n rest) in
-    counter_at n rest k m ∙ h k m
+    same_mask n rest (without (counters_of n mask) cs) (length_without (counters_of n mask) cs ∙ counters_length n mask) (λ k m.
+    h k m
     ∙ ap₂ (λ (x y : Bool). x && not y) (sym (counter_at n mask k m)) (has_pattern cs k)
     ∙ sym (without_at (counters_of n mask) cs k))
 
 -- the board with cells filled is that of the mask with them
 pub with_mask : (n mask : ℕ) (cs : List ℕ) → counters_of n (bit_or mask (pattern_mask cs)) ≡ with_counters (counters_of n mask) cs
 with_mask n mask cs =
-    same_board (counters_of n (bit_or mask (pattern_mask cs))) (with_counters (counters_of n mask) cs)
-    (counters_length n (bit_or mask (pattern_mask cs)) ∙ sym (length_with (counters_of n mask) cs ∙ counters_length n mask))
-    (λ k l. let m : k < n = omega (arith, counters_length n (bit_or mask (pattern_mask cs))) in
-    counter_at n (bit_or mask (pattern_mask cs)) k m
-    ∙ has_or mask (pattern_mask cs) k
+    same_mask n (bit_or mask (pattern_mask cs)) (with_counters (counters_of n mask) cs) (length_with (counters_of n mask) cs ∙ counters_length n mask) (λ k m.
+    has_or mask (pattern_mask cs) k
     ∙ ap₂ (λ (x y : Bool). x || y) (sym (counter_at n mask k m)) (has_pattern cs k)
     ∙ sym (with_at (counters_of n mask) cs k (subst (λ (j : ℕ). k < j) (sym (counters_length n mask)) m)))

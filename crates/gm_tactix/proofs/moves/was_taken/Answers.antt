@@ -1,5 +1,5 @@
 use Rattle.std.specs.Prelude.{◌≡◌, ◌&&◌, ◌*◌}
-use Rattle.gm_pieces.specs.Common.{ℕ, Bool, eqb, eq-eqb, ◌∙◌, ap, refl, sym, bit_and, ne_eqb}
+use Rattle.gm_pieces.specs.Common.{ℕ, eqb, eq-eqb, ◌∙◌, ap, refl, bit_and, ne_eqb}
 use Rattle.gm_tactix.specs.Board.{was_taken}
 use Rattle.gm_tactix.specs.CounterMasks.{counters_of}
 use Rattle.gm_tactix.proofs.MaskMoves.{taken_of}
@@ -23,12 +23,9 @@ test_is c =
 
 pub returns-then-counters-cells-eq0 : goal.returns-then-counters-cells-eq0
 returns-then-counters-cells-eq0 c =
-    let n = c.from-number_before.result in
-    sym (ap (λ (x : Bool). x && eqb n c.args.tier) (eq-eqb _ _ c.if-counters-cells-eq0.true)) ∙ test_is
-    ((goal.at.returns-then-counters-cells-eq0 c).After-from-number_before)
+    rw (eq-eqb _ _ c.if-counters-cells-eq0.true) at (test_is ((goal.at.returns-then-counters-cells-eq0 c).After-from-number_before))
 
 pub returns-else-counters-cells-eq0 : goal.returns-else-counters-cells-eq0
 returns-else-counters-cells-eq0 c =
-    let n = c.from-number_before.result in
     let f = ne_eqb (bit_and c.args.counters c.segment_mask-cells.result) 0 c.if-counters-cells-eq0.false in
-    f ∙ sym (ap (λ (x : Bool). x && eqb n c.args.tier) f) ∙ test_is ((goal.at.returns-else-counters-cells-eq0 c).After-from-number_before)
+    f ∙ rw f at (test_is ((goal.at.returns-else-counters-cells-eq0 c).After-from-number_before))
