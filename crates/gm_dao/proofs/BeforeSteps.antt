@@ -1,10 +1,9 @@
 -- The board before a slide that led to a legal board.
 use Rattle.std.specs.Prelude.{◌≡◌, ◌+◌, ◌*◌, ◌<◌}
-use Rattle.gm_pieces.specs.Common.{ℕ, true, false, not, eqb, eqb-true, eq-eqb, List, map, length, set, None, Some, subst, sym, ap, ap₂}
-use Rattle.gm_pieces.specs.Common.{◌∙◌, arith, inl, inr, get_or-set_same, length-set, length-map, cases_Bool, cond-false, cond-true, true≢false, not-true}
-use Rattle.gm_pieces.specs.Common.{Cell, Empty, Mine, turned, is_mine, is_theirs, cell_at, number_of, mine_turned, theirs_turned, and_left, and_right}
-use Rattle.gm_pieces.specs.Common.{and_both, to_point, from_back, to_back, plays_on, goes_on, before_at, before_some, before_none, WasStep, gone}
-use Rattle.gm_pieces.specs.Common.{brought_back, step_left, gone_again}
+use Rattle.gm_pieces.specs.Common.{false_from_ne_true, refl, ℕ, true, false, not, eqb, eqb-true, eq-eqb, List, map, length, set, None, Some, subst, sym, ap}
+use Rattle.gm_pieces.specs.Common.{ap₂, ◌∙◌, arith, inl, inr, get_or-set_same, length-set, length-map, cases_Bool, not-true, Cell, Empty, Mine, turned, is_mine}
+use Rattle.gm_pieces.specs.Common.{is_theirs, cell_at, number_of, mine_turned, theirs_turned, and_left, and_right, and_both, to_point, from_back, to_back}
+use Rattle.gm_pieces.specs.Common.{plays_on, goes_on, before_at, before_some, before_none, WasStep, gone, brought_back, step_left, gone_again}
 use Rattle.gm_dao.specs.DaoRules.{has_formation, has_trapped, legal, end_by_last_move, in_line, slides, can_move, can_have_led_here, undo, dao}
 use Rattle.gm_dao.specs.MaskSlides.{is_open}
 use Rattle.gm_dao.specs.laws.BoardFacts.{formation_turned, formation_left, legal_in, legal_from}
@@ -37,18 +36,10 @@ earlier_has d e a c l w q n h =
     }
 
 -- ---- if the game goes on
--- the last move has not ended the game if no piece is trapped
-plays_by : (e : List Cell) → has_formation is_theirs e ≡ false → has_trapped e ≡ false → plays_on (end_by_last_move e) ≡ true
+-- where the opponent has no formation, the last move has not ended the game exactly if no piece is trapped
+plays_is : (e : List Cell) → has_formation is_theirs e ≡ false → plays_on (end_by_last_move e) ≡ not (has_trapped e)
 unfolding end_by_last_move
-plays_by e f g = ap plays_on (cond-false _ _ _ f ∙ cond-false _ _ _ g)
-
--- a piece that is trapped has ended it
-plays_not : (e : List Cell) → has_trapped e ≡ true → plays_on (end_by_last_move e) ≡ false
-unfolding end_by_last_move
-plays_not e g = elim (cases_Bool (has_formation is_theirs e)) [
-  | inl f ↦ ap plays_on (cond-true _ _ _ f)
-  | inr f ↦ ap plays_on (cond-false _ _ _ f ∙ cond-true _ _ _ g)
-]
+plays_is e f = elim (cases_Bool (has_trapped e)) [ inl g ↦ rw (f, g) refl | inr g ↦ rw (f, g) refl ]
 
 -- the slide, by the cells that the code has
 slide_number : (e : List Cell) (a c : ℕ) → c < 16 → IsSlide e a c → can_move e (16 * a + c) ≡ true
@@ -76,10 +67,7 @@ module _ (t : ℕ) (d e : List Cell) (a c : ℕ) (la : a < 16) (lc : c < 16) (l 
       let r = and_right _ _ g in
       let s = and_right _ _ r in
       let h = number_slide e a c lc (and_right _ _ s) in
-      let free : has_trapped e ≡ false = elim (cases_Bool (has_trapped e)) [
-        | inl x ↦ absurd (true≢false (sym (and_left _ _ s) ∙ plays_not e x))
-        | inr x ↦ x
-      ] in (
+      let free = not-true _ (sym (plays_is e (earlier_has d e a c l w q n h).no_formation) ∙ and_left _ _ s) in (
         and_both _ _ h.line (and_both _ _ h.clear h.stopped),
         eq-eqb t 0 (sym (eqb-true 0 t (and_left _ _ r))),
         and_both _ _ (ap not (legal_in e (and_left _ _ g)).no_formation) (ap not free),
@@ -90,10 +78,8 @@ module _ (t : ℕ) (d e : List Cell) (a c : ℕ) (la : a < 16) (lc : c < 16) (l 
 
   -- if a test fails there is none
   pub no_before : (slides e a c ≡ true → eqb t 0 ≡ true → is_open e ≡ true → ⊥) → before_at dao t d (16 * a + c) ≡ None
-  no_before z = before_none dao t d (16 * a + c) (λ u. elim (cases_Bool (goes_on dao t (undo d (16 * a + c)) (16 * a + c))) [
-    | inl g ↦ absurd (let x = went_on (subst (λ (b : List Cell). goes_on dao t b (16 * a + c) ≡ true) taken g) in z x.0 x.1 x.2)
-    | inr f ↦ f
-  ])
+  no_before z = before_none dao t d (16 * a + c) (λ u. false_from_ne_true _ (λ g.
+      let x = went_on (subst (λ (b : List Cell). goes_on dao t b (16 * a + c) ≡ true) taken g) in z x.0 x.1 x.2))
 
   module _ (f : slides e a c ≡ true) (z : t ≡ 0) (o : is_open e ≡ true) where
     slide : IsSlide e a c
@@ -115,5 +101,5 @@ module _ (t : ℕ) (d e : List Cell) (a c : ℕ) (la : a < 16) (lc : c < 16) (l 
           step = subst (λ (p : ℕ). WasStep d p (to_point m)) (sym (from_back a c lc)) (subst (λ (p : ℕ). WasStep d a p) (sym (to_back a c lc)) w);
         }) in
         let on : goes_on dao t e m ≡ true = and_both _ _ earlier_legal (and_both _ _ (eq-eqb 0 t (sym z)) (and_both _ _
-        (plays_by e has.no_formation (not-true _ (and_right _ _ o))) (slide_number e a c lc slide))) in
+        (plays_is e has.no_formation ∙ and_right _ _ o) (slide_number e a c lc slide))) in
         before_some dao t d m was (subst (λ (b : List Cell). goes_on dao t b m ≡ true) (sym taken) on) ∙ ap (λ (b : List Cell). Some b) taken

@@ -1,16 +1,18 @@
 -- The cells from which a piece can have slid to its cell, and the boards before a board, taken by the pieces that may have moved.
 use Rattle.std.specs.Prelude.{◌++◌, ◌≡◌, ◌≢◌, ◌+◌, ◌*◌, ◌/◌, ◌^◌, ◌<◌, ◌≤◌, ◌&&◌, ◌∷◌}
-use Rattle.gm_pieces.specs.Common.{ℕ, zero, suc, Bool, true, false, not, cond, eqb, eq-eqb, ltb, ltb-true, List, [], length, map, set, None, Some, Option}
-use Rattle.gm_pieces.specs.Common.{refl, sym, ap, ap₂, ◌∙◌, subst, arith, inl, inr, bit_and, list_all, filter_map, range_with_len}
-use Rattle.gm_pieces.specs.Common.{cases_Bool, true≢false, Contains, put, put_all, put_more_none, put_more_some, Cell, Empty, Mine, Theirs, turned}
-use Rattle.gm_pieces.specs.Common.{has_cell, board_of, from_point, to_point, from_back, to_back, all_at, all_from, at_all, at_each, and_left}
-use Rattle.gm_pieces.specs.Common.{and_right, cond-true, get_or-set_same, get_or-set_other, length-set, length-map, before_at}
-use Rattle.gm_pieces.specs.Common.{befores, is_theirs, is_empty, is_taken, cell_at, WasStep, brought_back, turned_cell}
-use Rattle.gm_pieces.specs.Common.{filter, reverse, same_all, same_list, same_list_true, same_tests}
-use Rattle.gm_pieces.specs.Common.{cells_counted, empty_cell, contains_range, range_below, their_cells, IsAscending}
-use Rattle.gm_board.specs.laws.Lists.{filter_map_from, filter_map_to, contains_head, contains_later, contains_cases}
+use Rattle.gm_pieces.specs.Common.{ℕ, zero, suc, Bool, true, false, not, cond, eqb, eq-eqb, ltb, ltb-true, List, [], length, map, set, None, Some, Option, refl}
+use Rattle.gm_pieces.specs.Common.{sym, ap, ap₂, ◌∙◌, subst, arith, inl, inr, bit_and, list_all, filter_map, range_with_len, cases_Bool, true≢false, Contains}
+use Rattle.gm_pieces.specs.Common.{put, put_all, put_more_none, put_more_some, Cell, Empty, Mine, Theirs, turned, has_cell, board_of, from_point, to_point}
+use Rattle.gm_pieces.specs.Common.{from_back, to_back, all_at, all_from, at_all, at_each, and_left, and_right, cond-true, get_or-set_same, get_or-set_other}
+use Rattle.gm_pieces.specs.Common.{length-set, length-map, before_at, befores, is_theirs, is_empty, is_taken, cell_at, WasStep, brought_back, turned_cell}
+use Rattle.gm_pieces.specs.Common.{filter, reverse, same_all, same_list, same_list_true, same_tests, cells_counted, empty_cell, contains_range, range_below}
+use Rattle.gm_pieces.specs.Common.{their_cells, IsAscending, Position, at, lt-ltb, map_once, false_from_ne_true}
+use Rattle.gm_board.specs.laws.Lists.{filter_map_from, filter_map_to, contains_head, contains_later}
 use Rattle.std.specs.Option.{is_some}
 use Rattle.gm_board.specs.laws.Filters.{filter_map_few}
+use Rattle.std.specs.List.{AllByRecursion}
+use Rattle.gm_game.specs.Children.{AreAscending, is_before}
+use Rattle.gm_game.proofs.ChildrenLemmas.{ascending_once}
 use Rattle.gm_game.proofs.Lists.{contains_none, map_in, map_from}
 use Rattle.gm_game.proofs.Putting.{put_all_ascending, put_all_from, put_all_later}
 use Rattle.gm_pieces.specs.laws.MoveLaws.{before_skip}
@@ -193,10 +195,8 @@ ended_past t d c is lc e h =
     h
     ∙ sym (puts_skip least_index_of (λ (m : ℕ). before_at dao t d (way_back m)) (16 * c) 16 (λ a l.
     ap (before_at dao t d) (back_at a c l)
-    ∙ before_skip dao t d (16 * a + c) (elim (cases_Bool (can_have_led_here d (16 * a + c))) [
-      | inl w ↦ absurd (true≢false (sym (ap is_theirs (was_at d (16 * a + c) a c w (sym (from_back a c lc)) (sym (to_back a c lc))).step.there) ∙ e))
-      | inr g ↦ g
-    ])))
+    ∙ before_skip dao t d (16 * a + c) (false_from_ne_true _ (λ w.
+    true≢false (sym (ap is_theirs (was_at d (16 * a + c) a c w (sym (from_back a c lc)) (sym (to_back a c lc))).step.there) ∙ e)))))
 
 -- cells without the opponent's pieces, s of them
 pub others_skip : (t a b n s : ℕ) (is : List ℕ) → b < 2 ^ 16 → bit_and a b ≡ 0 → n + s ≤ 16 → ((i : ℕ) → i < s → has_cell b (n + i) ≡ false)
@@ -252,30 +252,23 @@ rest_ascending : (x : ℕ) (xs : List ℕ) → IsAscending (x ∷ xs) → IsAsce
 rest_ascending x [] up = tt
 rest_ascending x (y ∷ ys) up = up.1
 
+-- ascending numbers are the indexes of ascending positions
+positions_up : (xs : List ℕ) → IsAscending xs → AreAscending (map (at 0) xs)
+positions_up [] u = tt
+positions_up (x ∷ xs) u = (later x xs (ascending_above x xs u), positions_up xs (rest_ascending x xs u))
+  where
+    later : (x : ℕ) (xs : List ℕ) → ((y : ℕ) → Contains xs y → x < y) → AllByRecursion (λ q. is_before (at 0 x) q ≡ true) (map (at 0) xs)
+    later x [] h = tt
+    later x (y ∷ ys) h = (lt-ltb x y (h y (contains_head y ys)), later x ys (λ z c. h z (contains_later y ys z c)))
+
 -- ascending lists of the same numbers are one
 same_ascending : (xs ys : List ℕ) → IsAscending xs → IsAscending ys → ((z : ℕ) → Contains xs z → Contains ys z) → ((z : ℕ) → Contains ys z → Contains xs z) → xs ≡ ys
-same_ascending [] [] u v f g = refl
-same_ascending [] (y ∷ ys) u v f g = absurd (contains_none y (g y (contains_head y ys)))
-same_ascending (x ∷ xs) [] u v f g = absurd (contains_none x (f x (contains_head x xs)))
-same_ascending (x ∷ xs) (y ∷ ys) u v f g =
-    let le : y ≤ x = elim (contains_cases y ys x (f x (contains_head x xs))) [
-      | inl e ↦ omega (arith, e)
-      | inr t ↦ (let l = ascending_above y ys v x t in omega (arith, l))
-    ] in
-    let ge : x ≤ y = elim (contains_cases x xs y (g y (contains_head y ys))) [
-      | inl e ↦ omega (arith, e)
-      | inr t ↦ (let l = ascending_above x xs u y t in omega (arith, l))
-    ] in
-    let here : x ≡ y = omega (arith, le, ge) in
-    ap₂ (λ (z : ℕ) (zs : List ℕ). z ∷ zs) here (same_ascending xs ys (rest_ascending x xs u) (rest_ascending y ys v)
-    (λ z c. elim (contains_cases y ys z (f z (contains_later x xs z c))) [
-      | inl e ↦ absurd (let l = ascending_above x xs u z c in omega (arith, l, e, here))
-      | inr t ↦ t
-    ])
-    (λ z c. elim (contains_cases x xs z (g z (contains_later y ys z c))) [
-      | inl e ↦ absurd (let l = ascending_above y ys v z c in omega (arith, l, e, here))
-      | inr t ↦ t
-    ]))
+same_ascending xs ys u v f g =
+    map_once (at 0) (λ (p : Position). p.index) (λ x. refl) xs ys
+    (ascending_once (map (at 0) xs) (map (at 0) ys) (positions_up xs u) (positions_up ys v) (λ p. (moved xs ys f p, moved ys xs g p)))
+  where
+    moved : (us vs : List ℕ) → ((z : ℕ) → Contains us z → Contains vs z) → (p : Position) → Contains (map (at 0) us) p → Contains (map (at 0) vs) p
+    moved us vs k p c = let x = map_in (at 0) us p c in subst (λ (q : Position). Contains (map (at 0) vs) q) x.2 (map_from (at 0) vs x.0 (k x.0 x.1))
 
 -- putting lists with the same boards in order gives the same
 same_put : {B : Type 0} (f : B → ℕ) (xs ys : List B) → ((b : B) → Contains xs b → Contains ys b) → ((b : B) → Contains ys b → Contains xs b) → put_all []

@@ -1,12 +1,9 @@
 -- The steps of the loops over cells: what is skipped gives no move and no board.
 use Rattle.std.specs.Prelude.{◌≡◌, ◌+◌, ◌-◌, ◌*◌, ◌/◌, ◌%◌, ◌^◌, ◌<◌, ◌≤◌, ◌&&◌, ◌∷◌, ◌++◌}
-use Rattle.gm_pieces.specs.Common.{ℕ, Bool, true, false, eqb, eq-eqb, List, []}
-use Rattle.gm_pieces.specs.Common.{refl, sym, ap, ap₂, ◌∙◌, subst, arith, inl, inr, bit_or, mod-eq_of_lt, pow-lt, pow_mono}
-use Rattle.gm_pieces.specs.Common.{or_lt, w32, filter, range_with_len, cases_Bool, cases_eq}
-use Rattle.gm_pieces.specs.Common.{true≢false, bit_at_above, bit_at_set_same, bit_at_set_other, Cell, has_cell}
-use Rattle.gm_pieces.specs.Common.{weight, none_left, board_of, from_point, from_back, to_back, filter_in}
-use Rattle.gm_pieces.specs.Common.{steps, all_steps, is_mine}
-use Rattle.gm_pieces.specs.Common.{is_empty, is_taken, cell_at, own_cells}
+use Rattle.gm_pieces.specs.Common.{ℕ, Bool, true, false, eqb, eq-eqb, List, [], refl, sym, ap, ap₂, ◌∙◌, subst, arith, inl, inr, bit_or, mod-eq_of_lt, pow-lt}
+use Rattle.gm_pieces.specs.Common.{pow_mono, or_lt, w32, filter, range_with_len, cases_eq, true≢false, bit_at_above, bit_at_set_same}
+use Rattle.gm_pieces.specs.Common.{bit_at_set_other, Cell, has_cell, weight, none_left, board_of, from_point, from_back, to_back, filter_in, steps, all_steps}
+use Rattle.gm_pieces.specs.Common.{is_mine, false_from_ne_true, is_empty, is_taken, cell_at, own_cells}
 use Rattle.std.specs.Int.Bits.{or_zero_r}
 use Rattle.gm_pieces.specs.laws.Skipped.{filter_skip}
 use Rattle.gm_dao.specs.DaoRules.{can_move, dao}
@@ -17,10 +14,8 @@ use Rattle.gm_dao.proofs.MoveSteps.{slides_by, move_by}
 -- ---- moves
 -- no move leaves a cell without a piece of the mover's
 pub no_move_from : (a b m : ℕ) → a < 2 ^ 16 → has_cell a (from_point m) ≡ false → can_move (board_of 16 a b) m ≡ false
-no_move_from a b m l e = elim (cases_Bool (can_move (board_of 16 a b) m)) [
-  | inl t ↦ absurd (true≢false (sym (own_cells 16 a b l (from_point m) ∙ ap is_mine (move_slide (board_of 16 a b) m t).mine) ∙ e))
-  | inr f ↦ f
-]
+no_move_from a b m l e =
+    false_from_ne_true _ (λ t. true≢false (sym (own_cells 16 a b l (from_point m) ∙ ap is_mine (move_slide (board_of 16 a b) m t).mine) ∙ e))
 
 -- the cell that a number past those of n cells leaves
 pub from_far : (n i : ℕ) → from_point (16 * n + i) ≡ n + i / 16

@@ -1,8 +1,7 @@
 -- The constant tables of the code against the lists of cells.
 use Rattle.std.specs.Prelude.{◌≡◌, ◌+◌, ◌*◌, ◌<◌, ◌&&◌, ◌∷◌}
-use Rattle.gm_pieces.specs.Common.{ℕ, Bool, true, not, cond, eqb, eqb-true, [], map, get_or, refl, sym}
-use Rattle.gm_pieces.specs.Common.{◌∙◌, list_all, range_with_len, cond-true, and_left, and_right, pattern_mask, at_below, at_all, at_each, agree}
-use Rattle.gm_pieces.specs.Common.{agree_same}
+use Rattle.gm_pieces.specs.Common.{ℕ, Bool, true, not, cond, eqb, eqb-true, [], map, get_or, refl, sym, ◌∙◌, list_all, range_with_len, cond-true, and_left}
+use Rattle.gm_pieces.specs.Common.{and_right, pattern_mask, at_below, at_all, at_each, agree, agree_same}
 use Rattle.gm_dao.specs.declared.formations.TheConstants.{FORMATIONS, CORNERS, NEXT_TO_CORNERS}
 use Rattle.gm_dao.specs.declared.slides.TheConstants.{PATHS, BEYOND, BEHIND}
 use Rattle.gm_dao.specs.DaoRules.{formations, corners, around, in_line, path, beyond}

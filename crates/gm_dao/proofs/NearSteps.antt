@@ -1,10 +1,9 @@
 -- How many cells a piece slides to: one in each direction in which the next cell is free.
 use Rattle.std.specs.Prelude.{◌≡◌, ◌+◌, ◌*◌, ◌^◌, ◌<◌, ◌&&◌, ◌∷◌, ◌++◌, count_ones}
-use Rattle.gm_pieces.specs.Common.{ℕ, zero, suc, Bool, true, false, not, cond, List, [], length, refl, sym, ap, ◌∙◌, arith, inl, inr, bit_and}
-use Rattle.gm_pieces.specs.Common.{filter, range_with_len, cases_Bool, true≢false, list_all, get_or, has_cell, has_and}
-use Rattle.gm_pieces.specs.Common.{weight, at_all, at_each, cond-true, ltb, ltb-true, at_below, and_le_r, same_list, same_list_true, Cell, Empty, Mine, Theirs}
-use Rattle.gm_pieces.specs.Common.{fills, is_empty, is_taken, cell_at, board_of, own_cells, from_back, to_back}
-use Rattle.gm_pieces.specs.Common.{board_length, is_mine, cells_counted}
+use Rattle.gm_pieces.specs.Common.{ℕ, zero, suc, Bool, true, false, not, cond, List, [], length, refl, sym, ap, ◌∙◌, arith, inl, inr, bit_and, filter}
+use Rattle.gm_pieces.specs.Common.{range_with_len, cases_Bool, true≢false, list_all, get_or, has_cell, has_and, weight, at_all, at_each, cond-true, ltb}
+use Rattle.gm_pieces.specs.Common.{ltb-true, at_below, and_le_r, same_list, same_list_true, Cell, Empty, Mine, Theirs, fills, is_empty, is_taken, cell_at}
+use Rattle.gm_pieces.specs.Common.{board_of, own_cells, from_back, to_back, board_length, is_mine, cells_counted}
 use Rattle.std.specs.Int.Bits.{and_zero_r}
 use Rattle.gm_pieces.specs.laws.MaskFacts.{own_pieces}
 use Rattle.gm_dao.specs.declared.slides.TheConstants.{NEAR}

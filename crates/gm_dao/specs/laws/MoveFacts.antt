@@ -1,9 +1,8 @@
 -- Moves of Dao: which there are, how many, and the ends of games.
 use Rattle.std.specs.Prelude.{◌≡◌, ◌/◌, ◌<◌, ◌≤◌}
-use Rattle.gm_pieces.specs.Common.{ℕ, true, false, List, length, None, Some, inl, inr, refl, sym}
-use Rattle.gm_pieces.specs.Common.{ap, ◌∙◌, arith, cases_Bool, cond-true, Lose, Cell, Empty, Mine, and_left}
-use Rattle.gm_pieces.specs.Common.{and_right, and_both, fills, all_at, from_point, to_point, number_below, steps, is_mine, is_theirs}
-use Rattle.gm_pieces.specs.Common.{is_empty, is_taken, cell_at, number_of, IsStep, mine_cell, empty_cell, cells_counted}
+use Rattle.gm_pieces.specs.Common.{ℕ, true, false, List, length, None, Some, refl, sym, ap, ◌∙◌, arith, cond-true, Lose, Cell, Empty}
+use Rattle.gm_pieces.specs.Common.{Mine, and_left, and_right, and_both, fills, all_at, from_point, to_point, number_below, steps, is_mine, is_theirs, is_empty}
+use Rattle.gm_pieces.specs.Common.{is_taken, cell_at, number_of, IsStep, mine_cell, empty_cell, cells_counted, false_from_ne_true}
 use Rattle.gm_dao.specs.DaoRules.{has_formation, in_line, path, beyond, can_go, can_move, move_number_bound, end_by_last_move, dao}
 use Rattle.gm_dao.specs.laws.CountFacts.{blocks_few}
 use Rattle.gm_dao.specs.laws.SlideFacts.{line_within, way}
@@ -60,10 +59,7 @@ line_below m e = let l = number_below m 16 (line_within (from_point m) (to_point
 -- a board that is not over has no formation of the opponent's
 pub no_formation : (b : List Cell) → end_by_last_move b ≡ None → has_formation is_theirs b ≡ false
 unfolding end_by_last_move
-no_formation b e = elim (cases_Bool (has_formation is_theirs b)) [
-  | inl f ↦ absurd (let g : Some Lose ≡ None = sym (cond-true _ _ _ f) ∙ e in let z : ⊥ = cc in z)
-  | inr f ↦ f
-]
+no_formation b e = false_from_ne_true _ (λ f. let g : Some Lose ≡ None = sym (cond-true _ _ _ f) ∙ e in let z : ⊥ = cc in z)
 
 -- ---- lists of moves
 -- the cell that a move leaves, by its number

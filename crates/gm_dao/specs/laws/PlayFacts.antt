@@ -55,8 +55,7 @@ image_step g b m c e f =
     let from : from_point n ≡ i = from_back i j x.3 in
     let to : to_point n ≡ j = to_back i j x.3 in
     let image = permute Empty g b in
-    let there : IsSlide b (get_or g i 0) (get_or g j 0) = subst (λ (p : ℕ). IsSlide b p (get_or g j 0)) (sym x.4)
-    (subst (λ (q : ℕ). IsSlide b a q) (sym x.5) h) in
+    let there : IsSlide b (get_or g i 0) (get_or g j 0) = rw (x.4, x.5) h in
     let slide : IsSlide image i j = image_slides g b i j c x.2 x.3 there in (
       n,
       slide_move image n (subst (λ (p : ℕ). IsSlide image p (to_point n)) (sym from) (subst (λ (q : ℕ). IsSlide image i q) (sym to) slide)),
