@@ -38,7 +38,7 @@ lawful v = record {
   moved_tier = λ b m l h. (lands v b m (legal_in v b l) h).1;
   child_rank = λ t u c. let h = lone_in _ (t + 1) u c in let l = ltb-true t (last_tier v) h.0 in omega (arith, l, h.1);
   child_tiers_ascending = λ t. cond_both (ltb t (last_tier v)) ((t + 1) ∷ []) [] IsAscending (λ e. tt) (λ e. tt);
-  undone = λ b m l h. let k = made v (is_last v b) b m (legal_in v b l).cells (step_in v b m h) in (k.was, k.back);
+  undone = λ b m l h. let k = made v (is_last v b) b m refl (legal_in v b l) (step_in v b m h) in (k.was, k.back);
   redone = λ t d m l w k e h. let x = eqb t (last_tier v) in
       ap (λ (n : ℕ). map turned (left_by (eqb n (last_tier v)) (back_by x d m) m)) e ∙ redone v x d m w;
   moves_few = λ b l. few v (is_last v b) (can_by v (is_last v b) b) (λ e m c. and_left _ _ (subst (λ (x : Bool). can_by v x b m ≡ true) e c));

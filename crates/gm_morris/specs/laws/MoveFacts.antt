@@ -82,28 +82,42 @@ was_placed v t d m last l e = (
 )
 
 -- ---- a move made and taken back
+-- what a move leaves, by which it can be taken back; half of the pieces then, rounded down, are the opponent's, and their number is that of the tier or of the next
 pub record IsMade (v : Variant) (x : Bool) (b : List Cell) (m : ℕ) : Type 0 where
   pub left : IsLeft b (left_by x b m) (more_by x)
   pub was : was_by v x (map turned (left_by x b m)) m ≡ true
   pub back : back_by x (map turned (left_by x b m)) m ≡ b
+  pub half : theirs b ≡ (pieces b + more_by x) / 2
+  pub few : pieces b + more_by x ≤ last_tier v
+  pub tier : (pieces b + more_by x ≡ pieces b) ⊎ Contains (child_tiers_of v (pieces b)) (pieces b + more_by x)
 
--- a move leads to a board that it can have led to, and taken back it gives the board before
-pub made : (v : Variant) (x : Bool) (b : List Cell) (m : ℕ) → length b ≡ 9 → CanStep v x b m → IsMade v x b m
-made v true b m n h =
-    let s = slide_step v b m n h.can in
+pub made : (v : Variant) (x : Bool) (b : List Cell) (m : ℕ) → x ≡ is_last v b → IsLegal v b → CanStep v x b m → IsMade v x b m
+unfolding child_tiers_of
+made v true b m e h c =
+    let s = slide_step v b m h.cells c.can in
     let y = back_again b (m / 16) (m % 16) s in
+    let last = eqb-true (pieces b) (last_tier v) (sym e) in
+    let w = joined_within v (m / 16) (m % 16) (and_left _ _ c.can) in
     record {
       left = step_left b (m / 16) (m % 16) s;
-      was = and_both _ _ (and_left _ _ h.can) (and_both _ _ (ap is_theirs y.0.there) (ap is_empty y.0.left));
+      was = and_both _ _ (and_left _ _ c.can) (and_both _ _ (ap is_theirs y.0.there) (ap is_empty y.0.left));
       back = y.1;
+      half = let half = h.half in omega (arith, last, w.2, half);
+      few = omega (arith, h.few);
+      tier = inl (omega arith);
     }
-made v false b m n h =
-    let l : m < length b = (let k = h.below in omega (arith, k, n)) in
-    let free = empty_cell _ h.can in
+made v false b m e h c =
+    let l : m < length b = (let k = c.below in let n = h.cells in omega (arith, k, n)) in
+    let free = empty_cell _ c.can in
+    let other : pieces b ≡ last_tier v → ⊥ = (λ q. true≢false (sym (eq-eqb _ _ q) ∙ sym e)) in
+    let less : pieces b < last_tier v = omega (arith, h.few, other) in
     record {
       left = placed_left b m l free;
       was = ap is_theirs (turned_cell (set b m Mine) m Mine (get_or-set_same b m Mine Empty l));
       back = ap (λ (d : List Cell). set d m Empty) (turned_twice (set b m Mine)) ∙ set_and_back b m Empty Mine free;
+      half = let half = h.half in omega (arith, half);
+      few = omega (arith, less);
+      tier = inr (subst (λ (ts : List ℕ). Contains ts (pieces b + 1)) (sym (cond-true _ _ _ (lt-ltb (pieces b) (last_tier v) less))) (0, omega arith, refl));
     }
 
 -- a move taken back and made again leads to the same board
@@ -112,22 +126,6 @@ redone v true d m e = gone_again d (m / 16) (m % 16) (slide_was v d m e)
 redone v false d m e = ap (map turned) (set_and_back (map turned d) m Mine Empty (turned_cell d m Theirs (their_cell _ e))) ∙ turned_twice d
 
 -- ---- the board after a move
--- half of the pieces then, rounded down, are the opponent's, and they are not too many
-halves : (v : Variant) (x : Bool) (b : List Cell) (m : ℕ) → x ≡ is_last v b → IsLegal v b → CanStep v x b m
-    → (theirs b ≡ (pieces b + more_by x) / 2) × (pieces b + more_by x ≤ last_tier v)
-halves v true b m e h s =
-    let last = eqb-true (pieces b) (last_tier v) (sym e) in
-    let w = joined_within v (m / 16) (m % 16) (and_left _ _ s.can) in
-    (let half = h.half in omega (arith, last, w.2, half), omega (arith, h.few))
-halves v false b m e h s =
-    let other : pieces b ≡ last_tier v → ⊥ = λ q. true≢false (sym (eq-eqb _ _ q) ∙ sym e) in
-    (let half = h.half in omega (arith, half), omega (arith, h.few, other))
-
-next_tier : (v : Variant) (x : Bool) (t n : ℕ) → t + more_by x ≤ last_tier v → n ≡ t + more_by x → (n ≡ t) ⊎ Contains (child_tiers_of v t) n
-unfolding child_tiers_of
-next_tier v true t n l e = inl (omega (arith, e))
-next_tier v false t n l e = inr (subst (λ (xs : List ℕ). Contains xs n) (sym (cond-true _ _ _ (lt-ltb t (last_tier v) (omega arith)))) (0, omega arith, sym e))
-
 line_none : (x : Bool) → (if x then Some Lose else None) ≡ None → x ≡ false
 line_none true e = absurd (let z : ⊥ = cc in z)
 line_none false e = refl
@@ -137,21 +135,20 @@ pub lands : (v : Variant) (b : List Cell) (m : ℕ) → IsLegal v b → IsMove (
     → IsLegal v (play v b m) × ((pieces (play v b m) ≡ pieces b) ⊎ Contains (child_tiers_of v (pieces b)) (pieces (play v b m)))
 unfolding play moved has_line end_by_last_move
 lands v b m h c =
-    let s = step_in v b m c in
     let x = is_last v b in
     let d = left_by x b m in
-    let k = (made v x b m h.cells s).left in
-    let n = halves v x b m refl h s in
+    let s = made v x b m refl h (step_in v b m c) in
+    let k = s.left in
     let p = mine_turned d in
     let q = theirs_turned d in
     let all : pieces (map turned d) ≡ pieces b + more_by x = omega (arith, p, q, k.own, k.other) in (
       record {
         cells = length-map d turned ∙ k.cells ∙ h.cells;
-        half = p ∙ k.other ∙ n.0 ∙ ap (λ (j : ℕ). j / 2) (sym all);
-        few = omega (arith, all, n.1);
+        half = p ∙ k.other ∙ s.half ∙ ap (λ (j : ℕ). j / 2) (sym all);
+        few = omega (arith, all, s.few);
         no_line = filled_turned (lines v) d ∙ k.filled (lines v) ∙ line_none _ c.not_over;
       },
-      next_tier v x (pieces b) (pieces (map turned d)) n.1 all,
+      subst (λ (n : ℕ). (n ≡ pieces b) ⊎ Contains (child_tiers_of v (pieces b)) n) (sym all) s.tier,
     )
 
 -- ---- images
