@@ -68,13 +68,14 @@ slide_was v d m e =
 pub can_slide : (v : Variant) (b : List Cell) (m : ℕ) → length b ≡ 9 → is_last v b ≡ true → IsMove (morris v) b m → IsStep b (m / 16) (m % 16)
 can_slide v b m n last h = slide_step v b m n (subst (λ (x : Bool). can_by v x b m ≡ true) last (step_in v b m h).can)
 
-pub was_slid : (v : Variant) (t : ℕ) (d : List Cell) (m : ℕ) → eqb t (last_tier v) ≡ true → can_have_led_here v t d m ≡ true → (m / 16 < 9) × WasStep d (m / 16) (m % 16)
+pub was_slid : (v : Variant) (t : ℕ) (d : List Cell) (m : ℕ) → eqb t (last_tier v) ≡ true → can_have_led_here v t d m ≡ true
+    → (m / 16 < 9) × WasStep d (m / 16) (m % 16)
 unfolding can_have_led_here
 was_slid v t d m last e =
     let was = ap (λ (x : Bool). was_by v x d m) (sym last) ∙ e in ((joined_within v (m / 16) (m % 16) (and_left _ _ was)).0, slide_was v d m was)
 
-pub was_placed : (v : Variant) (t : ℕ) (d : List Cell) (m : ℕ) → eqb t (last_tier v) ≡ false → m < move_number_bound v t → can_have_led_here v t d m ≡ true
-    → (m < 9) × (is_mine (cell_at (map turned d) m) ≡ true)
+pub was_placed : (v : Variant) (t : ℕ) (d : List Cell) (m : ℕ) → eqb t (last_tier v) ≡ false → m < move_number_bound v t
+    → can_have_led_here v t d m ≡ true → (m < 9) × (is_mine (cell_at (map turned d) m) ≡ true)
 unfolding can_have_led_here move_number_bound
 was_placed v t d m last l e = (
   subst (λ (x : Bool). m < end_by x) last l,
