@@ -2,7 +2,7 @@
 use Rattle.std.specs.Prelude.{◌≡◌, ◌+◌, ◌*◌, ◌<◌}
 use Rattle.gm_pieces.specs.Common.{false_from_ne_true, refl, ℕ, true, false, not, eqb, eqb-true, eq-eqb, List, map, length, set, None, Some, subst, sym, ap}
 use Rattle.gm_pieces.specs.Common.{ap₂, ◌∙◌, arith, inl, inr, get_or-set_same, length-set, length-map, cases_Bool, not-true, Cell, Empty, Mine, turned, is_mine}
-use Rattle.gm_pieces.specs.Common.{is_theirs, cell_at, number_of, mine_turned, theirs_turned, and_left, and_right, and_both, to_point, from_back, to_back}
+use Rattle.gm_pieces.specs.Common.{is_theirs, cell_at, number_of, mine_turned, theirs_turned, and_left, and_right, and_both, from_back, to_back}
 use Rattle.gm_pieces.specs.Common.{plays_on, goes_on, before_at, before_some, before_none, WasStep, gone, brought_back, step_left, gone_again}
 use Rattle.gm_dao.specs.DaoRules.{has_formation, has_trapped, legal, end_by_last_move, in_line, slides, can_move, can_have_led_here, undo, dao}
 use Rattle.gm_dao.specs.MaskSlides.{is_open}
@@ -98,7 +98,7 @@ module _ (t : ℕ) (d e : List Cell) (a c : ℕ) (la : a < 16) (lc : c < 16) (l 
         let m = 16 * a + c in
         let was : can_have_led_here d m ≡ true = was_from d m (record {
           line = ap₂ in_line (from_back a c lc) (to_back a c lc) ∙ slide.line;
-          step = subst (λ (p : ℕ). WasStep d p (to_point m)) (sym (from_back a c lc)) (subst (λ (p : ℕ). WasStep d a p) (sym (to_back a c lc)) w);
+          step = rw (from_back a c lc, to_back a c lc) w;
         }) in
         let on : goes_on dao t e m ≡ true = and_both _ _ earlier_legal (and_both _ _ (eq-eqb 0 t (sym z)) (and_both _ _
         (plays_is e has.no_formation ∙ and_right _ _ o) (slide_number e a c lc slide))) in

@@ -1,10 +1,11 @@
 -- The steps of the loops over cells: what is skipped gives no move and no board.
 use Rattle.std.specs.Prelude.{◌≡◌, ◌+◌, ◌-◌, ◌*◌, ◌/◌, ◌%◌, ◌^◌, ◌<◌, ◌≤◌, ◌&&◌, ◌∷◌, ◌++◌}
-use Rattle.gm_pieces.specs.Common.{ℕ, Bool, true, false, eqb, eq-eqb, List, [], refl, sym, ap, ap₂, ◌∙◌, subst, arith, inl, inr, bit_or, mod-eq_of_lt, pow-lt}
-use Rattle.gm_pieces.specs.Common.{pow_mono, or_lt, w32, filter, range_with_len, cases_eq, true≢false, bit_at_above, bit_at_set_same}
+use Rattle.gm_pieces.specs.Common.{ℕ, Bool, true, false, eqb, eq-eqb, List, [], refl, sym, ap, ap₂, ◌∙◌, subst, arith, inl, inr, bit_or}
+use Rattle.gm_pieces.specs.Common.{pow_mono, w32, filter, range_with_len, cases_eq, true≢false, bit_at_above, bit_at_set_same}
 use Rattle.gm_pieces.specs.Common.{bit_at_set_other, Cell, has_cell, weight, none_left, board_of, from_point, from_back, to_back, filter_in, steps, all_steps}
 use Rattle.gm_pieces.specs.Common.{is_mine, false_from_ne_true, is_empty, is_taken, cell_at, own_cells}
 use Rattle.std.specs.Int.Bits.{or_zero_r}
+use Rattle.gm_board.specs.laws.MaskChanges.{with_within}
 use Rattle.gm_pieces.specs.laws.Skipped.{filter_skip}
 use Rattle.gm_dao.specs.DaoRules.{can_move, dao}
 use Rattle.gm_dao.specs.MaskSlides.{slides_by_masks, AreMovesBelow}
@@ -79,25 +80,17 @@ wider g n l = let p : 2 ^ n ≤ 2 ^ (n + 1) = pow_mono (let q : n ≤ n + 1 = om
 -- one more cell, which passes or not
 pub passed_more : (p : ℕ → Bool) (n g v : ℕ) (x : Bool) → n < 16 → HasPassed p n g → x ≡ p n → v ≡ weight x → HasPassed p (n + 1)
     (bit_or g (v * 2 ^ n % 2 ^ 32))
-passed_more p n g v true l h e w =
-    let bit : v * 2 ^ n ≡ 1 * 2 ^ n = ap (λ (u : ℕ). u * 2 ^ n) w in
-    let one : 1 * 2 ^ n ≡ 2 ^ n = omega arith in
-    let small : 2 ^ n < 2 ^ 32 = pow-lt (let q : n < 32 = omega arith in q) in
-    let step : 2 ^ n < 2 ^ (n + 1) = pow-lt (let q : n < n + 1 = omega arith in q) in
-    let fits : 1 * 2 ^ n % 2 ^ 32 < 2 ^ (n + 1) = subst (λ (u : ℕ). u < 2 ^ (n + 1)) (sym (ap (λ (u : ℕ). u % 2 ^ 32) one ∙ mod-eq_of_lt small)) step in
-    subst (λ (u : ℕ). HasPassed p (n + 1) (bit_or g (u % 2 ^ 32))) (sym bit) (record {
-      within = or_lt (n + 1) g (1 * 2 ^ n % 2 ^ 32) (wider g n h.within) fits;
-      cells = one_more (λ (k : ℕ). has_cell (bit_or g (1 * 2 ^ n % 2 ^ 32)) k ≡ p k) n
-          (λ k j. ap (λ (u : ℕ). eqb u 1) (bit_at_set_other w32 g n (omega arith) k (λ q. omega (arith, q, j))) ∙ h.cells k j)
-          (eq-eqb _ _ (bit_at_set_same w32 g n (omega arith)) ∙ e);
-    })
+passed_more p n g v true l h e w = rw w (record {
+  within = with_within g n (n + 1) (wider g n h.within) (omega arith) (omega arith);
+  cells = one_more (λ (k : ℕ). has_cell (bit_or g (1 * 2 ^ n % 2 ^ 32)) k ≡ p k) n
+      (λ k j. ap (λ (u : ℕ). eqb u 1) (bit_at_set_other w32 g n (omega arith) k (λ q. omega (arith, q, j))) ∙ h.cells k j)
+      (eq-eqb _ _ (bit_at_set_same w32 g n (omega arith)) ∙ e);
+})
 passed_more p n g v false l h e w =
-    let none : bit_or g (v * 2 ^ n % 2 ^ 32) ≡ g = ap (λ (u : ℕ). bit_or g (u * 2 ^ n % 2 ^ 32)) w ∙ ap (λ (u : ℕ). bit_or g (u % 2 ^ 32))
-    (let z : 0 * 2 ^ n ≡ 0 = omega arith in z) ∙ or_zero_r g in
-    subst (HasPassed p (n + 1)) (sym none) (record {
+    let none : 0 * 2 ^ n ≡ 0 = omega arith in
+    rw (w, none, or_zero_r g) (record {
       within = wider g n h.within;
-      cells = one_more (λ (k : ℕ). has_cell g k ≡ p k) n h.cells
-          (ap (λ (u : ℕ). eqb u 1) (bit_at_above g n n h.within (omega arith)) ∙ e);
+      cells = one_more (λ (k : ℕ). has_cell g k ≡ p k) n h.cells (ap (λ (u : ℕ). eqb u 1) (bit_at_above g n n h.within (omega arith)) ∙ e);
     })
 
 -- ---- ends of loops

@@ -1,6 +1,6 @@
 -- What a move of Dao leaves, and the moves and ends of images.
 use Rattle.std.specs.Prelude.{◌≡◌, ◌<◌}
-use Rattle.gm_pieces.specs.Common.{ℕ, Bool, true, cond, List, map, length, get_or, set, None, Some, refl, sym, ap, ap₂, ◌∙◌, subst, arith, ltb}
+use Rattle.gm_pieces.specs.Common.{ℕ, Bool, true, cond, List, map, length, get_or, set, None, Some, refl, sym, ap, ap₂, ◌∙◌, arith, ltb}
 use Rattle.gm_pieces.specs.Common.{ltb-true, Contains, length-map, Lose, Win, Cell, Empty, Mine, all_from, and_left, and_right, and_both, turned, image_back}
 use Rattle.gm_pieces.specs.Common.{image_slide, any_at, fills, same_tests, any_from, permute, all_at, square_symmetries, step_number, from_point, to_point}
 use Rattle.gm_pieces.specs.Common.{from_back, to_back, IsMove, is_mine, is_theirs, is_empty, is_taken, cell_at, gone, step_left, permute_turned, mine_turned}
@@ -58,7 +58,7 @@ image_step g b m c e f =
     let there : IsSlide b (get_or g i 0) (get_or g j 0) = rw (x.4, x.5) h in
     let slide : IsSlide image i j = image_slides g b i j c x.2 x.3 there in (
       n,
-      slide_move image n (subst (λ (p : ℕ). IsSlide image p (to_point n)) (sym from) (subst (λ (q : ℕ). IsSlide image i q) (sym to) slide)),
+      slide_move image n (rw (from, to) slide),
       ap₂ (λ (p q : ℕ). gone image p q) from to
           ∙ ap (map turned) (sym x.6)
           ∙ sym (permute_turned g (set (set b a Empty) z Mine)),
