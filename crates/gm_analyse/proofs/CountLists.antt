@@ -1,11 +1,11 @@
 -- A list of counts with one value and remoteness more, whatever is counted: so many have a value and remoteness, and only so many.
 use Rattle.gm_analyse.proofs.Lower.{◌≡◌, ℕ, zero, suc, ◌<◌, ◌≤◌, ◌+◌, ◌⊎◌, ◌↔◌, inl, inr, List, [], ◌∷◌, ◌++◌, get_or, refl, sym, ap, ◌∙◌, subst, arith}
 use Rattle.gm_analyse.proofs.Lower.{Contains, cases_lt, Contains-get_or, Value, Win, contains_none, Count, rank}
-use Rattle.std.specs.List.{AllPairs}
 use Rattle.std.proofs.lemmas.List.Elements.{Contains-append_left, Contains-push, Contains-push_cases}
 use Rattle.std.proofs.lemmas.List.Quantifiers.{all_pairs_push}
 use Rattle.gm_game.specs.declared.position.Value.TheVariants.{Lose, Draw, Tie}
-use Rattle.gm_analyse.specs.Listing.{ComesBefore, IsBefore}
+use Rattle.gm_analyse.specs.Listing.{ComesBefore, IsBefore, AreBefore, counted}
+use Rattle.std.proofs.Common.{◌-◌, append_assoc, append-nil}
 
 -- values of one rank are the same
 value_at : ℕ → Value
@@ -31,7 +31,7 @@ rank_small Tie = omega arith
 rank_small Win = omega arith
 
 -- the values in their order
-pub rank_listed : (i : ℕ) (d : Value) → i < 4 → rank (get_or (Lose ∷ Draw ∷ Tie ∷ Win ∷ []) i d) ≡ i
+rank_listed : (i : ℕ) (d : Value) → i < 4 → rank (get_or (Lose ∷ Draw ∷ Tie ∷ Win ∷ []) i d) ≡ i
 rank_listed zero d l = refl
 rank_listed (suc zero) d l = refl
 rank_listed (suc (suc zero)) d l = refl
@@ -55,19 +55,13 @@ none_before c (inl l) = omega arith
 none_before c (inr h) = let b = h.1 in omega arith
 
 module _ (Num : Value → ℕ → ℕ → Type 0) (num_once : (v : Value) (k a b : ℕ) → Num v k a → Num v k b → a ≡ b) where
-  -- some have this value and remoteness, and it is the number of those
-  abbrev pub IsOne : Count → Type 0
+  abbrev IsOne : Count → Type 0
   IsOne c = Num c.value c.remoteness c.number × (0 < c.number)
 
-  -- the counts are those that come before a value and remoteness, in order
-  pub record AreBefore (r k : ℕ) (counts : List Count) : Type 0 where
-    pub ordered : AllPairs IsBefore counts
-    pub exact : (c : Count) → Contains counts c ↔ (IsOne c × ComesBefore r k c)
-
-  pub no_counts : AreBefore 0 0 []
+  pub no_counts : AreBefore Num 0 0 []
   no_counts = record { ordered = λ i j d a b. absurd (omega arith); exact = λ c. (λ h. absurd (contains_none c h), λ h. absurd (none_before c h.1)) }
 
-  module _ (v : Value) (k : ℕ) (cs : List Count) (old : AreBefore (rank v) k cs) where
+  module _ (v : Value) (k : ℕ) (cs : List Count) (old : AreBefore Num (rank v) k cs) where
     module _ (n : ℕ) (is : Num v k n) (some : 0 < n) where
       abbrev New : Count
       New = record { value = v; remoteness = k; number = n }
@@ -92,7 +86,7 @@ module _ (Num : Value → ℕ → ℕ → Type 0) (num_once : (v : Value) (k a b
       ]
 
       -- the next remoteness has a count
-      pub with_count : AreBefore (rank v) (k + 1) (cs ++ New ∷ [])
+      with_count : AreBefore Num (rank v) (k + 1) (cs ++ New ∷ [])
       with_count = record {
         ordered = all_pairs_push IsBefore cs New old.ordered (λ i d l. ((old.exact (get_or cs i d)).0 (Contains-get_or cs i d l)).1);
         exact = λ c. (new_there c, there_new c);
@@ -107,7 +101,7 @@ module _ (Num : Value → ℕ → ℕ → Type 0) (num_once : (v : Value) (k a b
         let some = h.1 in
         omega arith
 
-    pub without_count : Num v k 0 → AreBefore (rank v) (k + 1) cs
+    without_count : Num v k 0 → AreBefore Num (rank v) (k + 1) cs
     without_count z = record {
       ordered = old.ordered;
       exact = λ c. (
@@ -138,7 +132,7 @@ module _ (Num : Value → ℕ → ℕ → Type 0) (num_once : (v : Value) (k a b
     ]
     next_down c z h (inr b) = let f = b.1 in absurd (omega arith)
 
-    pub next_value : ((n : ℕ) → k ≤ n → Num v n 0) → AreBefore (rank v + 1) 0 cs
+    next_value : ((n : ℕ) → k ≤ n → Num v n 0) → AreBefore Num (rank v + 1) 0 cs
     next_value z = record {
       ordered = old.ordered;
       exact = λ c. (
@@ -147,6 +141,43 @@ module _ (Num : Value → ℕ → ℕ → Type 0) (num_once : (v : Value) (k a b
       );
     }
 
+  -- all counts of a value are added
+  one_added : (v : Value) (n k : ℕ) (ns : List ℕ) (old : List Count) (m : ℕ) → m ≡ n → AreBefore Num (rank v) k old → Num v k n
+      → ((new : List Count) → AreBefore Num (rank v) (k + 1) new → AreBefore Num (rank v + 1) 0 (new ++ counted v (k + 1) ns))
+      → AreBefore Num (rank v + 1) 0 (old ++ counted v k (m ∷ ns))
+  one_added v n k ns old zero e h is rest = rest old (without_count v k old h (subst (Num v k) (sym e) is))
+  one_added v n k ns old (suc m) e h is rest =
+      let one : Count = record { value = v; remoteness = k; number = suc m } in
+      subst (AreBefore Num (rank v + 1) 0) (append_assoc old (one ∷ []) (counted v (k + 1) ns))
+      (rest (old ++ one ∷ []) (with_count v k old h (suc m) (subst (Num v k) (sym e) is) (omega arith)))
+
+  all_added : (v : Value) (ns : List ℕ) (k : ℕ) (old : List Count) → AreBefore Num (rank v) k old → ((j : ℕ) → Num v (k + j) (get_or ns j 0))
+      → AreBefore Num (rank v + 1) 0 (old ++ counted v k ns)
+  all_added v [] k old h is =
+      subst (AreBefore Num (rank v + 1) 0) (sym (append-nil old))
+      (next_value v k old h (λ n l. (let e : k + (n - k) ≡ n = omega arith in subst (λ (m : ℕ). Num v m 0) e (is (n - k)))))
+  all_added v (n ∷ ns) k old h is =
+      let e : k + 0 ≡ k = omega arith in
+      one_added v n k ns old n refl h (subst (λ (m : ℕ). Num v m n) e (is 0)) (λ new b. all_added v ns (k + 1) new b
+      (λ j. (let d : k + suc j ≡ (k + 1) + j = omega arith in subst (λ (m : ℕ). Num v m (get_or ns j 0)) d (is (suc j)))))
+
+  pub value_added : (i : ℕ) (d : Value) → i < 4 → (ms ns : List ℕ) → ms ≡ ns → (old new : List Count) → AreBefore Num i 0 old
+      → new ≡ old ++ counted (get_or (Lose ∷ Draw ∷ Tie ∷ Win ∷ []) i d) 0 ms
+      → ((j : ℕ) → Num (get_or (Lose ∷ Draw ∷ Tie ∷ Win ∷ []) i d) j (get_or ns j 0)) → AreBefore Num (i + 1) 0 new
+  value_added i d l ms ns same old new h e is =
+      let v = get_or (Lose ∷ Draw ∷ Tie ∷ Win ∷ []) i d in
+      let r : rank v ≡ i = rank_listed i d l in
+      subst (λ (n : ℕ). AreBefore Num (n + 1) 0 new) r (subst (AreBefore Num (rank v + 1) 0)
+      (sym (e ∙ ap (λ (ks : List ℕ). old ++ counted v 0 ks) same))
+      (all_added v ns 0 old (subst (λ (n : ℕ). AreBefore Num n 0 old) (sym r) h)
+      (λ j. (let z : j ≡ 0 + j = omega arith in subst (λ (m : ℕ). Num v m (get_or ns j 0)) z (is j)))))
+
   -- all values are done
-  pub all_counts : (cs : List Count) → AreBefore 4 0 cs → (c : Count) → Contains cs c ↔ IsOne c
+  pub all_counts : (cs : List Count) → AreBefore Num 4 0 cs → (c : Count) → Contains cs c ↔ IsOne c
   all_counts cs h c = (λ i. ((h.exact c).0 i).0, λ w. (h.exact c).1 (w, inl (rank_small c.value)))
+
+-- one number more of a value is there, or is zero
+pub one_counted : (v : Value) (k n : ℕ) (ns : List ℕ) (cs : List Count) → 0 < n
+    → (cs ++ (record { value = v; remoteness = k; number = n }) ∷ []) ++ counted v (k + 1) ns ≡ cs ++ counted v k (n ∷ ns)
+one_counted v k zero ns cs some = absurd (omega arith)
+one_counted v k (suc n) ns cs some = append_assoc cs ((record { value = v; remoteness = k; number = suc n }) ∷ []) (counted v (k + 1) ns)

@@ -9,12 +9,6 @@ use Rattle.gm_table.specs.Levels.{is_level}
 count_more : (test : ℕ → Bool) (n : ℕ) → count_where test (n + 1) ≡ (if test n then count_where test n + 1 else count_where test n)
 count_more test n = let e : n + 1 ≡ suc n = omega arith in rw e refl
 
-pub count_yes : (test : ℕ → Bool) (n : ℕ) → test n ≡ true → count_where test (n + 1) ≡ count_where test n + 1
-count_yes test n e = count_more test n ∙ rw e refl
-
-pub count_no : (test : ℕ → Bool) (n : ℕ) → test n ≡ false → count_where test (n + 1) ≡ count_where test n
-count_no test n e = count_more test n ∙ rw e refl
-
 one_at_most : (b : Bool) (m n : ℕ) → m ≤ n → (if b then m + 1 else m) ≤ suc n
 one_at_most true m n h = omega arith
 one_at_most false m n h = omega arith

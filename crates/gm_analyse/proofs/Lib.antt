@@ -2,7 +2,6 @@ pub mod Listed
 pub mod Counting
 pub mod CountLists
 pub mod Lists
-pub mod Longer
 pub mod Names
 pub mod NoFloat
 pub mod Reporting

@@ -1,50 +1,26 @@
 -- Counts of the positions of tiers, with one value and remoteness or one position more.
-use Rattle.gm_analyse.proofs.Lower.{◌≡◌, ℕ, ◌<◌, ◌≤◌, ◌+◌, inl, inr, Bool, List, [], ◌∷◌, ◌++◌, length, get_or, Result, Ok, Err, refl, sym, ap, ◌∙◌, subst}
-use Rattle.gm_analyse.proofs.Lower.{cases_eq, Position, Value, Rules, HasValue_once, Among, Count, rank, all_positions, IsCounted, IsNumber, AreCounts}
-use Rattle.gm_analyse.proofs.Lower.{AreCountsBefore, AreNumbers}
+use Rattle.gm_analyse.proofs.Lower.{◌≡◌, ℕ, ◌+◌, inl, inr, Bool, List, [], ◌∷◌, ◌++◌, length, get_or, Result, Ok, Err, sym, ap, ◌∙◌, subst}
+use Rattle.gm_analyse.proofs.Lower.{cases_eq, Position, Value, Rules, HasValue_once, Among, Count, all_positions, IsCounted, IsNumber, AreCounts}
+use Rattle.gm_analyse.proofs.Lower.{AreNumbers}
 use Rattle.std.proofs.Common.{OnOk}
 use Rattle.std.proofs.lemmas.List.{length-append}
+use Rattle.gm_analyse.specs.Listing.{AreBefore}
 use Rattle.gm_analyse.proofs.CountLists as lists
 use Rattle.gm_find.proofs.ListLemmas.{those_once, those_push, those_skip}
 
 module _ (r : Rules) (among : Among) (reached : Bool) (ps : List Position) where
-  abbrev Num : Value → ℕ → ℕ → Type 0
+  abbrev pub Num : Value → ℕ → ℕ → Type 0
   Num v k n = IsNumber r among reached ps v k n
 
-  num_once : (v : Value) (k a b : ℕ) → Num v k a → Num v k b → a ≡ b
+  pub num_once : (v : Value) (k a b : ℕ) → Num v k a → Num v k b → a ≡ b
   num_once v k a b (xs, t, e) (ys, u, f) = sym e ∙ ap length (those_once (IsCounted r among reached v k) ps xs ys t u) ∙ f
 
-  there : (rank k : ℕ) (cs : List Count) → AreCountsBefore r among reached ps rank k cs → lists.AreBefore Num num_once rank k cs
-  there rank k cs h = record { ordered = h.ordered; exact = h.exact }
-
-  back : (rank k : ℕ) (cs : List Count) → lists.AreBefore Num num_once rank k cs → AreCountsBefore r among reached ps rank k cs
-  back rank k cs h = record { ordered = h.ordered; exact = h.exact }
-
-  pub no_counts : AreCountsBefore r among reached ps 0 0 []
-  no_counts = back 0 0 [] (lists.no_counts Num num_once)
-
-  module _ (v : Value) (k : ℕ) (cs : List Count) (old : AreCountsBefore r among reached ps (rank v) k cs) where
-    -- the next remoteness has a count
-    pub with_count : (n : ℕ) → Num v k n → 0 < n → AreCountsBefore r among reached ps (rank v) (k + 1)
-        (cs ++ (record { value = v; remoteness = k; number = n }) ∷ [])
-    with_count n is some = back (rank v) (k + 1) (cs ++ (record { value = v; remoteness = k; number = n }) ∷ [])
-        (lists.with_count Num num_once v k cs (there (rank v) k cs old) n is some)
-
-    -- it has none
-    pub without_count : Num v k 0 → AreCountsBefore r among reached ps (rank v) (k + 1) cs
-    without_count z = back (rank v) (k + 1) cs (lists.without_count Num num_once v k cs (there (rank v) k cs old) z)
-
-    -- no later remoteness has one, so the next value follows
-    pub next_value : ((n : ℕ) → k ≤ n → Num v n 0) → AreCountsBefore r among reached ps (rank v + 1) 0 cs
-    next_value z = back (rank v + 1) 0 cs (lists.next_value Num num_once v k cs (there (rank v) k cs old) z)
-
 -- all values are done
-pub all_counts : (r : Rules) (among : Among) (reached : Bool) (tiers : List ℕ) (cs : List Count) → AreCountsBefore r among reached (all_positions r tiers) 4
-    0 cs → AreCounts r among reached tiers cs
+pub all_counts : (r : Rules) (among : Among) (reached : Bool) (tiers : List ℕ) (cs : List Count) → AreBefore (Num r among reached (all_positions r tiers)) 4 0 cs
+    → AreCounts r among reached tiers cs
 all_counts r among reached tiers cs h = record {
   ordered = h.ordered;
-  exact = lists.all_counts (Num r among reached (all_positions r tiers)) (num_once r among reached (all_positions r tiers)) cs
-      (there r among reached (all_positions r tiers) 4 0 cs h);
+  exact = lists.all_counts (Num r among reached (all_positions r tiers)) (num_once r among reached (all_positions r tiers)) cs h;
 }
 
 -- one position more, which is counted or not
@@ -66,10 +42,6 @@ pub numbers_without : (r : Rules) (among : Among) (reached : Bool) (v : Value) (
     ((n : ℕ) → IsCounted r among reached v n p → ⊥) → AreNumbers r among reached v seen old → AreNumbers r among reached v (seen ++ p ∷ []) old
 numbers_without r among reached v seen p old none h n = let (those, t, l) = h n in
     (those, those_skip (IsCounted r among reached v n) seen those p t (none n), l)
-
--- no position is seen
-pub numbers_none : (r : Rules) (among : Among) (reached : Bool) (v : Value) → AreNumbers r among reached v [] []
-numbers_none r among reached v n = ([], refl, refl)
 
 -- two facts of an Ok
 pub both_ok : {T E : Type 0} (x : Result T E) (P Q S : Type 0) → (P → Q → S) → OnOk x P → OnOk x Q → OnOk x S

@@ -4,7 +4,7 @@ pub use Rattle.gm_analyse.specs.ByTier.{AreTierRows, with_tier}
 pub use Rattle.gm_analyse.specs.Longest.{IsLastAbove}
 pub use Rattle.gm_analyse.specs.LongestWins.{IsLongestWin}
 pub use Rattle.gm_analyse.specs.Numbers.{count_where, has_record, is_legal_at, is_solved, number_in, rank, remoteness_in}
-pub use Rattle.gm_analyse.specs.Totals.{AreCounts, AreCountsBefore, AreNumbers, IsCounted, IsNumber, IsRecordAmong}
+pub use Rattle.gm_analyse.specs.Totals.{AreCounts, AreNumbers, IsCounted, IsNumber, IsRecordAmong}
 pub use Rattle.gm_analyse.specs.Tree.{analysis_tree, count_tree, name_text}
 pub use Rattle.gm_analyse.specs.declared.among.Among.{Among}
 pub use Rattle.gm_analyse.specs.declared.among.Among.TheVariants.{Canonical}

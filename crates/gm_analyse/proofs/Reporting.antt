@@ -83,27 +83,6 @@ pub written_all : {X : Type 0} (f : X → List ℕ) (head : List ℕ) (xs : List
     → all ≡ head ++ flat_map f xs
 written_all f head xs i all past e = e ∙ ap (λ (ys : List _). head ++ flat_map f ys) (take_all i xs past)
 
--- one place more
-pub last_more : (numbers : List ℕ) (i : ℕ) (o : Option ℕ) → IsLastAbove numbers i o → get_or numbers i 0 ≡ 0 → IsLastAbove numbers (i + 1) o
-last_more numbers i None h z = λ n low. elim (cases_lt n i) [
-  | inl l ↦ h n l
-  | inr m ↦
-      (let e : n ≡ i = omega arith in ap (λ (k : ℕ). get_or numbers k 0) e ∙ z)
-]
-last_more numbers i (Some k) h z =
-    let low = h.0 in (
-      omega arith,
-      h.1,
-      λ n past inside. elim (cases_lt n i) [
-        | inl l ↦ h.2 n past l
-        | inr m ↦
-            (let e : n ≡ i = omega arith in ap (λ (j : ℕ). get_or numbers j 0) e ∙ z)
-      ],
-    )
-
-pub last_here : (numbers : List ℕ) (i : ℕ) → 0 < get_or numbers i 0 → IsLastAbove numbers (i + 1) (Some i)
-last_here numbers i some = (omega arith, some, λ n past low. absurd (omega arith))
-
 module _ {A : Type 0} (P : A → Type 0) where
   -- some have the property
   those_some : (xs ys : List A) → AreThose P xs ys → 0 < length ys → (x : A) × Contains xs x × P x

@@ -1,7 +1,6 @@
 -- The counts of a table.
-use Rattle.std.specs.Prelude.{◌≡◌, ℕ, ◌<◌, ◌↔◌, List, Option, length}
-use Rattle.gm_analyse.specs.Lower.{Contains, AllPairs, Solved}
-use Rattle.std.specs.Prelude.{◌⊎◌}
+use Rattle.std.specs.Prelude.{◌≡◌, ℕ, zero, suc, ◌<◌, ◌+◌, ◌↔◌, ◌⊎◌, List, [], ◌∷◌, Option, length}
+use Rattle.gm_analyse.specs.Lower.{Contains, AllPairs, Solved, Value}
 use Rattle.gm_analyse.specs.declared.counts.Count.{Count}
 use Rattle.gm_analyse.specs.Numbers.{rank, number_in}
 
@@ -22,7 +21,13 @@ pub record AreCounts (records : List (Option Solved)) (counts : List Count) : Ty
   pub ordered : AllPairs IsBefore counts
   pub exact : (c : Count) → Contains counts c ↔ IsCount records c
 
--- the counts that come before a value and remoteness
-pub record AreCountsBefore (records : List (Option Solved)) (r k : ℕ) (counts : List Count) : Type 0 where
+-- the counts that come before a value and remoteness, by what it means that so many have a value and remoteness
+pub record AreBefore (IsNumber : Value → ℕ → ℕ → Type 0) (r k : ℕ) (counts : List Count) : Type 0 where
   pub ordered : AllPairs IsBefore counts
-  pub exact : (c : Count) → Contains counts c ↔ (IsCount records c × ComesBefore r k c)
+  pub exact : (c : Count) → Contains counts c ↔ ((IsNumber c.value c.remoteness c.number × (0 < c.number)) × ComesBefore r k c)
+
+-- the counts of a value, by how many have it with each remoteness from this one on
+abbrev pub counted : Value → ℕ → List ℕ → List Count
+counted v k [] = []
+counted v k (zero ∷ ns) = counted v (k + 1) ns
+counted v k (suc n ∷ ns) = (record { value = v; remoteness = k; number = suc n }) ∷ counted v (k + 1) ns

@@ -7,7 +7,7 @@ use Rattle.gm_game.specs.Values.{HasValue, IsTrueValue}
 use Rattle.gm_analyse.specs.declared.among.Among.{Among}
 use Rattle.gm_analyse.specs.declared.among.Among.TheVariants.{Canonical, Legal}
 use Rattle.gm_analyse.specs.declared.counts.Count.{Count}
-use Rattle.gm_analyse.specs.Listing.{IsBefore, ComesBefore}
+use Rattle.gm_analyse.specs.Listing.{IsBefore}
 use Rattle.gm_find.specs.Lists.{AreThose}
 
 -- the positions that are counted: the canonical ones, or all legal ones
@@ -33,11 +33,6 @@ IsCount r among reached ps c = IsNumber r among reached ps c.value c.remoteness 
 pub record AreCounts (r : Rules) (among : Among) (reached : Bool) (tiers : List ℕ) (counts : List Count) : Type 0 where
   pub ordered : AllPairs IsBefore counts
   pub exact : (c : Count) → Contains counts c ↔ IsCount r among reached (all_positions r tiers) c
-
--- the counts of these positions that come before a value and remoteness
-pub record AreCountsBefore (r : Rules) (among : Among) (reached : Bool) (ps : List Position) (rank k : ℕ) (counts : List Count) : Type 0 where
-  pub ordered : AllPairs IsBefore counts
-  pub exact : (c : Count) → Contains counts c ↔ (IsCount r among reached ps c × ComesBefore rank k c)
 
 -- for each remoteness, how many of these positions are counted with this value: none past the end of the list
 abbrev pub AreNumbers : Rules → Among → Bool → Value → List Position → List ℕ → Type 0

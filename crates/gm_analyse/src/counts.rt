@@ -1,7 +1,7 @@
 //! How many positions have each value and remoteness.
-ghost use Rattle.std.specs.Prelude.{◌≡◌, ◌+◌, ◌<◌, ◌≤◌, ℕ, max, length, slice_index_or, vec_len, IfOk, OnOk};
-ghost use Rattle.gm_analyse.specs.Numbers.{remoteness_in as remoteness_in_spec, number_in, rank};
-ghost use Rattle.gm_analyse.specs.Listing.{AreCounts, AreCountsBefore};
+ghost use Rattle.std.specs.Prelude.{◌≡◌, ◌++◌, ◌+◌, ◌<◌, ◌≤◌, ℕ, max, length, slice_index_or, vec_len, IfOk, OnOk};
+ghost use Rattle.gm_analyse.specs.Numbers.{remoteness_in as remoteness_in_spec, number_in};
+ghost use Rattle.gm_analyse.specs.Listing.{AreCounts, counted};
 
 use gm_game::game::Game;
 use gm_game::limits::REMOTENESS;
@@ -48,21 +48,21 @@ pub(crate) fn counts_of<G: Game>(alloc: Global, table: &Table<G>) -> Result<Coun
 {
     let mut counts = Vec::new(alloc);
     for value in [Value::Lose, Value::Draw, Value::Tie, Value::Win] {
-        add_counts(&mut counts, table, value)?;
+        let numbers = numbers_of(alloc, table, value)?;
+        push_counts(&mut counts, value, numbers.as_slice())?;
     }
     Ok(Counts { counts })
 }
 
-// Adds the counts of a value to those of the values before it.
-fn add_counts<G: Game>(
+/// Adds the counts of a value, by how many have it with each remoteness.
+pub(crate) fn push_counts(
     counts: &mut Vec<Count>,
-    table: &Table<G>,
     value: Value,
+    numbers: &[u64],
 ) -> Result<(), AllocError>
-    requires { AreCountsBefore table.now.records (rank value) 0 counts.old.items }
-    ensures { OnOk result (AreCountsBefore table.now.records (rank value + 1) 0 counts.new.items) }
+    requires { length numbers.now ≤ REMOTENESS + 1 }
+    ensures { OnOk result (counts.new.items ≡ counts.old.items ++ counted value 0 numbers.now) }
 {
-    let numbers = numbers_of(*counts.allocator(), table, value)?;
     for (remoteness, number) in numbers.iter().enumerate() {
         if *number > 0 {
             counts.push(Count {

@@ -1,11 +1,9 @@
 //! How many positions of some tiers have each value and remoteness.
-ghost use Rattle.std.specs.Prelude.{◌+◌, IfOk, OnOk, is_some};
-ghost use Rattle.gm_analyse.specs.Lower.{all_positions};
-ghost use Rattle.gm_analyse.specs.Numbers.{rank};
-ghost use Rattle.gm_analyse.specs.Totals.{AreCounts, AreCountsBefore};
+ghost use Rattle.std.specs.Prelude.{IfOk, is_some};
+ghost use Rattle.gm_analyse.specs.Totals.{AreCounts};
 
 use crate::among::Among;
-use crate::counts::Count;
+use crate::counts::{Count, push_counts};
 use crate::numbers::numbers_of;
 use gm_find::reached::Reached;
 use gm_game::game::Game;
@@ -25,32 +23,8 @@ pub fn counts<G: Game>(
 {
     let mut counts = Vec::new(alloc);
     for value in [Value::Lose, Value::Draw, Value::Tie, Value::Win] {
-        add_counts(&mut counts, known, among, value, reached)?;
+        let numbers = numbers_of(alloc, known, among, value, reached)?;
+        push_counts(&mut counts, value, numbers.as_slice())?;
     }
     Ok(counts)
-}
-
-// Adds the counts of a value to those of the values before it.
-fn add_counts<G: Game>(
-    counts: &mut Vec<Count>,
-    known: &KnownTiers<'_, G>,
-    among: Among,
-    value: Value,
-    reached: Option<&Reached<G>>,
-) -> Result<(), AllocError>
-    requires { AreCountsBefore G.rules among (is_some reached) (all_positions G.rules known.now.tiers.now) (rank value) 0 counts.old.items }
-    ensures { OnOk result (AreCountsBefore G.rules among (is_some reached.entry) (all_positions G.rules known.now.tiers.now)
-        (rank value + 1) 0 counts.new.items) }
-{
-    let numbers = numbers_of(*counts.allocator(), known, among, value, reached)?;
-    for (remoteness, number) in numbers.iter().enumerate() {
-        if *number > 0 {
-            counts.push(Count {
-                value,
-                remoteness: remoteness as u32,
-                number: *number,
-            })?;
-        }
-    }
-    Ok(())
 }

@@ -1,19 +1,24 @@
-use Rattle.gm_analyse.proofs.Lower.{IfOk-from_err, ◌≡◌, ◌+◌, ℕ, sym, subst, arith, is_some, all_positions, AreCountsBefore}
-use Rattle.gm_analyse.proofs.CountLists.{rank_listed}
-use Rattle.gm_analyse.proofs.Listed.{all_counts}
+use Rattle.gm_analyse.proofs.Lower.{IfOk-from_err, ◌≡◌, sym, subst, arith, is_some, all_positions}
+use Rattle.gm_analyse.specs.Listing.{AreBefore}
+use Rattle.gm_analyse.proofs.CountLists.{no_counts, value_added}
+use Rattle.gm_analyse.proofs.Listed.{Num, num_once, all_counts}
 use Rattle.gm_analyse.proofs.totals.counts.Goals as goal
 
-pub add_counts-requires : goal.add_counts-requires
-add_counts-requires g c =
+pub loop-value-init : goal.loop-value-init
+loop-value-init g c =
     let r = g.G.Game.rules in
-    subst (λ (n : ℕ). AreCountsBefore r c.args.among (is_some c.args.reached) (all_positions r c.args.known.now.tiers.now) n 0 c.loop-value.counts.items)
-    (sym (rank_listed c.loop-value.value-index _ c.loop-value-test.true)) c.loop-value.invariant
+    let ps = all_positions r c.args.known.now.tiers.now in
+    let num = Num r c.args.among (is_some c.args.reached) ps in
+    subst (AreBefore num 0 0) (sym c.new-counts.ensures.items) (no_counts num (num_once r c.args.among (is_some c.args.reached) ps))
 
 pub loop-value-preserved : goal.loop-value-preserved
 loop-value-preserved g c =
     let r = g.G.Game.rules in
-    subst (λ (n : ℕ). AreCountsBefore r c.args.among (is_some c.args.reached) (all_positions r c.args.known.now.tiers.now) (n + 1) 0
-    c.add_counts.new.counts.items) (rank_listed c.loop-value.value-index _ c.loop-value-test.true) c.in_ok-add_counts.ensures
+    let reached = is_some c.args.reached in
+    let ps = all_positions r c.args.known.now.tiers.now in
+    value_added (Num r c.args.among reached ps) (num_once r c.args.among reached ps) c.loop-value.value-index _ c.loop-value-test.true c.as_slice.result.now
+    _ c.as_slice.ensures.value c.loop-value.counts.items c.push_counts.new.counts.items c.loop-value.invariant c.in_ok-push_counts.ensures
+    c.in_ok-numbers.ensures.numbers
 
 pub returns : goal.returns
 returns g c =
@@ -21,7 +26,10 @@ returns g c =
     let tiers = c.args.known.now.tiers.now in
     let last : c.loop-value.value-index ≡ 4 = omega arith in
     all_counts r c.args.among (is_some c.args.reached) tiers c.loop-value.counts.items
-    (subst (λ n. AreCountsBefore r c.args.among (is_some c.args.reached) (all_positions r tiers) n 0 c.loop-value.counts.items) last c.loop-value.invariant)
+    (subst (λ n. AreBefore (Num r c.args.among (is_some c.args.reached) (all_positions r tiers)) n 0 c.loop-value.counts.items) last c.loop-value.invariant)
 
-pub returns-in_err-add_counts : goal.returns-in_err-add_counts
-returns-in_err-add_counts g c = IfOk-from_err c.from_residual.result _ c.from_residual.ensures.0
+pub returns-in_err-numbers : goal.returns-in_err-numbers
+returns-in_err-numbers g c = IfOk-from_err c.from_residual.result _ c.from_residual.ensures.0
+
+pub returns-in_err-push_counts : goal.returns-in_err-push_counts
+returns-in_err-push_counts g c = IfOk-from_err c.from_residual-in_err-push_counts.result _ c.from_residual-in_err-push_counts.ensures.0
