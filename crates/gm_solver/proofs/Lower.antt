@@ -40,7 +40,6 @@ pub use Rattle.gm_solver.specs.Split.{AreSplit}
 pub use Rattle.gm_solver.specs.Tiling.{AreShardsAt, tile_at}
 pub use Rattle.gm_table.proofs.Dealt.{EachAt, append_cases, one_at, zip_whole}
 pub use Rattle.gm_table.specs.Dealing.{block_in}
-pub use Rattle.gm_table.specs.Hands.{AreAtHand}
 pub use Rattle.gm_table.specs.Solving.{AreDeliveries, IsDelivery, IsTooFar}
 pub use Rattle.gm_table.specs.Tables.{AreHeld, AreTables, TableData, table_of, value_in}
 pub use Rattle.gm_table.specs.Words.{is_decided}

@@ -1,5 +1,5 @@
 -- Four tiles of a tier: every index is in one, and what is known of each is known of the tier.
-use Rattle.std.proofs.Common.{◌≡◌, ℕ, zero, suc, ◌+◌, ◌*◌, ◌<◌, ◌≤◌, inl, inr, min, List, [], ◌++◌, length, replicate, Option, Some, slice_get, sym}
+use Rattle.std.proofs.Common.{◌≡◌, ℕ, zero, suc, ◌+◌, ◌<◌, ◌≤◌, inl, inr, List, [], ◌++◌, length, replicate, Option, Some, slice_get, sym}
 use Rattle.std.proofs.Common.{ap, ap₂, subst, ◌∙◌, refl, arith}
 use Rattle.gm_solver.proofs.Lower.{cases_lt, length-replicate, REMOTENESS, Position, Phase, Ties, WinLose, Place, Solved, Rules, IsTrueTable, StandsBefore}
 use Rattle.gm_solver.proofs.Lower.{IsPairInto, IsNumberBefore, ShardState, pairs_in, first_state, IsGood, place_of, ArePart, Spot, spot_of, choose, HasNoneHere}

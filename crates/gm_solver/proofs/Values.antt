@@ -1,13 +1,10 @@
 -- The value of a position whose canonical children the tables know.
-use Rattle.std.proofs.Common.{◌≡◌, ℕ, ◌+◌, ◌<◌, ◌≤◌, suc, ◌==◌, ◌↔◌, ◌⊎◌, inl, inr, eqb-true, if◌then◌else◌, Bool, true, false, not, List, [], ◌∷◌, ◌++◌}
-use Rattle.std.proofs.Common.{length, map, take, get_or, filter, replicate, option_copied, Option, None, Some, IfSome, refl, sym, ap, subst, ◌∙◌, arith}
-use Rattle.gm_solver.proofs.Lower.{Contains, take_more, take_all, length-map, Contains-push_cases, REMOTENESS, Position, Solved, Draw, Rules, at, IsCanonical}
-use Rattle.gm_solver.proofs.Lower.{IsInner, IsCanonicalChild, IsGame, HasValue, IsTrueValue, IsRecord, HasValue_once, contains_none, contains_first, Summary}
-use Rattle.gm_solver.proofs.Lower.{TableData, table_of, AreHeld, value_in, AreAtHand, IsTooFar, is_decided}
-use Rattle.std.proofs.lemmas.Option.{same_Some}
-use Rattle.std.proofs.lemmas.List.{map-append, map_more, length-take, get_or-replicate}
+use Rattle.std.proofs.Common.{◌≡◌, ℕ, ◌+◌, ◌<◌, ◌≤◌, suc, ◌↔◌, inl, inr, Bool, true, false, not, List, [], ◌∷◌}
+use Rattle.std.proofs.Common.{length, map, filter, Option, None, Some, IsSome, IfSome, refl, sym, ap, subst, ◌∙◌, arith}
+use Rattle.gm_solver.proofs.Lower.{Contains, REMOTENESS, Position, Solved, Draw, Rules, at, IsCanonical}
+use Rattle.gm_solver.proofs.Lower.{IsInner, IsCanonicalChild, IsGame, HasValue, IsTrueValue, IsRecord, HasValue_once, contains_first, Summary}
+use Rattle.gm_solver.proofs.Lower.{TableData, table_of, AreHeld, value_in, IsTooFar, is_decided}
 use Rattle.std.proofs.lemmas.List.Filters.{length-filter_both}
-use Rattle.std.proofs.lemmas.List.Elements.{Contains-get_or}
 use Rattle.gm_game.specs.declared.position.Value.{Value}
 use Rattle.gm_game.specs.declared.position.Value.TheVariants.{Lose, Tie, Win}
 use Rattle.gm_game.specs.Children.{AreResults}
@@ -16,8 +13,11 @@ use Rattle.gm_game.proofs.Lists.{contains_later}
 use Rattle.gm_game.proofs.Sets.{settled_by_list}
 use Rattle.gm_game.proofs.Settled.{known_since, known_record, value_from_children}
 use Rattle.gm_game.proofs.Symmetry.{near_child}
-use Rattle.gm_table.specs.Tables.{record_at, record_in}
-use Rattle.gm_table.specs.Words.{record_of_word}
+use Rattle.gm_table.specs.Caches.{CacheData, IsSumOf, other_record, other_table}
+use Rattle.gm_table.specs.Tables.{AreTables, record_at, record_in, record_of}
+use Rattle.gm_table.proofs.CacheLemmas.{map_same, other_held, other_none}
+use Rattle.gm_table.proofs.CheckLemmas.{found_tier}
+use Rattle.gm_table.proofs.ValueLemmas.{record_is}
 use Rattle.gm_solver.specs.Gathered.{IsGathered}
 
 -- bounds on what children say
@@ -50,31 +50,6 @@ tied_by Draw n l = tt
 tied_by Tie n l = l
 tied_by Win n l = tt
 
--- the tables know these positions, and their records have these words
-pub record AreRead (r : Rules) (entries : List TableData) (cs : List Position) (ws : List ℕ) : Type 0 where
-  pub known : (c : Position) → Contains cs c → IsKnown r (value_in r entries) c
-  pub near : (c : Position) → Contains cs c → IfSome (value_in r entries c) (λ s. s.remoteness ≤ REMOTENESS)
-  pub words : map record_of_word ws ≡ map (value_in r entries) cs
-
--- before the first child
-pub read_none : (r : Rules) (entries : List TableData) (cs : List Position) (ws : List ℕ) → ws ≡ [] → AreRead r entries (take 0 cs) ws
-read_none r entries cs ws e = record { known = λ d h. absurd (contains_none d h); near = λ d h. absurd (contains_none d h); words = ap (map record_of_word) e }
-
--- the table that is found for a tier is the tier's
-pub found_tier : (entries : List TableData) (tier : ℕ) (t : TableData) → table_of entries tier ≡ Some t → t.tier ≡ tier
-found_tier [] tier t e = absurd (cc)
-found_tier (x ∷ xs) tier t e = go (x.tier == tier) refl e (found_tier xs tier t)
-  where
-    go : (b : Bool) → (x.tier == tier) ≡ b → (if b then Some x else table_of xs tier) ≡ Some t → (table_of xs tier ≡ Some t → t.tier ≡ tier) → t.tier ≡ tier
-    go true q s rest = let same = same_Some x t s in subst (λ (u : TableData). u.tier ≡ tier) same (eqb-true x.tier tier q)
-    go false q s rest = rest s
-
--- at first no table is at hand
-pub none_at_hand : (entries : List TableData) → AreAtHand entries (replicate 8 None)
-none_at_hand entries k l t e =
-    let none : option_copied (get_or (replicate 8 None) k None) ≡ None = ap option_copied (get_or-replicate 8 k None None l) in
-    let same : None ≡ Some t = sym none ∙ e in absurd (cc)
-
 -- what the tables say of a canonical position, read in the table of its tier
 module _ (r : Rules) (entries : List TableData) (c : Position) (canonical : IsCanonical r c) (t : TableData) (held : table_of entries c.tier ≡ Some t)
     (o : Option Solved) (o_is : o ≡ record_at t.records c.index)
@@ -100,26 +75,6 @@ module _ (r : Rules) (entries : List TableData) (c : Position) (canonical : IsCa
 
   pub child_known : IsKnown r (value_in r entries) c
   child_known = let (s, e, is, near) = child_some in known_since r (value_in r entries) c s (child_value ∙ e) is
-
--- one child more
-module _ (r : Rules) (entries : List TableData) (cs : List Position) (i : ℕ) (d : Position) (inside : i < length cs) (ws new : List ℕ) (w : ℕ) (s : Solved)
-    (some : record_of_word w ≡ Some s) (near : s.remoteness ≤ REMOTENESS)
-    (value : value_in r entries (get_or cs i d) ≡ record_of_word w) (known : IsKnown r (value_in r entries) (get_or cs i d))
-    (old : AreRead r entries (take i cs) ws) where
-  near_here : IfSome (value_in r entries (get_or cs i d)) (λ x. x.remoteness ≤ REMOTENESS)
-  near_here = subst (λ (o : Option Solved). IfSome o (λ x. x.remoteness ≤ REMOTENESS)) (sym (value ∙ some)) near
-
-  among : (q : Position) → Contains (take (i + 1) cs) q → Contains (take i cs) q ⊎ (get_or cs i d ≡ q)
-  among q h = Contains-push_cases (take i cs) (get_or cs i d) q (subst (λ (ps : List Position). Contains ps q) (take_more cs i d inside) h)
-
-  pub read_more : new ≡ ws ++ w ∷ [] → AreRead r entries (take (i + 1) cs) new
-  read_more is = record {
-    known = λ q h. elim (among q h) [ inl k ↦ old.known q k | inr k ↦ subst (λ (p : Position). IsKnown r (value_in r entries) p) k known ];
-    near = λ q h. elim (among q h)
-        [ inl k ↦ old.near q k | inr k ↦ subst (λ (p : Position). IfSome (value_in r entries p) (λ x. x.remoteness ≤ REMOTENESS)) k near_here ];
-    words = ap (map record_of_word) is ∙ map-append record_of_word ws (w ∷ []) ∙ ap (λ (os : List (Option Solved)). os ++ record_of_word w ∷ []) old.words
-        ∙ ap (λ (o : Option Solved). map (value_in r entries) (take i cs) ++ o ∷ []) (sym value) ∙ sym (map_more (value_in r entries) cs i d inside);
-  }
 
 -- what near records say is near
 lost_near : (o : Option Solved) → IfSome o (λ s. s.remoteness ≤ REMOTENESS) → IfSome (lost_in o) (λ n. n ≤ REMOTENESS)
@@ -158,24 +113,50 @@ module _ (look : Position → Option Solved) where
       go true e same = rw (e, filter) (ap suc same)
       go false e same = rw (e, filter) same
 
--- what the words of all children say
-pub gathered_read : (r : Rules) (entries : List TableData) (cs : List Position) (ws : List ℕ) (seen : Summary) (number : ℕ) → AreRead r entries cs ws
-    → seen.lost ≡ least_of lost_in (map record_of_word ws) → seen.won ≡ all_won (map record_of_word ws)
-    → seen.tied ≡ least_of tied_in (map record_of_word ws) → number ≡ length (filter is_decided (map record_of_word ws)) → IsGathered r entries cs seen number
-gathered_read r entries cs ws seen number read a b c e =
-    let look = value_in r entries in
-    let lost : seen.lost ≡ least_of lost_in (map look cs) = a ∙ ap (least_of lost_in) read.words in
-    let won : seen.won ≡ all_won (map look cs) = b ∙ ap all_won read.words in
-    let tied : seen.tied ≡ least_of tied_in (map look cs) = c ∙ ap (least_of tied_in) read.words in
+-- what the cached tables say of a canonical child
+module _ (r : Rules) (g : IsGame r) (c : CacheData) (tables : AreTables r c.tables) (p : Position) (cs : List Position) (legal : r.is_legal p ≡ true)
+    (are : AreResults r p cs) (q : Position) (h : Contains cs q) (some : IsSome (other_table c q.tier)) where
+  abbrev pub IsSaid : Type 0
+  IsSaid = (other_record c q ≡ value_in r c.tables q) × IsKnown r (value_in r c.tables) q × IfSome (value_in r c.tables q) (λ s. s.remoteness ≤ REMOTENESS)
+
+  pub said : IsSaid
+  said = go (other_table c q.tier) refl some
+    where
+      go : (o : Option TableData) → other_table c q.tier ≡ o → IsSome o → IsSaid
+      go None e k = absurd (cc)
+      go (Some t) e k =
+          let canonical = (near_child r g p.tier p q refl legal ((are q).0 h)).0 in
+          let held = other_held c q.tier t e in
+          let o = record_at t.records q.index in
+          let true_here = record_is r g t q.index (tables q.tier t held).1 in
+          let (s, is, value, near) = child_some r c.tables q canonical t held o refl true_here in
+          let same = child_value r c.tables q canonical t held o refl true_here in (
+            ap (λ (x : Option TableData). record_of x q.index) e ∙ sym same,
+            child_known r c.tables q canonical t held o refl true_here,
+            subst (λ (x : Option Solved). IfSome x (λ s. s.remoteness ≤ REMOTENESS)) (sym (same ∙ is)) near,
+          )
+
+-- what the cached tables say of all children
+pub gathered_sum : (r : Rules) (g : IsGame r) (c : CacheData) → AreTables r c.tables → (p : Position) (cs : List Position) (seen : Summary) (number : ℕ)
+    → r.is_legal p ≡ true → AreResults r p cs → IsSumOf c cs seen number → IsGathered r c.tables cs seen number
+gathered_sum r g c tables p cs seen number legal are sum =
+    let look = value_in r c.tables in
+    let each : (q : Position) → Contains cs q → (other_record c q ≡ look q) × IsKnown r look q × IfSome (look q) (λ s. s.remoteness ≤ REMOTENESS) =
+    λ q h. said r g c tables p cs legal are q h (sum.held q h) in
+    let near : (q : Position) → Contains cs q → IfSome (look q) (λ s. s.remoteness ≤ REMOTENESS) = λ q h. (each q h).2 in
+    let all : map (other_record c) cs ≡ map look cs = map_same (other_record c) look cs (λ q h. (each q h).0) in
+    let lost : seen.lost ≡ least_of lost_in (map look cs) = sum.lost ∙ ap (least_of lost_in) all in
+    let won : seen.won ≡ all_won (map look cs) = sum.won ∙ ap all_won all in
+    let tied : seen.tied ≡ least_of tied_in (map look cs) = sum.tied ∙ ap (least_of tied_in) all in
     record {
-      known = read.known;
+      known = λ q h. (each q h).1;
       lost = lost;
       won = won;
       tied = tied;
-      near_lost = subst (λ (x : Option ℕ). IfSome x (λ n. n ≤ REMOTENESS)) (sym lost) (least_near look lost_in lost_near cs read.near);
-      near_won = subst (λ (x : Option ℕ). IfSome x (λ n. n ≤ REMOTENESS)) (sym won) (all_won_near look cs read.near);
-      near_tied = subst (λ (x : Option ℕ). IfSome x (λ n. n ≤ REMOTENESS)) (sym tied) (least_near look tied_in tied_near cs read.near);
-      decided = e ∙ ap (λ (os : List (Option Solved)). length (filter is_decided os)) read.words ∙ filter_mapped look is_decided cs;
+      near_lost = subst (λ (x : Option ℕ). IfSome x (λ n. n ≤ REMOTENESS)) (sym lost) (least_near look lost_in lost_near cs near);
+      near_won = subst (λ (x : Option ℕ). IfSome x (λ n. n ≤ REMOTENESS)) (sym won) (all_won_near look cs near);
+      near_tied = subst (λ (x : Option ℕ). IfSome x (λ n. n ≤ REMOTENESS)) (sym tied) (least_near look tied_in tied_near cs near);
+      decided = sum.decided ∙ ap (λ (os : List (Option Solved)). length (filter is_decided os)) all ∙ filter_mapped look is_decided cs;
     }
 
 -- whether a known position is no draw
@@ -212,30 +193,18 @@ too_far r p s inner is far near =
     let n : s.remoteness ≡ REMOTENESS + 1 = omega arith in
     record { index = p.index; canonical = (inner.legal, inner.canonical); value = s.value; far = subst (HasValue r p s.value) n is }
 
--- a canonical child whose tier isn't held is in the tier itself
-pub own_tier : (r : Rules) (g : IsGame r) (entries : List TableData) (p c : Position) → r.is_legal p ≡ true → AreHeld r entries p.tier → IsCanonicalChild r p c
-    → table_of entries c.tier ≡ None → c.tier ≡ p.tier
-own_tier r g entries p c legal held child none = elim (near_child r g p.tier p c refl legal child).1 [
-  | inl e ↦ e
-  | inr k ↦ (let some = held c.tier k in absurd (cc))
-]
-
--- one child of a list of canonical children, by what its table says
-module _ (r : Rules) (g : IsGame r) (entries : List TableData) (p : Position) (cs : List Position) (i : ℕ) (d : Position) (legal : r.is_legal p ≡ true)
-    (are : AreResults r p cs) (inside : i < length cs) where
-  pub listed_child : IsCanonicalChild r p (get_or cs i d)
-  listed_child = (are (get_or cs i d)).0 (Contains-get_or cs i d inside)
-
-  pub read_step : (ws new : List ℕ) (w : ℕ) (t : TableData) → Some t ≡ table_of entries (get_or cs i d).tier
-      → record_of_word w ≡ record_at t.records (get_or cs i d).index
-      → IsRecord r REMOTENESS (IsTrueValue r) (at t.tier (get_or cs i d).index) (record_of_word w) → new ≡ ws ++ w ∷ [] → AreRead r entries (take i cs) ws
-      → AreRead r entries (take (i + 1) cs) new
-  read_step ws new w t held record_is true_here is old =
-      let c = get_or cs i d in
-      let canonical = (near_child r g p.tier p c refl legal listed_child).0 in
-      let (s, some, value, near) = child_some r entries c canonical t (sym held) (record_of_word w) record_is true_here in
-      read_more r entries cs i d inside ws new w s some near (child_value r entries c canonical t (sym held) (record_of_word w) record_is true_here)
-      (child_known r entries c canonical t (sym held) (record_of_word w) record_is true_here) old is
+-- a canonical child without a cached table is in the tier itself
+pub stays : (r : Rules) (g : IsGame r) (c : CacheData) (p : Position) (cs : List Position) → r.is_legal p ≡ true → AreHeld r c.tables p.tier → c.tier ≡ p.tier
+    → AreResults r p cs → (q : Position) × Contains cs q × (other_table c q.tier ≡ None) → (q : Position) × IsCanonicalChild r p q × (q.tier ≡ p.tier)
+stays r g c p cs legal held own are (q, h, none) =
+    let child = (are q).0 h in (
+      q,
+      child,
+      elim (other_none c q.tier none) [
+        | inl e ↦ e ∙ own
+        | inr without ↦ elim (near_child r g p.tier p q refl legal child).1 [ inl e ↦ e | inr k ↦ (let some = held q.tier k in absurd (cc)) ]
+      ],
+    )
 
 -- those that are no draws are no more than there are
 pub number_few : (r : Rules) (entries : List TableData) (ds : List Position) (seen : Summary) (number : ℕ) → IsGathered r entries ds seen number
@@ -244,15 +213,3 @@ number_few r entries ds seen number h =
     let some = length-filter_both (λ c. is_decided (value_in r entries c)) (λ c. not (is_decided (value_in r entries c))) (λ c. refl) ds in
     let count = h.decided in
     omega arith
-
--- there are as many words as children that were read
-pub words_few : (r : Rules) (entries : List TableData) (cs : List Position) (i : ℕ) (ws : List ℕ) → AreRead r entries (take i cs) ws → length ws ≤ i
-words_few r entries cs i ws h =
-    let many : length ws ≡ length (take i cs) = sym (length-map ws record_of_word) ∙ ap length h.words ∙ length-map (take i cs) (value_in r entries) in
-    let taken = length-take i cs in
-    omega arith
-
--- the whole list is its part up to its length
-pub read_all : (r : Rules) (entries : List TableData) (cs : List Position) (i : ℕ) (ws : List ℕ) → length cs ≤ i → AreRead r entries (take i cs) ws
-    → AreRead r entries cs ws
-read_all r entries cs i ws past h = subst (λ (ds : List Position). AreRead r entries ds ws) (take_all i cs past) h

@@ -18,7 +18,6 @@ pub use Rattle.gm_locks.specs.Pieces.{IsReadyFor}
 pub use Rattle.gm_locks.specs.Rounds.{HasNoneHere, IsLevelAt, pairs_into}
 pub use Rattle.gm_locks.specs.Spots.{choose, spot_of}
 pub use Rattle.gm_table.specs.Dealing.{block_in}
-pub use Rattle.gm_table.specs.Hands.{AreAtHand}
 pub use Rattle.gm_table.specs.Solving.{AreDeliveries, IsTooFar}
 pub use Rattle.gm_table.specs.Tables.{AreHeld, IsTable}
 pub use Rattle.std.specs.Int.{div_ceil}

@@ -1,6 +1,6 @@
 //! One position of a tier.
-ghost use Rattle.std.specs.Prelude.{◌≡◌, ◌≤◌, ◌+◌, length, None, Some, IfOk, IfErr, IfSome};
-ghost use Rattle.gm_solver.specs.Lower.{MOVES, REMOTENESS, AreThere, AreResults, AreAtHand, AreHeld};
+ghost use Rattle.std.specs.Prelude.{◌≡◌, ◌≤◌, ◌+◌, None, Some, IfOk, IfErr, IfSome};
+ghost use Rattle.gm_solver.specs.Lower.{MOVES, REMOTENESS, AreThere, AreResults, AreHeld};
 ghost use Rattle.gm_game.specs.Records.{settle, IsRecord};
 ghost use Rattle.gm_game.specs.Rules.{IsCanonical, IsInner};
 ghost use Rattle.gm_game.specs.Values.{IsTrueValue};
@@ -15,10 +15,8 @@ use gm_game::evaluate::of_end;
 use gm_game::game::Game;
 use gm_game::limits::{MOVES, REMOTENESS};
 use gm_game::position::{End, Position, Solved, Value};
-use gm_table::hand::SLOTS;
+use gm_table::cache::TableCache;
 use gm_table::summary::Summary;
-use gm_table::table::Table;
-use gm_table::tables::Tables;
 
 /// Lists that serve many positions: of one its results, in any order and as often as moves lead to them, each of them once, and the words
 /// of their records.
@@ -56,8 +54,7 @@ impl Lists {
 /// Returns the record of a canonical legal position, and how many of its canonical children are no draws. The game has ended there, or else goes on to the
 /// results that the lists hold. Children are written over the other contents of the lists.
 pub(crate) fn settle_position<'a, G: Game>(
-    tables: &'a Tables<G>,
-    hand: &mut [Option<&'a Table<G>>],
+    cache: &mut TableCache<'a, G>,
     lists: &mut Lists,
     p: Position,
     end: Option<End>,
@@ -65,41 +62,36 @@ pub(crate) fn settle_position<'a, G: Game>(
     requires canonical { IsCanonical G.rules p }
     requires end { G.rules.primitive p ≡ end }
     requires results { end ≡ None → AreResults G.rules p lists.old.results.items }
-    requires held { AreHeld G.rules tables.now p.tier }
-    requires long { length hand.old ≡ SLOTS }
-    requires at_hand { AreAtHand tables.now hand.old }
+    requires held { AreHeld G.rules cache.old.tables p.tier }
+    requires own { cache.old.tier ≡ p.tier }
     ensures record { IfOk result (λ found. IsRecord G.rules REMOTENESS (IsTrueValue G.rules) p (Some found.0)) }
     ensures number { IfOk result (λ found. AreThere found.1 (IsDeliveryIn G.rules p.tier p.index (p.index + 1))) }
     ensures few { IfOk result (λ found. found.1 ≤ MOVES) }
     ensures stop { IfErr result (IsStop G.rules p.tier) }
-    ensures long { length hand.new ≡ SLOTS }
-    ensures at_hand { AreAtHand tables.now hand.new }
+    ensures same { cache.new ≡ cache.old }
 {
     match end {
         Some(end) => Ok((of_end(end), 0)),
-        None => settle_inner::<G>(tables, hand, lists, p),
+        None => settle_inner::<G>(cache, lists, p),
     }
 }
 
 // Returns the value of a position at which the game goes on, and how many of its canonical children are no draws.
 fn settle_inner<'a, G: Game>(
-    tables: &'a Tables<G>,
-    hand: &mut [Option<&'a Table<G>>],
+    cache: &mut TableCache<'a, G>,
     lists: &mut Lists,
     p: Position,
 ) -> Result<(Solved, u64), Stop>
     requires inner { IsInner G.rules p }
     requires results { AreResults G.rules p lists.old.results.items }
-    requires held { AreHeld G.rules tables.now p.tier }
-    requires long { length hand.old ≡ SLOTS }
-    requires at_hand { AreAtHand tables.now hand.old }
+    requires held { AreHeld G.rules cache.old.tables p.tier }
+    requires own { cache.old.tier ≡ p.tier }
     ensures value { IfOk result (λ found. IsTrueValue G.rules p found.0) }
     ensures near { IfOk result (λ found. found.0.remoteness ≤ REMOTENESS) }
     ensures number { IfOk result (λ found. AreThere found.1 (IsDeliveryIn G.rules p.tier p.index (p.index + 1))) }
     ensures few { IfOk result (λ found. found.1 ≤ MOVES) }
     ensures stop { IfErr result (IsStop G.rules p.tier) }
-    ensures long { length hand.new ≡ SLOTS }
-    ensures at_hand { AreAtHand tables.now hand.new }
+    ensures same { cache.new ≡ cache.old }
 {
     lists.list_children::<G>(p);
     let Lists {
@@ -107,7 +99,7 @@ fn settle_inner<'a, G: Game>(
         children,
         words,
     } = lists;
-    let (seen, number) = match gather::<G>(tables, hand, p, children.as_slice(), words) {
+    let (seen, number) = match gather::<G>(cache, p, children.as_slice(), words) {
         Some(found) => found,
         None => return Err(Stop::Stays),
     };

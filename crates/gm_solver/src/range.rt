@@ -8,7 +8,7 @@ use crate::stop::Stop;
 use gm_game::game::Game;
 use gm_game::limits::TIER_SIZE;
 use gm_game::position::Position;
-use gm_table::hand::SLOTS;
+use gm_table::cache::TableCache;
 use gm_table::packed::Packed;
 use gm_table::tables::Tables;
 use std::alloc::Global;
@@ -33,13 +33,12 @@ pub(crate) fn settle_range<G: Game>(
     let mut records = Packed::with_capacity(alloc, (hi - lo) as usize)?;
     let mut number = 0;
     let mut lists = Lists::new();
-    let mut hand = [None; SLOTS];
+    let mut cache = TableCache::new(tables, tier);
     let mut next = lo;
     while let Some((index, end)) = G::first_results(tier, next, hi, &mut lists.results) {
         records.push_none((index - next) as usize)?;
         let (solved, more) = settle_position::<G>(
-            tables,
-            &mut hand,
+            &mut cache,
             &mut lists,
             Position { tier, index },
             end,

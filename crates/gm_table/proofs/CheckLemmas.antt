@@ -4,7 +4,7 @@ use Rattle.std.proofs.Common.{map, take, length, get_or, refl, sym, ap, ◌∙�
 use Rattle.gm_table.proofs.Lower.{is_some, map-append, map_more, take_all, length-map, length-take, cases_eq, same_Some, slice_get-get_or, slice_get_within}
 use Rattle.gm_table.proofs.Lower.{Contains-get_or, Position, End, Solved, Rules, at, IsCanonical, IsGame, AreResults, lost_in, tied_in, least_of, all_won}
 use Rattle.gm_table.proofs.Lower.{settle, settled_by, from_end, near_child, settled_by_list, TableData, table_of, record_at, record_of, record_in, value_in}
-use Rattle.gm_table.proofs.Lower.{IsAtHand, record_of_word, look_up, RecordFits, FitsAt, IsFirstWrong, IsFirstWrongIn, FitBetween}
+use Rattle.gm_table.proofs.Lower.{record_of_word, look_up, RecordFits, FitsAt, IsFirstWrong, IsFirstWrongIn, FitBetween}
 
 -- one child's word more
 pub words_more : (look : Position → Option Solved) (cs : List Position) (ws new : List ℕ) (i w : ℕ) (d : Position) → i < length cs → map record_of_word ws ≡
@@ -97,16 +97,10 @@ module _ (r : Rules) (entries : List TableData) (tier : ℕ) (records : List (Op
       read (Some u) q = sym (ap (λ (y : Option TableData). elim y [ None ↦ None | Some v ↦ record_at v.records c.index ]) q)
 
 -- the table that is found for a tier is the tier's
-found_tier : (entries : List TableData) (tier : ℕ) (t : TableData) → table_of entries tier ≡ Some t → t.tier ≡ tier
+pub found_tier : (entries : List TableData) (tier : ℕ) (t : TableData) → table_of entries tier ≡ Some t → t.tier ≡ tier
 found_tier [] tier t e = absurd (cc)
 found_tier (x ∷ xs) tier t e = go (x.tier == tier) refl e (found_tier xs tier t)
   where
     go : (b : Bool) → (x.tier == tier) ≡ b → (if b then Some x else table_of xs tier) ≡ Some t → (table_of xs tier ≡ Some t → t.tier ≡ tier) → t.tier ≡ tier
     go true q s rest = let same = same_Some x t s in subst (λ (u : TableData). u.tier ≡ tier) same (eqb-true x.tier tier q)
     go false q s rest = rest s
-
--- so it can be at hand
-pub at_hand_found : (entries : List TableData) (tier : ℕ) (o : Option TableData) → o ≡ table_of entries tier → IsAtHand entries o
-at_hand_found entries tier o e t s =
-    let there : table_of entries tier ≡ Some t = sym e ∙ s in
-    ap (table_of entries) (found_tier entries tier t there) ∙ there

@@ -1,4 +1,5 @@
 pub mod BlockLemmas
+pub mod CacheLemmas
 pub mod CheckLemmas
 pub mod Dealt
 pub mod LevelLemmas
@@ -11,6 +12,5 @@ pub mod NumberLemmas
 pub mod PackedLemmas
 pub mod WordLemmas
 pub mod VerdictLemmas
-mod HandLemmas
 pub mod Lower
 pub mod CodeLemmas

@@ -1,5 +1,5 @@
 -- Records that are packed one by one.
-use Rattle.std.proofs.Common.{◌≡◌, ℕ, ◌+◌, ◌<◌, ◌≤◌, List, [], ◌∷◌, ◌++◌, Option, length, map, take, get_or, ap, ◌∙◌, sym}
+use Rattle.std.proofs.Common.{◌≡◌, ℕ, zero, suc, ◌+◌, ◌<◌, ◌≤◌, List, [], ◌∷◌, ◌++◌, Option, None, length, map, take, replicate, get_or, refl, ap, ◌∙◌, sym}
 use Rattle.gm_table.proofs.Lower.{map-append, take_more, take_all, map-map, slice_get-get_or, Solved, wide, unpacked, IsNear, AreNear}
 
 -- the record at an index is near
@@ -22,3 +22,12 @@ packed_all numbers records i past e = e ∙ take_all i records past
 -- short forms are widened and read in one step
 pub packed_short : (shorts : List ℕ) → map unpacked (map wide shorts) ≡ map (λ (short : ℕ). unpacked (wide short)) shorts
 packed_short shorts = map-map unpacked wide shorts
+
+-- zeros are numbers of no record
+unpacked_zeros : (n : ℕ) → map unpacked (replicate n 0) ≡ replicate n None
+unpacked_zeros zero = refl
+unpacked_zeros (suc n) = ap (λ (os : List (Option Solved)). None ∷ os) (unpacked_zeros n)
+
+-- zeros behind numbers
+pub unpacked_more_zeros : (n : ℕ) (xs : List ℕ) → map unpacked (xs ++ replicate n 0) ≡ map unpacked xs ++ replicate n None
+unpacked_more_zeros n xs = map-append unpacked xs (replicate n 0) ∙ ap (λ (os : List (Option Solved)). map unpacked xs ++ os) (unpacked_zeros n)

@@ -1,12 +1,13 @@
 pub mod Checks
 pub mod Dealing
-pub mod Hands
+pub mod Caches
 pub mod Levels
 pub mod Numbers
 pub mod Packed
 pub mod Runs
 pub mod Outlines
 pub mod Solving
+pub mod Shorts
 pub mod Tables
 pub mod Words
 pub mod Lower

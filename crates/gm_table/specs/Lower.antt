@@ -6,7 +6,7 @@ pub use Rattle.gm_game.specs.Records.{Fits, IsRecord, IsTrueTable, all_won, grea
 pub use Rattle.gm_game.specs.Records.{won_in}
 pub use Rattle.gm_game.specs.Rules.{AreHoles, IsAscending, IsCanonical, IsInner, IsParent, Rules, at}
 pub use Rattle.gm_game.specs.Values.{HasValue, IsTrueValue}
-pub use Rattle.gm_game.specs.declared.limits.TheConstants.{REMOTENESS, TIER_SIZE}
+pub use Rattle.gm_game.specs.declared.limits.TheConstants.{MOVES, REMOTENESS, TIER_SIZE}
 pub use Rattle.gm_game.specs.declared.position.Phase.{Phase}
 pub use Rattle.gm_game.specs.declared.position.Phase.TheVariants.{Ties, WinLose}
 pub use Rattle.gm_game.specs.declared.position.Position.{Position}

@@ -41,10 +41,6 @@ IsHeld entries tier = IsSome (table_of entries tier)
 abbrev pub AreHeld : Rules → List TableData → ℕ → Type 0
 AreHeld r entries tier = (child : ℕ) → Contains (r.child_tiers tier) child → IsHeld entries child
 
--- a table that is at hand is the one of its tier
-abbrev pub IsAtHand : List TableData → Option TableData → Type 0
-IsAtHand entries o = (t : TableData) → o ≡ Some t → table_of entries t.tier ≡ Some t
-
 -- the record at an index of a table, if there is one
 abbrev pub record_of : Option TableData → ℕ → Option Solved
 record_of None index = None

@@ -1,19 +1,19 @@
 //! Records checked by as many threads as there are processors.
 ghost use Rattle.std.specs.Prelude.{◌≡◌, ◌↔◌, ◌<◌, ◌≤◌, ℕ, min, length, IsTrue, None, MatchOption};
 ghost use Rattle.gm_table.specs.Lower.{AreResults, AreHoles, IsCanonical, at, TIER_SIZE};
-ghost use Rattle.gm_table.specs.Hands.{AreAtHand};
+ghost use Rattle.gm_table.specs.Caches.{cache_of};
 ghost use Rattle.gm_table.specs.Checks.{FitsAt, IsFirstWrong, IsFirstWrongIn, IsFirstOfBlock};
 ghost use Rattle.gm_table.specs.Dealing.{block_in};
 
+use crate::cache::TableCache;
 use crate::dealing::Dealing;
 use crate::fits::{Lists, fits};
-use crate::hand::SLOTS;
 use crate::records::Records;
-use crate::table::Table;
 use crate::tables::Tables;
 use gm_game::game::Game;
 use gm_game::limits::TIER_SIZE;
 use gm_game::position::{End, Position};
+use rayon::current_num_threads;
 use rayon::prelude::*;
 use std::thread::Threads;
 
@@ -52,7 +52,7 @@ impl<'a, G: Game, C: Records> Given<'a, G, C> {
     // hold.
     fn fits_at(
         &self,
-        hand: &mut [Option<&'a Table<G>>],
+        cache: &mut TableCache<'a, G>,
         lists: &mut Lists,
         index: usize,
         end: Option<End>,
@@ -61,21 +61,17 @@ impl<'a, G: Game, C: Records> Given<'a, G, C> {
         requires canonical { IsCanonical G.rules (at self.now.tier index) }
         requires end { G.rules.primitive (at self.now.tier index) ≡ end }
         requires results { end ≡ None → AreResults G.rules (at self.now.tier index) lists.old.results.items }
-        requires long { length hand.old ≡ SLOTS }
-        requires at_hand { AreAtHand self.now.tables.now hand.old }
+        requires cache { cache.old ≡ cache_of self.now.tables.now self.now.tier }
         ensures value { IsTrue result ↔ FitsAt G.rules self.now.tables.now self.now.tier (C.listed self.now.records.now) index }
-        ensures long { length hand.new ≡ SLOTS }
-        ensures at_hand { AreAtHand self.now.tables.now hand.new }
+        ensures same { cache.new ≡ cache.old }
     {
         let p = Position {
             tier: self.tier,
             index: index as u64,
         };
         fits::<G, C>(
-            self.tier,
             self.records,
-            self.tables,
-            hand,
+            cache,
             lists,
             p,
             end,
@@ -86,18 +82,16 @@ impl<'a, G: Game, C: Records> Given<'a, G, C> {
     // Returns the least index from `lo` up to `hi` whose record doesn't fit. `lists` is scratch space.
     fn first_between(
         &self,
-        hand: &mut [Option<&'a Table<G>>],
+        cache: &mut TableCache<'a, G>,
         lists: &mut Lists,
         lo: usize,
         hi: usize,
     ) -> Option<u64>
         requires order { lo ≤ hi }
         requires within { hi ≤ length (C.listed self.now.records.now) }
-        requires long { length hand.old ≡ SLOTS }
-        requires at_hand { AreAtHand self.now.tables.now hand.old }
+        requires cache { cache.old ≡ cache_of self.now.tables.now self.now.tier }
         ensures value { IsFirstWrongIn G.rules self.now.tables.now self.now.tier (C.listed self.now.records.now) lo hi result }
-        ensures long { length hand.new ≡ SLOTS }
-        ensures at_hand { AreAtHand self.now.tables.now hand.new }
+        ensures same { cache.new ≡ cache.old }
     {
         let mut next = lo;
         while let Some((canonical, end)) = G::first_results(
@@ -111,7 +105,7 @@ impl<'a, G: Game, C: Records> Given<'a, G, C> {
             if filled.is_some() {
                 return filled;
             }
-            if !self.fits_at(hand, lists, index, end) {
+            if !self.fits_at(cache, lists, index, end) {
                 return Some(canonical);
             }
             next = index + 1;
@@ -125,7 +119,7 @@ impl<'a, G: Game, C: Records> Given<'a, G, C> {
     {
         let (lo, hi) = self.dealing.range(place);
         let first = self.first_between(
-            &mut [None; SLOTS],
+            &mut TableCache::new(self.tables, self.tier),
             &mut Lists::new(),
             lo as usize,
             hi as usize,
@@ -138,7 +132,8 @@ impl<'a, G: Game, C: Records> Given<'a, G, C> {
 }
 
 impl<'a, G: Game + Send + Sync, C: Records + Sync> Given<'a, G, C> {
-    // Returns the least index whose record doesn't fit, or a number past the last index if each fits.
+    // Returns the least index whose record doesn't fit, or a number past the last index if each fits. A parallel chain is cut into two pieces for each processor
+    // unless they are too short, so the least length makes one for each. With two, the thread of the file's digest would get too little time.
     fn first_of_all<R: Threads + Sync>(&self, rt: &R) -> u64
         ensures wrong { result < length (C.listed self.now.records.now)
             → IsFirstWrong G.rules self.now.tables.now self.now.tier (C.listed self.now.records.now) result }
@@ -146,9 +141,10 @@ impl<'a, G: Game + Send + Sync, C: Records + Sync> Given<'a, G, C> {
             → (i : ℕ) → FitsAt G.rules self.now.tables.now self.now.tier (C.listed self.now.records.now) i }
     {
         let blocks = self.dealing.blocks();
+        let piece = blocks as usize / current_num_threads(rt) / 2 + 1;
         (0..blocks)
             .into_par_iter()
-            .with_min_len(PIECE)
+            .with_min_len(piece.max(PIECE))
             .map(
                 |place: u32| -> u64
                     ensures { IsFirstOfBlock G.rules self.entry.now.tables.now self.entry.now.tier (C.listed self.entry.now.records.now)
@@ -168,10 +164,10 @@ impl<'a, G: Game + Send + Sync, C: Records + Sync> Given<'a, G, C> {
 }
 
 /// Returns the least index whose record doesn't fit.
-pub(crate) fn first_wrong<G: Game, C: Records>(
+pub(crate) fn first_wrong<'a, G: Game, C: Records>(
     tier: u64,
-    records: &C,
-    tables: &Tables<G>,
+    records: &'a C,
+    tables: &'a Tables<G>,
 ) -> Option<u64>
     requires { length (C.listed records.now) ≤ TIER_SIZE }
     ensures { MatchOption result ((i : ℕ) → FitsAt G.rules tables.now tier (C.listed records.now) i)
@@ -183,7 +179,12 @@ pub(crate) fn first_wrong<G: Game, C: Records>(
         tables,
         dealing: Dealing::of(records.count() as u64),
     };
-    given.first_between(&mut [None; SLOTS], &mut Lists::new(), 0, records.count())
+    given.first_between(
+        &mut TableCache::new(tables, tier),
+        &mut Lists::new(),
+        0,
+        records.count(),
+    )
 }
 
 /// Returns the least index whose record doesn't fit, found by as many threads as there are processors.

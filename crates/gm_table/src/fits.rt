@@ -1,16 +1,14 @@
 //! Whether one record follows from the records of its position's canonical children.
-ghost use Rattle.std.specs.Prelude.{◌≡◌, ◌↔◌, IsTrue, None, length, option_copied};
+ghost use Rattle.std.specs.Prelude.{◌≡◌, ◌↔◌, IsTrue, None, option_copied};
 ghost use Rattle.gm_table.specs.Lower.{IsCanonical, IsInner, AreResults, settle};
-ghost use Rattle.gm_table.specs.Hands.{AreAtHand};
 ghost use Rattle.gm_table.specs.Tables.{record_of};
 ghost use Rattle.gm_table.specs.Words.{record_of_word};
 ghost use Rattle.gm_table.specs.Checks.{look_up, value_from, RecordFits};
 
-use crate::hand::{SLOTS, table_for};
+use crate::cache::TableCache;
 use crate::records::Records;
 use crate::summary::Summary;
 use crate::table::Table;
-use crate::tables::Tables;
 use crate::words::sum_of;
 use arrayvec::ArrayVec;
 use gm_game::evaluate::of_end;
@@ -37,10 +35,8 @@ impl Lists {
 
 /// Returns whether this record of a canonical legal position fits, at which the game has ended so, or else goes on to the results that the lists hold.
 pub(crate) fn fits<'a, G: Game, C: Records>(
-    tier: u64,
     records: &C,
-    tables: &'a Tables<G>,
-    hand: &mut [Option<&'a Table<G>>],
+    cache: &mut TableCache<'a, G>,
     lists: &mut Lists,
     p: Position,
     end: Option<End>,
@@ -49,89 +45,68 @@ pub(crate) fn fits<'a, G: Game, C: Records>(
     requires canonical { IsCanonical G.rules p }
     requires end { G.rules.primitive p ≡ end }
     requires results { end ≡ None → AreResults G.rules p lists.old.results.items }
-    requires long { length hand.old ≡ SLOTS }
-    requires at_hand { AreAtHand tables.now hand.old }
-    ensures value { IsTrue result ↔ RecordFits G.rules tables.now tier (C.listed records.now) p known }
-    ensures long { length hand.new ≡ SLOTS }
-    ensures at_hand { AreAtHand tables.now hand.new }
+    ensures value { IsTrue result ↔ RecordFits G.rules cache.old.tables cache.old.tier (C.listed records.now) p known }
+    ensures same { cache.new ≡ cache.old }
 {
     match (end, known) {
         (_, None) => false,
         (Some(end), Some(solved)) => solved == of_end(end),
         (None, Some(solved)) => {
-            solved.remoteness <= REMOTENESS
-                && follows::<G, C>(tier, records, tables, hand, lists, p, solved)
+            solved.remoteness <= REMOTENESS && follows::<G, C>(records, cache, lists, p, solved)
         }
     }
 }
 
 // Returns whether a value is the one that follows, by the rules, for a position in which the game goes on.
 fn follows<'a, G: Game, C: Records>(
-    tier: u64,
     records: &C,
-    tables: &'a Tables<G>,
-    hand: &mut [Option<&'a Table<G>>],
+    cache: &mut TableCache<'a, G>,
     lists: &mut Lists,
     p: Position,
     solved: Solved,
 ) -> bool
     requires inner { IsInner G.rules p }
     requires results { AreResults G.rules p lists.old.results.items }
-    requires long { length hand.old ≡ SLOTS }
-    requires at_hand { AreAtHand tables.now hand.old }
-    ensures value { IsTrue result ↔ (solved ≡ value_from G.rules tables.now tier (C.listed records.now) p) }
-    ensures long { length hand.new ≡ SLOTS }
-    ensures at_hand { AreAtHand tables.now hand.new }
+    ensures value { IsTrue result ↔ (solved ≡ value_from G.rules cache.old.tables cache.old.tier (C.listed records.now) p) }
+    ensures same { cache.new ≡ cache.old }
 {
-    gather::<G, C>(tier, records, tables, hand, lists, p).settles(solved)
+    gather::<G, C>(records, cache, lists, p).settles(solved)
 }
 
-// Returns the summary of the results in the lists: it reads all their words first, and then folds the words, so that no record is waited for before the next is
-// asked for.
+// Returns the summary of the results in the lists. If one of them is in the tier, or has no table, each is looked up.
 fn gather<'a, G: Game, C: Records>(
-    tier: u64,
     records: &C,
-    tables: &'a Tables<G>,
-    hand: &mut [Option<&'a Table<G>>],
+    cache: &mut TableCache<'a, G>,
     lists: &mut Lists,
     p: Position,
 ) -> Summary
     requires inner { IsInner G.rules p }
     requires results { AreResults G.rules p lists.old.results.items }
-    requires long { length hand.old ≡ SLOTS }
-    requires at_hand { AreAtHand tables.now hand.old }
-    ensures value { settle result.lost result.won result.tied ≡ value_from G.rules tables.now tier (C.listed records.now) p }
-    ensures long { length hand.new ≡ SLOTS }
-    ensures at_hand { AreAtHand tables.now hand.new }
+    ensures value { settle result.lost result.won result.tied ≡ value_from G.rules cache.old.tables cache.old.tier (C.listed records.now) p }
+    ensures same { cache.new ≡ cache.old }
 {
     let Lists { results, words } = lists;
+    if let Some((summary, _decided)) = cache.sum(results.as_slice(), words) {
+        return summary;
+    }
     words.clear();
     for c in results.as_slice() {
-        words.push(look_up::<G, C>(tier, records, tables, hand, *c));
+        words.push(look_up::<G, C>(records, cache, *c));
     }
     let (summary, _decided) = sum_of(words.as_slice());
     summary
 }
 
 // Returns the word of a canonical position's record: a given one in the tier, and elsewhere that of a table.
-fn look_up<'a, G: Game, C: Records>(
-    tier: u64,
-    records: &C,
-    tables: &'a Tables<G>,
-    hand: &mut [Option<&'a Table<G>>],
-    c: Position,
-) -> u64
+fn look_up<'a, G: Game, C: Records>(records: &C, cache: &mut TableCache<'a, G>, c: Position) -> u64
     requires canonical { IsCanonical G.rules c }
-    requires long { length hand.old ≡ SLOTS }
-    requires at_hand { AreAtHand tables.now hand.old }
-    ensures record { record_of_word result ≡ look_up G.rules tables.now tier (C.listed records.now) c }
-    ensures long { length hand.new ≡ SLOTS }
-    ensures at_hand { AreAtHand tables.now hand.new }
+    ensures record { record_of_word result ≡ look_up G.rules cache.old.tables cache.old.tier (C.listed records.now) c }
+    ensures same { cache.new ≡ cache.old }
 {
-    if c.tier == tier {
+    if c.tier == cache.tier() {
         return records.word(c.index as usize);
     }
-    word_in(table_for(tables, hand, c.tier), c.index)
+    word_in(cache.table(c.tier), c.index)
 }
 
 // Returns the word of the record at an index of a table; 0 if there is no table.

@@ -5,11 +5,11 @@
 #![tactic(auto)]
 
 mod blocks;
+pub mod cache;
 pub mod checker;
 pub mod dealing;
 mod entry;
 mod fits;
-pub mod hand;
 mod levels;
 pub mod number;
 mod numbers;
@@ -17,6 +17,7 @@ mod outline;
 pub mod packed;
 mod records;
 mod runs;
+mod shorts;
 pub mod summary;
 pub mod table;
 pub mod tables;

@@ -1,5 +1,5 @@
 //! Numbers of records, which take a byte each if all of them have short forms, and four otherwise.
-ghost use Rattle.std.specs.Prelude.{◌≡◌, ℕ, ◌++◌, [], ◌∷◌, ◌<◌, ◌≤◌, ◌/◌, ◌%◌, IsTrue, ◌↔◌, map, take, slice_get, length, IfOk, IfSome, OnOk, OnErr};
+ghost use Rattle.std.specs.Prelude.{◌≡◌, ℕ, ◌++◌, [], ◌∷◌, ◌<◌, ◌≤◌, ◌/◌, ◌%◌, IsTrue, ◌↔◌, Some, map, take, replicate, slice_get, get_or, length, IfOk, IfSome, OnOk, OnErr};
 ghost use Rattle.gm_table.specs.Numbers.{wide, IsShort};
 
 use crate::packed::STEP;
@@ -67,6 +67,18 @@ impl Numbers {
         self.push_long(number)
     }
 
+    /// Adds this many zeros at the end. If memory is refused, the numbers are unchanged.
+    #[tactic(auto, using(crate::proofs::NumberLemmas::wide_more_zeros))]
+    pub(crate) fn push_zeros(&mut self, count: usize) -> Result<(), AllocError>
+        ensures ok { OnOk result (self.new ≡ self.old ++ replicate count 0) }
+        ensures err { OnErr result (self.new ≡ self.old) }
+    {
+        match &mut self.stored {
+            Stored::Short(numbers) => push_times(numbers, 0, count),
+            Stored::Long(numbers) => push_times(numbers, 0, count),
+        }
+    }
+
     // Adds a number at the end, and keeps all of them long. It is a function of its own, so that code for the common case is short.
     #[inline(never)]
     fn push_long(&mut self, number: u32) -> Result<(), AllocError>
@@ -130,6 +142,16 @@ impl Numbers {
         }
     }
 
+    /// Returns the short forms of the numbers, if each has one, and else an empty list.
+    pub(crate) fn shorts(&self) -> &[u8]
+        ensures { (k : ℕ) → k < length result.now → slice_get self.now k ≡ Some (wide (get_or result.now k 0)) }
+    {
+        match &self.stored {
+            Stored::Short(numbers) => numbers.as_slice(),
+            Stored::Long(_) => &[],
+        }
+    }
+
     /// Returns how many numbers there are.
     pub(crate) fn len(&self) -> usize
         ensures { result ≡ length self.now }
@@ -163,6 +185,15 @@ impl Numbers {
             Stored::Long(numbers) => Some(*numbers.get(index)?),
         }
     }
+}
+
+// Adds a value at the end, this many times. If memory is refused, the list is unchanged.
+fn push_times<T: Copy>(list: &mut Vec<T>, value: T, count: usize) -> Result<(), AllocError>
+    ensures ok { OnOk result (list.new.items ≡ list.old.items ++ replicate count value) }
+    ensures err { OnErr result (list.new.items ≡ list.old.items) }
+{
+    let len = list.len().checked_add(count).ok_or(AllocError)?;
+    list.resize(len, value)
 }
 
 // Returns the first index from `from` on whose short form is a record's, or the number of short forms.

@@ -1,11 +1,12 @@
 //! Records of one byte or four each.
-ghost use Rattle.std.specs.Prelude.{◌≡◌, ◌≢◌, ℕ, ◌*◌, ◌≤◌, ◌<◌, ◌++◌, [], ◌∷◌, None, map, replicate, take, IfSome, IfOk, length, OnOk, OnErr};
+ghost use Rattle.std.specs.Prelude.{◌≡◌, ◌≢◌, ℕ, ◌*◌, ◌≤◌, ◌<◌, ◌++◌, [], ◌∷◌, None, map, replicate, take, IfSome, IfOk, length, get_or, OnOk, OnErr};
 ghost use Rattle.gm_table.specs.Lower.{REMOTENESS};
 ghost use Rattle.gm_table.specs.declared.version.Version.TheVariants.{Two};
 ghost use Rattle.gm_table.specs.RecordCodes.{record_number};
 ghost use Rattle.gm_table.specs.Numbers.{wide};
 ghost use Rattle.gm_table.specs.Packed.{unpacked, IsNear, AreNear};
 ghost use Rattle.gm_table.specs.Tables.{record_at};
+ghost use Rattle.gm_table.specs.Shorts.{record_of_short};
 ghost use Rattle.gm_table.specs.Words.{record_of_word};
 
 use crate::number::code_of;
@@ -80,14 +81,13 @@ impl Packed {
         Ok(())
     }
 
-    /// Adds `number` times no record at the end. If memory is refused, some of them may have been added.
+    /// Adds no record at the end, this many times. If memory is refused, the records are unchanged.
+    #[tactic(auto, using(crate::proofs::PackedLemmas::unpacked_more_zeros))]
     pub fn push_none(&mut self, count: usize) -> Result<(), AllocError>
-        ensures { OnOk result (self.new ≡ self.old ++ replicate count None) }
+        ensures ok { OnOk result (self.new ≡ self.old ++ replicate count None) }
+        ensures err { OnErr result (self.new ≡ self.old) }
     {
-        for _ in 0..count {
-            self.push(None)?;
-        }
-        Ok(())
+        self.numbers.push_zeros(count)
     }
 
     /// Keeps the first `count` records.
@@ -123,6 +123,13 @@ impl Packed {
     /// Returns the allocator of their memory.
     pub(crate) fn allocator(&self) -> Global {
         self.numbers.allocator()
+    }
+
+    /// Returns the short forms of the records, if each has one, and else an empty list.
+    pub(crate) fn shorts(&self) -> &[u8]
+        ensures { (i : ℕ) → i < length result.now → record_at self.now i ≡ record_of_short (get_or result.now i 0) }
+    {
+        self.numbers.shorts()
     }
 
     /// Returns how many records there are.

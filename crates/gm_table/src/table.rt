@@ -1,8 +1,9 @@
 //! The true table of a tier.
-ghost use Rattle.std.specs.Prelude.{◌≡◌, ℕ, ◌<◌, ◌≤◌, None, length, IfOk, IfSome};
+ghost use Rattle.std.specs.Prelude.{◌≡◌, ℕ, ◌<◌, ◌≤◌, None, length, get_or, IfOk, IfSome};
 ghost use Rattle.gm_table.specs.Lower.{at, IsTrueValue, IsTrueTable, IsRecord};
 ghost use Rattle.gm_table.specs.Levels.{IsGreatest};
 ghost use Rattle.gm_table.specs.RecordCodes.{record_number};
+ghost use Rattle.gm_table.specs.Shorts.{record_of_short};
 ghost use Rattle.gm_table.specs.Words.{record_of_word};
 ghost use Rattle.gm_table.specs.declared.version.Version.TheVariants.{Two};
 
@@ -137,6 +138,13 @@ impl<G: Game> Table<G> {
     {
         let size = self.records.len();
         self.records.skip_holes((from as usize).min(size)) as u64
+    }
+
+    /// Returns the short forms of the records, if each has one, and else an empty list.
+    pub(crate) fn shorts(&self) -> &[u8]
+        ensures { (i : ℕ) → i < length result.now → record_at self.now.records i ≡ record_of_short (get_or result.now i 0) }
+    {
+        self.records.shorts()
     }
 
     /// Returns the word of the record at an index, without a branch; 0 for an index without a record.

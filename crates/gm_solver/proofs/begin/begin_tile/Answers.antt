@@ -1,5 +1,5 @@
 use Rattle.gm_solver.proofs.Lower.{IfOk-from_err, length-drop, Start, HasNoneHere}
-use Rattle.std.proofs.Common.{◌+◌, ◌-◌, ◌≤◌, arith, ◌≡◌, ℕ, List, length, take, drop, suc, sym, ap, ◌∙◌, subst}
+use Rattle.std.proofs.Common.{◌-◌, arith, ◌≡◌, ℕ, List, length, take, drop, suc, sym, ap, ◌∙◌, subst}
 use Rattle.gm_solver.specs.Cuts.{cut_at}
 use Rattle.gm_solver.proofs.BlockLemmas.{starts_part}
 use Rattle.std.proofs.lemmas.List.{length-take-le}

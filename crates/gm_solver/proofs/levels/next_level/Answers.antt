@@ -1,5 +1,5 @@
-use Rattle.std.proofs.Common.{◌≡◌, ◌≤◌, sym, subst, ◌∙◌}
-use Rattle.gm_solver.proofs.Lower.{TIER_SIZE, Place, AreHeld, place_of}
+use Rattle.std.proofs.Common.{◌≤◌, sym, subst}
+use Rattle.gm_solver.proofs.Lower.{TIER_SIZE, Place, AreHeld}
 use Rattle.gm_frontier.specs.Levels.{AreTiles}
 use Rattle.gm_solver.proofs.levels.next_level.Goals as goal
 

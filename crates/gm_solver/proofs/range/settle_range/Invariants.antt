@@ -1,13 +1,12 @@
-use Rattle.std.proofs.Common.{◌≡◌, ◌≤◌, ◌-◌, length}
-use Rattle.gm_solver.proofs.Lower.{AreAtHand}
+use Rattle.std.proofs.Common.{◌≡◌, ◌≤◌, ◌-◌}
+use Rattle.gm_table.specs.Caches.{cache_of}
 use Rattle.gm_solver.proofs.Parts.{ArePassed}
 use Rattle.gm_solver.proofs.range.settle_range.Given as goal
 
 abbrev pub invariant-loop-index : goal.invariant-loop-index
 invariant-loop-index g l = record {
   high : l.next ≤ l.fn.hi;
-  hand_long : length l.hand ≡ 8;
-  at_hand : AreAtHand l.tables l.hand;
+  cache : l.cache ≡ cache_of l.tables l.fn.tier;
   passed : ArePassed g.G.Game.rules l.fn.tier l.fn.lo l.next l.records l.number;
 }
 

@@ -1,4 +1,11 @@
+use Rattle.std.proofs.Common.{◌∙◌, arith}
 use Rattle.gm_table.proofs.fits.fits.Goals as goal
 
-pub follows-requires-clause-results : goal.follows-requires-clause-results
-follows-requires-clause-results g c = c.requires.results c.in-None-Some.is-0
+pub follows-requires : goal.follows-requires
+follows-requires g c = (
+  omega arith,
+  (
+    record { legal = c.requires.canonical.0; canonical = c.requires.canonical.1; unended = c.requires.end ∙ c.in-None-Some.is-0 },
+    c.requires.results c.in-None-Some.is-0,
+  ),
+)

@@ -1,13 +1,12 @@
-use Rattle.std.proofs.Common.{◌≡◌, ◌≤◌, ◌-◌, length}
-use Rattle.gm_table.proofs.Lower.{FitBetween, AreAtHand}
+use Rattle.std.proofs.Common.{◌≡◌, ◌≤◌, ◌-◌}
+use Rattle.gm_table.proofs.Lower.{FitBetween}
 use Rattle.gm_table.proofs.blocks.Given.first_between.Given as goal
 
 abbrev pub invariant-loop-canonical : goal.invariant-loop-canonical
 invariant-loop-canonical g l = record {
   low : l.fn.lo ≤ l.next;
   high : l.next ≤ l.hi;
-  hand_long : length l.hand ≡ 8;
-  at_hand : AreAtHand l.self.tables.now l.hand;
+  cache : l.cache ≡ l.fn.cache;
   fit : FitBetween g.G.Game.rules l.self.tables.now l.self.tier (g.C.Records.listed l.self.records.now) l.fn.lo l.next;
 }
 
