@@ -21,6 +21,7 @@ use Rattle.gm_shard.specs.declared.status.Refused.TheVariants.{NotThisLevel, Not
 use Rattle.gm_shard.specs.Delivery.{IsPairHere, IsSettledNow}
 use Rattle.gm_shard.proofs.StatusLemmas.{settled_same}
 use Rattle.gm_locks.proofs.Places.{value_stands, stands_remoteness}
+use Rattle.gm_table.proofs.ValueLemmas.{known_value}
 
 -- the children delivered to an inner position of a good shard, at its place
 reached_good : (r : Rules) (s : ShardState) → IsGood r s → (i : ℕ) → IsInRange s i → IsInner r (at s.tier i)
@@ -86,28 +87,14 @@ refused_far r g s t pair NotMine d good near h = absurd (h.2 d.here.is_mine)
 refused_far r g s t pair NotAParent d good near h = absurd (h.3 d.here.is_parent)
 refused_far r g s t pair TooFar d good near h = too_far r g s (subst (IsGood r) h.0 good) pair.0 pair.1 d.is_note d.here near h.3 h.4
 
--- a true table knows each canonical legal position of its tier
-pub table_knows : (r : Rules) → IsGame r → (limit tier : ℕ) (records : List (Option Solved)) → IsTrueTable r limit tier records → (c : Position)
-    → IsCanonical r c → c.tier ≡ tier → (x : Solved) × IsTrueValue r c x × (x.remoteness ≤ limit)
-table_knows r g limit tier records t c canonical e =
-    let size : c.index < r.tier_size tier = subst (λ (u : ℕ). c.index < r.tier_size u) e (g.index_below c canonical.0) in
-    let long = t.whole in
-    let within : c.index < length records = omega arith in
-    found (get_or records c.index None) (subst (λ (u : ℕ). IsRecord r limit (IsTrueValue r) (at u c.index) (get_or records c.index None)) (sym e)
-    (t.each c.index (get_or records c.index None) (slice_get-get_or records c.index None within)))
-  where
-    found : (o : Option Solved) → IsRecord r limit (IsTrueValue r) (at c.tier c.index) o → (x : Solved) × IsTrueValue r c x × (x.remoteness ≤ limit)
-    found None none = absurd (none canonical)
-    found (Some x) (k, is_true, near) = (x, is_true, near)
-
--- so do the tables of the child tiers
+-- the tables of the child tiers know each canonical legal position of theirs
 pub child_known : (r : Rules) → IsGame r → (entries : List TableData) → AreTables r entries → (tier : ℕ) → AreHeld r entries tier → (c : Position)
     → IsCanonical r c → Contains (r.child_tiers tier) c.tier → (x : Solved) × IsTrueValue r c x × (x.remoteness ≤ REMOTENESS)
 child_known r g entries tables tier held c canonical k = found (table_of entries c.tier) refl (held c.tier k)
   where
     found : (o : Option TableData) → table_of entries c.tier ≡ o → IsSome o → (x : Solved) × IsTrueValue r c x × (x.remoteness ≤ REMOTENESS)
     found None e some = absurd (false≢true some)
-    found (Some t) e some = let (same, table) = tables c.tier t e in table_knows r g REMOTENESS t.tier t.records table.is_true c canonical (sym same)
+    found (Some t) e some = let (x, is, value, near) = known_value r g entries c t tables canonical.0 e in (x, value, near)
 
 -- one level above the limit nothing is left, where good shards have every index of the tier
 past_limit : (r : Rules) → IsGame r → (entries : List TableData) → AreTables r entries → (place : Place)

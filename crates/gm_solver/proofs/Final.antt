@@ -6,13 +6,14 @@ use Rattle.gm_solver.proofs.Lower.{IsDelivery, AreDeliveries, IsTooFar}
 use Rattle.gm_game.specs.Places.{IsNear}
 use Rattle.gm_frontier.proofs.PairLemmas.{near_of_pair}
 use Rattle.gm_locks.proofs.Places.{stands_no_draw, value_place}
-use Rattle.gm_solver.proofs.Far.{table_knows, child_known}
+use Rattle.gm_solver.proofs.Far.{child_known}
+use Rattle.gm_table.proofs.ValueLemmas.{canonical_record}
 use Rattle.gm_solver.proofs.Deliveries.{there_same}
 
 -- no position of a tier with a true table has a remoteness above the limit
 pub not_too_far : (r : Rules) → IsGame r → (tier : ℕ) (records : List (Option Solved)) → IsTrueTable r REMOTENESS tier records → IsTooFar r tier → ⊥
 not_too_far r g tier records t far =
-    let (x, is_true, near) = table_knows r g REMOTENESS tier records t (at tier far.index) far.canonical refl in
+    let (x, is, is_true, near) = canonical_record r g tier records t (at tier far.index) far.canonical refl in
     let e = (HasValue_once r (at tier far.index) x.value far.value x.remoteness (REMOTENESS + 1) is_true far.far).1 in
     omega arith
 
@@ -20,7 +21,7 @@ module _ (r : Rules) (g : IsGame r) (entries : List TableData) (tables : AreTabl
     (records : List (Option Solved)) (is_true : IsTrueTable r REMOTENESS tier records)
     (level : ℕ) (last : IsLastLevel r tier Ties level) where
   known : (c : Position) → IsNear r tier c → (x : Solved) × IsTrueValue r c x
-  known c (canonical, inl e) = let (x, value, near) = table_knows r g REMOTENESS tier records is_true c canonical e in (x, value)
+  known c (canonical, inl e) = let (x, is, value, near) = canonical_record r g tier records is_true c canonical e in (x, value)
   known c (canonical, inr k) = let (x, value, near) = child_known r g entries tables tier held c canonical k in (x, value)
 
   before_end : (phase : Phase) (n : ℕ) (c : Position) → IsNear r tier c → StandsAt r phase n c → IsPlaceBefore phase n Ties level

@@ -42,7 +42,7 @@ pub use Rattle.gm_table.proofs.Dealt.{EachAt, append_cases, one_at, zip_whole}
 pub use Rattle.gm_table.specs.Dealing.{block_in}
 pub use Rattle.gm_table.specs.Solving.{AreDeliveries, IsDelivery, IsTooFar}
 pub use Rattle.gm_table.specs.Tables.{AreHeld, AreTables, TableData, table_of, value_in}
-pub use Rattle.gm_table.specs.Words.{is_decided}
+pub use Rattle.gm_table.specs.Shorts.{is_decided}
 pub use Rattle.rayon.proofs.ListFacts.{IfOk-then}
 pub use Rattle.rayon.specs.Numbers.{nat_range}
 pub use Rattle.std.proofs.lemmas.Bool.{cases_eq, cases_lt, false≢true}

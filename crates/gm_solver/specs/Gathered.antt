@@ -2,10 +2,10 @@
 use Rattle.std.specs.Prelude.{◌≡◌, ◌≢◌, ℕ, ◌≤◌, Bool, true, false, List, length, map, IfSome, AllPairs, ◌%◌, slice_index_or}
 use Rattle.gm_solver.specs.Lower.{Contains, REMOTENESS, Position, Rules, AreResults}
 use Rattle.std.specs.List.{filter}
-use Rattle.gm_game.specs.Records.{lost_in, tied_in, least_of, all_won, IsKnown}
+use Rattle.gm_game.specs.Records.{IsKnown}
 use Rattle.gm_table.specs.declared.summary.Summary.{Summary}
 use Rattle.gm_table.specs.Tables.{TableData, value_in}
-use Rattle.gm_table.specs.Words.{is_decided}
+use Rattle.gm_table.specs.Shorts.{IsSummary, is_decided}
 
 -- no position twice
 abbrev pub IsOnce : List Position → Type 0
@@ -23,10 +23,6 @@ pub record AreOnce (r : Rules) (p : Position) (cs : List Position) : Type 0 wher
 -- the tables know these positions, these are their records, and this is the number of those that are not draws
 pub record IsGathered (r : Rules) (entries : List TableData) (cs : List Position) (seen : Summary) (number : ℕ) : Type 0 where
   pub known : (c : Position) → Contains cs c → IsKnown r (value_in r entries) c
-  pub lost : seen.lost ≡ least_of lost_in (map (value_in r entries) cs)
-  pub won : seen.won ≡ all_won (map (value_in r entries) cs)
-  pub tied : seen.tied ≡ least_of tied_in (map (value_in r entries) cs)
-  pub near_lost : IfSome seen.lost (λ n. n ≤ REMOTENESS)
-  pub near_won : IfSome seen.won (λ n. n ≤ REMOTENESS)
-  pub near_tied : IfSome seen.tied (λ n. n ≤ REMOTENESS)
+  pub near : (c : Position) → Contains cs c → IfSome (value_in r entries c) (λ s. s.remoteness ≤ REMOTENESS)
+  pub summary : IsSummary (map (value_in r entries) cs) seen
   pub decided : number ≡ length (filter (λ c. is_decided (value_in r entries c)) cs)

@@ -13,7 +13,6 @@ pub mod error;
 mod finish;
 mod frame;
 pub mod gate;
-mod gather;
 mod in_order;
 mod level_job;
 mod levels;

@@ -1,30 +1,26 @@
 //! One position of a tier.
-ghost use Rattle.std.specs.Prelude.{◌≡◌, ◌≤◌, ◌+◌, None, Some, IfOk, IfErr, IfSome};
+ghost use Rattle.std.specs.Prelude.{◌≡◌, ◌≤◌, ◌+◌, None, Some, IfOk, IfErr};
 ghost use Rattle.gm_solver.specs.Lower.{MOVES, REMOTENESS, AreThere, AreResults, AreHeld};
-ghost use Rattle.gm_game.specs.Records.{settle, IsRecord};
+ghost use Rattle.gm_game.specs.Records.{IsRecord};
 ghost use Rattle.gm_game.specs.Rules.{IsCanonical, IsInner};
 ghost use Rattle.gm_game.specs.Values.{IsTrueValue};
 ghost use Rattle.gm_solver.specs.Gathered.{AreOnce};
 ghost use Rattle.gm_solver.specs.Passes.{IsDeliveryIn, IsStop};
 
-use crate::gather::gather;
 use crate::once::list_once;
 use crate::stop::Stop;
 use arrayvec::ArrayVec;
 use gm_game::evaluate::of_end;
 use gm_game::game::Game;
-use gm_game::limits::{MOVES, REMOTENESS};
-use gm_game::position::{End, Position, Solved, Value};
+use gm_game::limits::MOVES;
+use gm_game::position::{End, Position, Solved};
 use gm_table::cache::TableCache;
-use gm_table::summary::Summary;
 
-/// Lists that serve many positions: of one its results, in any order and as often as moves lead to them, each of them once, and the words
-/// of their records.
+/// Lists that serve many positions: of one its results, in any order and as often as moves lead to them, and each of them once.
 #[derive(Drop)]
 pub(crate) struct Lists {
     pub(crate) results: ArrayVec<Position, MOVES>,
     children: ArrayVec<Position, MOVES>,
-    words: ArrayVec<u64, MOVES>,
 }
 
 impl Lists {
@@ -33,7 +29,6 @@ impl Lists {
         Lists {
             results: ArrayVec::new(),
             children: ArrayVec::new(),
-            words: ArrayVec::new(),
         }
     }
 
@@ -42,11 +37,7 @@ impl Lists {
         requires { AreResults G.rules p self.old.results.items }
         ensures { AreOnce G.rules p self.new.children.items }
     {
-        let Lists {
-            results,
-            children,
-            words: _,
-        } = self;
+        let Lists { results, children } = self;
         list_once(results.as_slice(), children);
     }
 }
@@ -94,49 +85,11 @@ fn settle_inner<'a, G: Game>(
     ensures same { cache.new ≡ cache.old }
 {
     lists.list_children::<G>(p);
-    let Lists {
-        results: _,
-        children,
-        words,
-    } = lists;
-    let (seen, number) = match gather::<G>(cache, p, children.as_slice(), words) {
-        Some(found) => found,
-        None => return Err(Stop::Stays),
+    let Some((seen, number)) = cache.sum(lists.children.as_slice()) else {
+        return Err(Stop::Stays);
     };
-    let solved = value_of(seen);
-    if solved.remoteness > REMOTENESS {
+    let Some(solved) = seen.value() else {
         return Err(Stop::TooFar);
-    }
+    };
     Ok((solved, number))
-}
-
-// Returns the value of a position with these children.
-fn value_of(seen: Summary) -> Solved
-    requires lost { IfSome seen.lost (λ n. n ≤ REMOTENESS) }
-    requires won { IfSome seen.won (λ n. n ≤ REMOTENESS) }
-    requires tied { IfSome seen.tied (λ n. n ≤ REMOTENESS) }
-    ensures value { result ≡ settle seen.lost seen.won seen.tied }
-    ensures near { result.remoteness ≤ REMOTENESS + 1 }
-{
-    match (seen.lost, seen.won, seen.tied) {
-        (Some(n), _, _) => one_more(Value::Win, n),
-        (None, Some(n), _) => one_more(Value::Lose, n),
-        (None, None, Some(n)) => one_more(Value::Tie, n),
-        (None, None, None) => Solved {
-            value: Value::Draw,
-            remoteness: 0,
-        },
-    }
-}
-
-// Returns this value with a remoteness of one more.
-fn one_more(value: Value, n: u32) -> Solved
-    requires { n ≤ REMOTENESS }
-    ensures value { result.value ≡ value }
-    ensures remoteness { result.remoteness ≡ n + 1 }
-{
-    Solved {
-        value,
-        remoteness: n + 1,
-    }
 }

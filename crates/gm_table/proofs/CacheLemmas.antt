@@ -1,16 +1,18 @@
 -- Tables that are cached: one is found there, and one more is put there; and positions that are read one by one.
 use Rattle.std.proofs.Common.{◌≡◌, ◌≢◌, ℕ, ◌+◌, ◌<◌, ◌≤◌, ◌==◌, ◌⊎◌, inl, inr, Bool, true, false, if◌then◌else◌, List, [], ◌∷◌, ◌++◌, Option, None, Some, IsSome}
-use Rattle.std.proofs.Common.{length, map, take, filter, get_or, set, replicate, option_copied, refl, sym, ap, subst, ◌∙◌, eqb, eqb-true, eq-eqb, ne_eqb, arith}
+use Rattle.std.proofs.Common.{length, map, take, filter, get_or, set, option_copied, cond, refl, sym, ap, subst, ◌∙◌, eqb, eqb-true, eq-eqb, ne_eqb, arith}
 use Rattle.std.specs.List.{Contains}
-use Rattle.std.proofs.lemmas.List.{get_or-replicate}
 use Rattle.std.proofs.lemmas.List.Elements.{Contains-push_cases}
 use Rattle.gm_table.specs.declared.cache.Shorts.{Shorts}
 use Rattle.gm_table.specs.declared.summary.Summary.{Summary}
 use Rattle.gm_table.proofs.Lower.{Bor, cases_Bool, eqb-false, length-set, get_or-set_same, get_or-set_other, get_or_default, TableData, table_of, record_of}
-use Rattle.gm_table.proofs.Lower.{Position, Solved, lost_in, tied_in, least_of, all_won, is_decided, record_of_short, contains_none, take_more, take_all, map_more}
-use Rattle.gm_table.proofs.Lower.{map-append, length-map, length-take, AreCached, AreShorts, CacheData, IsSumOf, other_record, other_table}
-use Rattle.gm_table.proofs.Lower.{Rules, IsGame, AreResults, settle, settled_by, settled_by_list, near_child, contains_first, contains_later, look_up}
-use Rattle.gm_table.proofs.CheckLemmas.{found_tier, look_up_else}
+use Rattle.gm_table.proofs.Lower.{Position, Solved, lost_in, tied_in, is_decided, record_of_short, contains_none, take_more, take_all, map_more}
+use Rattle.gm_table.proofs.Lower.{map-append, length-map, length-take, AreCached, AreRead, AreShorts, CacheData, IsSumOf, IsSummary, other_record, other_table}
+use Rattle.gm_table.proofs.Lower.{Rules, IsGame, IsCanonical, AreResults, settle, settled_by, near_child, contains_first, contains_later, look_up, lesser, greater, won_in}
+use Rattle.gm_table.proofs.Lower.{value_in}
+use Rattle.gm_table.proofs.CheckLemmas.{found_tier, look_up_value, settled_results, value_canonical}
+use Rattle.gm_table.proofs.ReadLemmas.{summary_more, decided_more}
+use Rattle.gm_table.proofs.ValueLemmas.{record_held}
 
 -- the table that is found for another tier is the map's, and the tier's
 pub other_held : (c : CacheData) (tier : ℕ) (t : TableData) → other_table c tier ≡ Some t → table_of c.tables tier ≡ Some t
@@ -70,16 +72,6 @@ module _ (c : CacheData) (last : List (Option (Bor TableData))) (shorts : List S
     ]);
   }
 
--- at first nothing is cached
-pub none_cached : (c : CacheData) (empty : Shorts) → length empty.forms.now ≡ 0 → AreCached c (replicate 8 None) (replicate 8 empty)
-none_cached c empty none = record {
-  long = refl;
-  long_shorts = refl;
-  table = λ k l t e. (let no : option_copied (get_or (replicate 8 None) k None) ≡ None = ap option_copied (get_or-replicate 8 k None None l) in
-      let same : None ≡ Some t = sym no ∙ e in absurd (cc));
-  forms = λ k l d. subst (AreShorts c) (sym (get_or-replicate 8 k empty d l)) (λ i m. absurd (omega (arith, none, m)));
-}
-
 -- a short form is that of the position's record
 pub short_read : (b c : CacheData) → b ≡ c → (s : Shorts) (p : Position) → AreShorts b s → s.tier ≡ p.tier → p.index < length s.forms.now
     → (t : TableData) × (other_table c p.tier ≡ Some t) × (other_record c p ≡ record_of_short (get_or s.forms.now p.index 0))
@@ -88,47 +80,60 @@ short_read b c is s p are same inside =
     let there : other_table c p.tier ≡ Some t = ap (other_table c) (sym same) ∙ held in
     (t, there, ap (λ (o : Option TableData). record_of o p.index) there ∙ e)
 
--- the tables of other tiers know these positions, and their records are read from these numbers
-pub record AreRead (read : ℕ → Option Solved) (c : CacheData) (ps : List Position) (ws : List ℕ) : Type 0 where
-  pub held : (p : Position) → Contains ps p → IsSome (other_table c p.tier)
-  pub records : map read ws ≡ map (other_record c) ps
+module _ (c : CacheData) (ps : List Position) where
+  -- one position more that the tables know
+  held_more : (i : ℕ) (d : Position) → i < length ps → IsSome (other_table c (get_or ps i d).tier)
+      → ((p : Position) → Contains (take i ps) p → IsSome (other_table c p.tier)) → (p : Position) → Contains (take (i + 1) ps) p → IsSome (other_table c p.tier)
+  held_more i d inside held old p h = elim
+      (Contains-push_cases (take i ps) (get_or ps i d) p (subst (λ (qs : List Position). Contains qs p) (take_more ps i d inside) h))
+      [ inl k ↦ old p k | inr k ↦ subst (λ (q : Position). IsSome (other_table c q.tier)) k held ]
 
-module _ (read : ℕ → Option Solved) (c : CacheData) (ps : List Position) where
-  -- before the first position
-  pub read_none : (ws : List ℕ) → ws ≡ [] → AreRead read c (take 0 ps) ws
-  read_none ws e = record { held = λ p h. absurd (contains_none p h); records = ap (map read) e }
+  -- positions whose records are read from numbers
+  pub read_none : (read : ℕ → Option Solved) (ws : List ℕ) → ws ≡ [] → AreRead c (take 0 ps) (map read ws)
+  read_none read ws e = record { held = λ p h. absurd (contains_none p h); records = ap (map read) e }
 
-  -- one position more
-  pub read_more : (i : ℕ) (d : Position) (ws new : List ℕ) (w : ℕ) → i < length ps → IsSome (other_table c (get_or ps i d).tier)
-      → other_record c (get_or ps i d) ≡ read w → new ≡ ws ++ w ∷ [] → AreRead read c (take i ps) ws → AreRead read c (take (i + 1) ps) new
-  read_more i d ws new w inside held is e old = record {
-    held = λ p h. elim (Contains-push_cases (take i ps) (get_or ps i d) p (subst (λ (qs : List Position). Contains qs p) (take_more ps i d inside) h))
-        [ inl k ↦ old.held p k | inr k ↦ subst (λ (q : Position). IsSome (other_table c q.tier)) k held ];
+  pub read_more : (read : ℕ → Option Solved) (i : ℕ) (d : Position) (ws new : List ℕ) (w : ℕ) → i < length ps → IsSome (other_table c (get_or ps i d).tier)
+      → other_record c (get_or ps i d) ≡ read w → new ≡ ws ++ w ∷ [] → AreRead c (take i ps) (map read ws) → AreRead c (take (i + 1) ps) (map read new)
+  read_more read i d ws new w inside held is e old = record {
+    held = held_more i d inside held old.held;
     records = ap (map read) e ∙ map-append read ws (w ∷ []) ∙ ap (λ (os : List (Option Solved)). os ++ read w ∷ []) old.records
         ∙ ap (λ (o : Option Solved). map (other_record c) (take i ps) ++ o ∷ []) (sym is) ∙ sym (map_more (other_record c) ps i d inside);
   }
 
   -- there are as many numbers as positions that were read
-  pub read_few : (i : ℕ) (ws : List ℕ) → AreRead read c (take i ps) ws → length ws ≤ i
-  read_few i ws are =
+  pub read_few : (read : ℕ → Option Solved) (i : ℕ) (ws : List ℕ) → AreRead c (take i ps) (map read ws) → length ws ≤ i
+  read_few read i ws are =
       let many : length ws ≡ length (take i ps) = sym (length-map ws read) ∙ ap length are.records ∙ length-map (take i ps) (other_record c) in
       let taken = length-take i ps in
       omega (arith, many, taken)
 
   -- what all of them say
-  pub sum_read : (i : ℕ) (ws xs : List ℕ) (seen : Summary) (number : ℕ) → length ps ≤ i → AreRead read c (take i ps) ws → xs ≡ ws
-      → seen.lost ≡ least_of lost_in (map read xs) → seen.won ≡ all_won (map read xs) → seen.tied ≡ least_of tied_in (map read xs)
-      → number ≡ length (filter is_decided (map read xs)) → IsSumOf c ps seen number
-  sum_read i ws xs seen number past are same lost won tied decided =
-      let whole : take i ps ≡ ps = take_all i ps past in
-      let all : map read xs ≡ map (other_record c) ps = ap (map read) same ∙ are.records ∙ ap (map (other_record c)) whole in
+  pub sum_read : (read : ℕ → Option Solved) (i : ℕ) (ws xs : List ℕ) (seen : Summary) (number : ℕ) → length ps ≤ i → AreRead c (take i ps) (map read ws)
+      → xs ≡ ws → IsSummary (map read xs) seen → number ≡ length (filter is_decided (map read xs)) → IsSumOf c ps seen number
+  sum_read read i ws xs seen number past are same summary decided =
+      let whole : AreRead c ps (map read xs) = subst (λ (qs : List Position). AreRead c qs (map read xs)) (take_all i ps past)
+      (subst (λ (ys : List ℕ). AreRead c (take i ps) (map read ys)) (sym same) are) in
       record {
-        held = subst (λ (qs : List Position). (p : Position) → Contains qs p → IsSome (other_table c p.tier)) whole are.held;
-        lost = lost ∙ ap (least_of lost_in) all;
-        won = won ∙ ap all_won all;
-        tied = tied ∙ ap (least_of tied_in) all;
-        decided = decided ∙ ap (λ (os : List (Option Solved)). length (filter is_decided os)) all;
+        held = whole.held;
+        summary = subst (λ (os : List (Option Solved)). IsSummary os seen) whole.records summary;
+        decided = decided ∙ ap (λ (os : List (Option Solved)). length (filter is_decided os)) whole.records;
       }
+
+  -- positions whose records are combined one by one
+  pub sum_none : (seen : Summary) → seen.lost ≡ None → seen.won ≡ Some 0 → seen.tied ≡ None → IsSumOf c (take 0 ps) seen 0
+  sum_none seen a b e = record { held = λ p h. absurd (contains_none p h); summary = record { lost = a; won = b; tied = e }; decided = refl }
+
+  pub sum_more : (i : ℕ) (d : Position) (old new : Summary) (m n : ℕ) (known : Option Solved) → i < length ps → IsSome (other_table c (get_or ps i d).tier)
+      → known ≡ other_record c (get_or ps i d) → new.lost ≡ lesser old.lost (lost_in known) → new.won ≡ greater old.won (won_in known)
+      → new.tied ≡ lesser old.tied (tied_in known) → n ≡ m + cond (is_decided known) 1 0 → IsSumOf c (take i ps) old m → IsSumOf c (take (i + 1) ps) new n
+  sum_more i d old new m n known inside held is lost won tied decided before = record {
+    held = held_more i d inside held before.held;
+    summary = summary_more (other_record c) ps i d inside known is old new lost won tied before.summary;
+    decided = decided_more (other_record c) ps i d inside known is m n decided before.decided;
+  }
+
+  pub sum_all : (i : ℕ) (seen : Summary) (n : ℕ) → length ps ≤ i → IsSumOf c (take i ps) seen n → IsSumOf c ps seen n
+  sum_all i seen n past sum = subst (λ (qs : List Position). IsSumOf c qs seen n) (take_all i ps past) sum
 
 -- two functions that give the same for each of a list
 pub map_same : (f g : Position → Option Solved) (ps : List Position) → ((p : Position) → Contains ps p → f p ≡ g p) → map f ps ≡ map g ps
@@ -137,23 +142,28 @@ map_same f g (p ∷ ps) h =
     ap (λ (o : Option Solved). o ∷ map f ps) (h p (contains_first p ps)) ∙ ap (λ (os : List (Option Solved)). g p ∷ os)
     (map_same f g ps (λ q k. h q (contains_later p q ps k)))
 
+-- the record of a canonical position in a cached table is the tables' value
+pub other_value : (r : Rules) (c : CacheData) (q : Position) → IsCanonical r q → IsSome (other_table c q.tier) → other_record c q ≡ value_in r c.tables q
+other_value r c q canonical some = go (other_table c q.tier) refl some
+  where
+    go : (o : Option TableData) → other_table c q.tier ≡ o → IsSome o → other_record c q ≡ value_in r c.tables q
+    go None e k = absurd (cc)
+    go (Some t) e k = ap (λ (o : Option TableData). record_of o q.index) e
+        ∙ sym (value_canonical r c.tables q canonical ∙ record_held c.tables t q (other_held c q.tier t e))
+
 -- what the tables of other tiers say of all children is what the rules give
 pub settled_sum : (r : Rules) (g : IsGame r) (c : CacheData) (records : List (Option Solved)) (p : Position) (cs : List Position) (seen : Summary) (number : ℕ)
     → r.is_legal p ≡ true → r.primitive p ≡ None → AreResults r p cs → IsSumOf c cs seen number
     → settle seen.lost seen.won seen.tied ≡ settled_by r (look_up r c.tables c.tier records) p
-settled_sum r g c records p cs seen number legal none are sum =
-    let look = look_up r c.tables c.tier records in
-    let all : map (other_record c) cs ≡ map look cs = map_same (other_record c) look cs each in
-    let lost : seen.lost ≡ least_of lost_in (map look cs) = sum.lost ∙ ap (least_of lost_in) all in
-    let won : seen.won ≡ all_won (map look cs) = sum.won ∙ ap all_won all in
-    let tied : seen.tied ≡ least_of tied_in (map look cs) = sum.tied ∙ ap (least_of tied_in) all in
-    let same = settled_by_list r look p cs none are in
-    cc
+settled_sum r g c records p cs seen number legal none are sum = settled_results r look p cs seen none are
+    (subst (λ (os : List (Option Solved)). IsSummary os seen) (map_same (other_record c) look cs each) sum.summary)
   where
-    each : (q : Position) → Contains cs q → other_record c q ≡ look_up r c.tables c.tier records q
+    look : Position → Option Solved
+    look = look_up r c.tables c.tier records
+
+    each : (q : Position) → Contains cs q → other_record c q ≡ look q
     each q h =
         let canonical = (near_child r g p.tier p q refl legal ((are q).0 h)).0 in
         let apart : q.tier ≢ c.tier = λ e. (let some : IsSome {T = TableData} None = subst (λ (o : Option TableData). IsSome o)
         (sym (own_table c q.tier e)) (sum.held q h) in cc) in
-        look_up_else r c.tables c.tier records q (other_record c q) (table_of c.tables q.tier) canonical apart refl
-        (ap (λ (o : Option TableData). record_of o q.index) (sym (else_table c q.tier apart)))
+        look_up_value r c.tables c.tier records q (other_record c q) apart (other_value r c q canonical (sum.held q h))

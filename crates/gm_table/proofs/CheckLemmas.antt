@@ -1,25 +1,11 @@
 -- What a checked position's canonical children say, and the records that fit.
-use Rattle.std.proofs.Common.{◌≡◌, ◌≢◌, ◌==◌, ℕ, ◌<◌, ◌≤◌, ◌+◌, true, false, Bool, ne_eqb, eq-eqb, eqb-true, if◌then◌else◌, MatchOption, List, [], ◌∷◌, ◌++◌}
-use Rattle.std.proofs.Common.{map, take, length, get_or, refl, sym, ap, ◌∙◌, subst, arith, inl, inr, Option, None, Some}
-use Rattle.gm_table.proofs.Lower.{is_some, map-append, map_more, take_all, length-map, length-take, cases_eq, same_Some, slice_get-get_or, slice_get_within}
-use Rattle.gm_table.proofs.Lower.{Contains-get_or, Position, End, Solved, Rules, at, IsCanonical, IsGame, AreResults, lost_in, tied_in, least_of, all_won}
+use Rattle.std.proofs.Common.{◌≡◌, ◌≢◌, ◌==◌, ℕ, ◌<◌, ◌+◌, true, false, Bool, ne_eqb, eq-eqb, eqb-true, if◌then◌else◌, MatchOption, List, [], ◌∷◌}
+use Rattle.std.proofs.Common.{map, length, get_or, refl, sym, ap, ◌∙◌, subst, arith, inl, inr, Option, None, Some}
+use Rattle.gm_table.specs.declared.summary.Summary.{Summary}
+use Rattle.gm_table.proofs.Lower.{IsSummary, is_some, cases_eq, same_Some, slice_get-get_or, slice_get_within}
+use Rattle.gm_table.proofs.Lower.{Contains-get_or, Position, End, Solved, Rules, at, IsCanonical, IsGame, AreResults}
 use Rattle.gm_table.proofs.Lower.{settle, settled_by, from_end, near_child, settled_by_list, TableData, table_of, record_at, record_of, record_in, value_in}
-use Rattle.gm_table.proofs.Lower.{record_of_word, look_up, RecordFits, FitsAt, IsFirstWrong, IsFirstWrongIn, FitBetween}
-
--- one child's word more
-pub words_more : (look : Position → Option Solved) (cs : List Position) (ws new : List ℕ) (i w : ℕ) (d : Position) → i < length cs → map record_of_word ws ≡
-    map look (take i cs) → new ≡ ws ++ w ∷ [] → record_of_word w ≡ look (get_or cs i d)
-    → map record_of_word new ≡ map look (take (i + 1) cs)
-words_more look cs ws new i w d l before is e =
-    ap (map record_of_word) is ∙ map-append record_of_word ws (w ∷ []) ∙ ap (λ (os : List (Option Solved)). os ++ record_of_word w ∷ []) before
-    ∙ ap (λ (o : Option Solved). map look (take i cs) ++ o ∷ []) e ∙ sym (map_more look cs i d l)
-
--- there are as many words as children that were read
-pub words_few : (look : Position → Option Solved) (cs : List Position) (ws : List ℕ) (i : ℕ) → map record_of_word ws ≡ map look (take i cs) → length ws ≤ i
-words_few look cs ws i e =
-    let many : length ws ≡ length (take i cs) = sym (length-map ws record_of_word) ∙ ap length e ∙ length-map (take i cs) look in
-    let taken = length-take i cs in
-    omega arith
+use Rattle.gm_table.proofs.Lower.{look_up, RecordFits, FitsAt, IsFirstWrong, IsFirstWrongIn, FitBetween}
 
 -- a canonical child is canonical
 pub child_canonical : (r : Rules) (g : IsGame r) (p : Position) (cs : List Position) (i : ℕ) (d : Position) → r.is_legal p ≡ true → AreResults r p cs → i <
@@ -27,16 +13,12 @@ pub child_canonical : (r : Rules) (g : IsGame r) (p : Position) (cs : List Posit
 child_canonical r g p cs i d l h n = (near_child r g p.tier p (get_or cs i d) refl l ((h (get_or cs i d)).0 (Contains-get_or cs i d n))).0
 
 -- what the canonical children say is what the rules give
-pub settled_results : (r : Rules) (look : Position → Option Solved) (p : Position) (cs : List Position) (ws : List ℕ) (i : ℕ) (lost won tied : Option ℕ) →
-    r.primitive p ≡ None → AreResults r p cs → length cs ≤ i
-    → map record_of_word ws ≡ map look (take i cs) → lost ≡ least_of lost_in (map record_of_word ws) → won ≡ all_won (map record_of_word ws) → tied ≡
-    least_of tied_in (map record_of_word ws)
-    → settle lost won tied ≡ settled_by r look p
-settled_results r look p cs ws i lost won tied o are past all a b c =
-    let whole : map record_of_word ws ≡ map look cs = all ∙ ap (map look) (take_all i cs past) in
-    let la : lost ≡ least_of lost_in (map look cs) = a ∙ ap (least_of lost_in) whole in
-    let lb : won ≡ all_won (map look cs) = b ∙ ap all_won whole in
-    let lc : tied ≡ least_of tied_in (map look cs) = c ∙ ap (least_of tied_in) whole in
+pub settled_results : (r : Rules) (look : Position → Option Solved) (p : Position) (cs : List Position) (seen : Summary) → r.primitive p ≡ None
+    → AreResults r p cs → IsSummary (map look cs) seen → settle seen.lost seen.won seen.tied ≡ settled_by r look p
+settled_results r look p cs seen o are sum =
+    let lost = sum.lost in
+    let won = sum.won in
+    let tied = sum.tied in
     let same = settled_by_list r look p cs o are in
     cc
 
@@ -44,7 +26,7 @@ pub settled_at_end : (r : Rules) (look : Position → Option Solved) (p : Positi
 settled_at_end r look p e o = rw (o, settled_by) refl
 
 -- the value of a canonical position is the record of its tier's table
-value_canonical : (r : Rules) (entries : List TableData) (c : Position) → IsCanonical r c → value_in r entries c ≡ record_in entries c
+pub value_canonical : (r : Rules) (entries : List TableData) (c : Position) → IsCanonical r c → value_in r entries c ≡ record_in entries c
 value_canonical r entries c (legal, same) = rw (legal, same) refl
 
 -- what is known of one record, for the record at an index
@@ -83,14 +65,14 @@ module _ (r : Rules) (entries : List TableData) (tier : ℕ) (records : List (Op
       e ∙ sym (ap (λ (b : Bool). elim b [ true ↦ record_at records c.index | false ↦ value_in r entries c ]) (eq-eqb c.tier tier same))
 
   -- what is looked up in another tier
+  pub look_up_value : (c : Position) (o : Option Solved) → c.tier ≢ tier → o ≡ value_in r entries c → o ≡ look_up r entries tier records c
+  look_up_value c o other known = known
+      ∙ sym (ap (λ (b : Bool). elim b [ true ↦ record_at records c.index | false ↦ value_in r entries c ]) (ne_eqb c.tier tier other))
+
   pub look_up_else : (c : Position) (o : Option Solved) (t : Option TableData) → IsCanonical r c → c.tier ≢ tier → t ≡ table_of entries c.tier → o ≡
       record_of t c.index → o ≡ look_up r entries tier records c
-  look_up_else c o t is other held e =
-      let apart : (c.tier == tier) ≡ false = ne_eqb c.tier tier other in
-      let known : value_in r entries c ≡ record_in entries c = value_canonical r entries c is in
-      e ∙ ap (λ (x : Option TableData). record_of x c.index) held ∙ read (table_of entries c.tier) refl
-      ∙ sym known
-      ∙ sym (ap (λ (b : Bool). elim b [ true ↦ record_at records c.index | false ↦ value_in r entries c ]) apart)
+  look_up_else c o t is other held e = look_up_value c o other
+      (e ∙ ap (λ (x : Option TableData). record_of x c.index) held ∙ read (table_of entries c.tier) refl ∙ sym (value_canonical r entries c is))
     where
       read : (x : Option TableData) → table_of entries c.tier ≡ x → record_of x c.index ≡ record_in entries c
       read None q = sym (ap (λ (y : Option TableData). elim y [ None ↦ None | Some u ↦ record_at u.records c.index ]) q)

@@ -10,7 +10,7 @@ pub mod TableLemmas
 pub mod ValueLemmas
 pub mod NumberLemmas
 pub mod PackedLemmas
-pub mod WordLemmas
+pub mod ReadLemmas
 pub mod VerdictLemmas
 pub mod Lower
 pub mod CodeLemmas

@@ -23,15 +23,14 @@ pub use Rattle.gm_game.specs.declared.position.Value.{Value}
 pub use Rattle.gm_game.specs.declared.position.Value.TheVariants.{Draw, Lose, Tie, Win}
 pub use Rattle.gm_table.specs.Checks.{AreWrong, FitBetween, FitTables, FitsAt, IsFirstOfBlock, IsFirstWrong, IsFirstWrongIn, RecordFits, look_up}
 pub use Rattle.gm_table.specs.Dealing.{block_in}
-pub use Rattle.gm_table.specs.Caches.{AreCached, AreShorts, CacheData, IsSumOf, cache_of, other_record, other_table}
+pub use Rattle.gm_table.specs.Caches.{AreCached, AreRead, AreShorts, CacheData, IsSumOf, cache_of, other_record, other_table}
 pub use Rattle.gm_table.specs.Levels.{HasLevel, IsGreatest, greatest_of, indexes_at, indexes_from, is_level, later, level_in}
 pub use Rattle.gm_table.specs.Numbers.{wide}
 pub use Rattle.gm_table.specs.Packed.{AreNear, IsNear, unpacked}
 pub use Rattle.gm_table.specs.Runs.{run_at, run_in}
-pub use Rattle.gm_table.specs.Shorts.{record_of_short}
+pub use Rattle.gm_table.specs.Shorts.{IsSummary, is_decided, record_of_short}
 pub use Rattle.gm_table.specs.Tables.{AreHeld, AreKept, AreTables, IsHeld, IsTable, TableData, record_at, record_in, record_of, run_of, table_of}
 pub use Rattle.gm_table.specs.Tables.{value_in}
-pub use Rattle.gm_table.specs.Words.{is_decided, marked, record_of_word}
 pub use Rattle.gm_table.specs.declared.checker.CheckError.{CheckError}
 pub use Rattle.gm_table.specs.declared.checker.CheckError.TheVariants.{OutOfMemory, WrongRecord, WrongSize}
 pub use Rattle.rayon.proofs.Reducing.{Reduces-elim}

@@ -1,24 +1,26 @@
 -- The values that tables give.
-use Rattle.std.proofs.Common.{◌≡◌, ℕ, ◌<◌, ◌↔◌, true, false, List, length, get_or, refl, sym, ap, ◌∙◌, subst, Bool, Option, None, Some, IsSome, IfSome}
+use Rattle.std.proofs.Common.{◌≡◌, ℕ, ◌<◌, ◌≤◌, ◌↔◌, true, false, List, length, get_or, refl, sym, ap, ◌∙◌, subst, Bool, Option, None, Some, IsSome, IfSome}
 use Rattle.std.proofs.Common.{slice_get}
 use Rattle.gm_table.proofs.Lower.{slice_get-get_or, Position, Solved, REMOTENESS, Rules, at, IsCanonical, IsGame, IsTrueValue, IsTrueTable, IsRecord}
 use Rattle.gm_table.proofs.Lower.{HoldsChildren, IsKnown, Fits, IsTrueValue-canonical, known_since, true_iff_fits, TableData, IsTable, record_at, table_of}
 use Rattle.gm_table.proofs.Lower.{IsHeld, AreHeld, AreTables, record_in, value_in}
 
--- a table has the record of each canonical position of its tier
-record_there : (r : Rules) (t : TableData) (c : Position) (s : Option Solved) → IsTrueTable r REMOTENESS t.tier t.records → IsCanonical r c → c.tier ≡
-    t.tier → slice_get t.records c.index ≡ Some s → (x : Solved) × (record_at t.records c.index ≡ Some x) × IsTrueValue r c x
-record_there r t c None h i e q = absurd (h.each c.index None q (subst (λ x. IsCanonical r x) (ap (λ u. at u c.index) e) i))
-record_there r t c (Some x) h i e q = (x, rw (q, record_at) refl, subst (λ y. IsTrueValue r y x) (ap (λ u. at u c.index) (sym e)) (h.each c.index (Some x) q).1)
-
-record_of : (r : Rules) (g : IsGame r) (t : TableData) (c : Position) → IsTable r t → IsCanonical r c → c.tier ≡ t.tier → (x : Solved) ×
-    (record_at t.records c.index ≡ Some x) × IsTrueValue r c x
-record_of r g t c h i e =
-    let l : c.index < length t.records = subst (λ n. c.index < n) (sym h.is_true.whole) (subst (λ u. c.index < r.tier_size u) e (g.index_below c i.0)) in
-    record_there r t c (get_or t.records c.index None) h.is_true i e (slice_get-get_or t.records c.index None l)
+-- a true table has the record of each canonical position of its tier
+pub canonical_record : (r : Rules) → IsGame r → (tier : ℕ) (records : List (Option Solved)) → IsTrueTable r REMOTENESS tier records → (c : Position)
+    → IsCanonical r c → c.tier ≡ tier → (x : Solved) × (record_at records c.index ≡ Some x) × IsTrueValue r c x × (x.remoteness ≤ REMOTENESS)
+canonical_record r g tier records t c i e =
+    let l : c.index < length records = subst (λ n. c.index < n) (sym t.whole) (subst (λ u. c.index < r.tier_size u) e (g.index_below c i.0)) in
+    let q = slice_get-get_or records c.index None l in
+    there (get_or records c.index None) q (subst (λ u. IsRecord r REMOTENESS (IsTrueValue r) (at u c.index) (get_or records c.index None)) (sym e)
+    (t.each c.index (get_or records c.index None) q))
+  where
+    there : (o : Option Solved) → slice_get records c.index ≡ Some o → IsRecord r REMOTENESS (IsTrueValue r) (at c.tier c.index) o
+        → (x : Solved) × (record_at records c.index ≡ Some x) × IsTrueValue r c x × (x.remoteness ≤ REMOTENESS)
+    there None q h = absurd (h i)
+    there (Some x) q (k, value, near) = (x, rw (q, record_at) refl, value, near)
 
 -- the record in the tables, by the table of the tier
-record_held : (entries : List TableData) (t : TableData) (p : Position) → table_of entries p.tier ≡ Some t → record_in entries p ≡ record_at t.records p.index
+pub record_held : (entries : List TableData) (t : TableData) (p : Position) → table_of entries p.tier ≡ Some t → record_in entries p ≡ record_at t.records p.index
 record_held entries t p e = rw (e, record_in) refl
 
 record_not_held : (entries : List TableData) (p : Position) → table_of entries p.tier ≡ None → record_in entries p ≡ None
@@ -47,13 +49,13 @@ module _ (r : Rules) (g : IsGame r) (entries : List TableData) (p : Position) wh
   not_held false l e = value_not_legal l
 
   -- a legal position of a held tier has its true value
-  known_value : (t : TableData) → AreTables r entries → r.is_legal p ≡ true → table_of entries p.tier ≡ Some t → (s : Solved) ×
-      (value_in r entries p ≡ Some s) × IsTrueValue r p s
+  pub known_value : (t : TableData) → AreTables r entries → r.is_legal p ≡ true → table_of entries p.tier ≡ Some t → (s : Solved) ×
+      (value_in r entries p ≡ Some s) × IsTrueValue r p s × (s.remoteness ≤ REMOTENESS)
   known_value t h l e =
       let (q, k) = h p.tier t e in
       let c = r.canonical p in
-      let (s, f, v) = record_of r g t c k (g.canonical_legal p l, g.canonical_twice p l) (g.canonical_tier p l ∙ sym q) in
-      (s, value_held t l e ∙ f, (IsTrueValue-canonical r g p s l).1 v)
+      let (s, f, v, n) = canonical_record r g t.tier t.records k.is_true c (g.canonical_legal p l, g.canonical_twice p l) (g.canonical_tier p l ∙ sym q) in
+      (s, value_held t l e ∙ f, (IsTrueValue-canonical r g p s l).1 v, n)
 
   -- and any other position has none
   abbrev IsLegalHeld : Type 0
@@ -70,7 +72,7 @@ module _ (r : Rules) (g : IsGame r) (entries : List TableData) (p : Position) wh
       → (IsSome (value_in r entries p) ↔ IsLegalHeld) × IfSome (value_in r entries p) (IsTrueValue r p)
   value_cases false o h l e = none_case (λ k. let f = k.0 in cc) (value_not_legal l)
   value_cases true None h l e = none_case (λ k. let f = subst IsSome e k.1 in cc) (not_held true l e)
-  value_cases true (Some t) h l e = let (s, f, v) = known_value t h l e in some_case s (l, subst IsSome (sym e) refl) f v
+  value_cases true (Some t) h l e = let (s, f, v, n) = known_value t h l e in some_case s (l, subst IsSome (sym e) refl) f v
 
   pub value_known : AreTables r entries → IsSome (value_in r entries p) ↔ ((r.is_legal p ≡ true) × IsHeld entries p.tier)
   value_known h = (value_cases (r.is_legal p) (table_of entries p.tier) h refl refl).0
@@ -82,7 +84,7 @@ module _ (r : Rules) (g : IsGame r) (entries : List TableData) (p : Position) wh
 module _ (r : Rules) (g : IsGame r) (entries : List TableData) (tables : AreTables r entries) where
   held_known : (c : Position) (o : Option TableData) → table_of entries c.tier ≡ o → IsSome o → IsCanonical r c → IsKnown r (value_in r entries) c
   held_known c None e h i = absurd (cc)
-  held_known c (Some t) e h i = let (s, f, v) = known_value r g entries c t tables i.0 e in known_since r (value_in r entries) c s f v
+  held_known c (Some t) e h i = let (s, f, v, n) = known_value r g entries c t tables i.0 e in known_since r (value_in r entries) c s f v
 
   pub holds_children : (tier : ℕ) → AreHeld r entries tier → HoldsChildren r tier (value_in r entries)
   holds_children tier h c k i = held_known c (table_of entries c.tier) refl (h c.tier k) i

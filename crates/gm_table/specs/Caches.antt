@@ -1,10 +1,9 @@
 -- Tables that are cached, and what they say of children.
 use Rattle.std.specs.Prelude.{◌≡◌, ℕ, ◌<◌, ◌==◌, if◌then◌else◌, List, Option, None, Some, IsSome, length, map, get_or, option_copied}
 use Rattle.std.specs.Borrow.{Bor}
-use Rattle.gm_table.specs.Lower.{Contains, Position, Solved, filter, least_of, all_won, lost_in, tied_in}
-use Rattle.gm_table.specs.Shorts.{record_of_short}
+use Rattle.gm_table.specs.Lower.{Contains, Position, Solved, filter}
+use Rattle.gm_table.specs.Shorts.{IsSummary, record_of_short, is_decided}
 use Rattle.gm_table.specs.Tables.{TableData, table_of, record_at, record_of}
-use Rattle.gm_table.specs.Words.{is_decided}
 use Rattle.gm_table.specs.declared.cache.Shorts.{Shorts}
 use Rattle.gm_table.specs.declared.summary.Summary.{Summary}
 
@@ -37,10 +36,13 @@ pub record AreCached (c : CacheData) (last : List (Option (Bor TableData))) (sho
   pub table : (k : ℕ) → k < 8 → (t : TableData) → option_copied (get_or last k None) ≡ Some t → other_table c t.tier ≡ Some t
   pub forms : (k : ℕ) → k < 8 → (d : Shorts) → AreShorts c (get_or shorts k d)
 
+-- the tables of other tiers know these positions, and these are their records
+pub record AreRead (c : CacheData) (ps : List Position) (os : List (Option Solved)) : Type 0 where
+  pub held : (p : Position) → Contains ps p → IsSome (other_table c p.tier)
+  pub records : os ≡ map (other_record c) ps
+
 -- the tables of other tiers know these positions, this is the summary of their records, and this is the number of those that are not draws
 pub record IsSumOf (c : CacheData) (ps : List Position) (seen : Summary) (number : ℕ) : Type 0 where
   pub held : (p : Position) → Contains ps p → IsSome (other_table c p.tier)
-  pub lost : seen.lost ≡ least_of lost_in (map (other_record c) ps)
-  pub won : seen.won ≡ all_won (map (other_record c) ps)
-  pub tied : seen.tied ≡ least_of tied_in (map (other_record c) ps)
+  pub summary : IsSummary (map (other_record c) ps) seen
   pub decided : number ≡ length (filter is_decided (map (other_record c) ps))

@@ -9,6 +9,5 @@ pub mod Outlines
 pub mod Solving
 pub mod Shorts
 pub mod Tables
-pub mod Words
 pub mod Lower
 pub mod RecordCodes

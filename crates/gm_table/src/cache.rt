@@ -1,19 +1,18 @@
 //! The tables that were read last.
-ghost use Rattle.std.specs.Prelude.{◌≡◌, ◌<◌, ◌≤◌, ℕ, None, Some, IsTrue, IfNone, IfSome, length, option_copied, get_or};
+ghost use Rattle.std.specs.Prelude.{◌≡◌, ◌<◌, ◌≤◌, ℕ, None, Some, IsTrue, IfNone, IfSome, length, option_copied, get_or, cond};
 ghost use Rattle.gm_table.specs.Lower.{Contains, MOVES, Position};
 ghost use Rattle.gm_table.specs.Caches.{IsSumOf, cache_of, other_table, other_record};
-ghost use Rattle.gm_table.specs.Shorts.{record_of_short};
+ghost use Rattle.gm_table.specs.Shorts.{record_of_short, is_decided};
 ghost use Rattle.gm_table.specs.Tables.{TableData, AreTables, record_at};
 
 use crate::shorts::sum_of_shorts;
 use crate::summary::Summary;
 use crate::table::Table;
 use crate::tables::Tables;
-use crate::words::sum_of;
 use arrayvec::ArrayVec;
 use gm_game::game::Game;
 use gm_game::limits::MOVES;
-use gm_game::position::Position;
+use gm_game::position::{Position, Solved, Value};
 use std::marker::Model;
 
 /// How many tables are cached: the child tiers of a tier are mostly few and next to each other.
@@ -92,12 +91,8 @@ impl<'a, G: Game> TableCache<'a, G> {
     }
 
     /// Returns the summary of the records of positions of other tiers, and how many of them are not draws; `None` if one of the tiers has no table, or is the
-    /// cache's own. The words of records are written over what `words` holds.
-    pub fn sum(
-        &mut self,
-        positions: &[Position],
-        words: &mut ArrayVec<u64, MOVES>,
-    ) -> Option<(Summary, u64)>
+    /// cache's own.
+    pub fn sum(&mut self, positions: &[Position]) -> Option<(Summary, u64)>
         requires { length positions.now ≤ MOVES }
         ensures none { IfNone result ((p : Position) × Contains positions.now p × (other_table self.old p.tier ≡ None)) }
         ensures sum { IfSome result (λ found. IsSumOf self.old positions.now found.0 found.1) }
@@ -107,7 +102,7 @@ impl<'a, G: Game> TableCache<'a, G> {
         self.tables.truth();
         match self.sum_by_shorts(positions) {
             Some(found) => Some(found),
-            None => self.sum_by_words(positions, words),
+            None => self.sum_by_records(positions),
         }
     }
 
@@ -124,22 +119,21 @@ impl<'a, G: Game> TableCache<'a, G> {
         Some(sum_of_shorts(shorts.as_slice()))
     }
 
-    // Returns what `sum` does. It reads all words first, so a processor waits for many records at once.
-    fn sum_by_words(
-        &mut self,
-        positions: &[Position],
-        words: &mut ArrayVec<u64, MOVES>,
-    ) -> Option<(Summary, u64)>
+    // Returns what `sum` does, for records of any remoteness.
+    fn sum_by_records(&mut self, positions: &[Position]) -> Option<(Summary, u64)>
         requires { length positions.now ≤ MOVES }
         ensures none { IfNone result ((p : Position) × Contains positions.now p × (other_table self.old p.tier ≡ None)) }
         ensures sum { IfSome result (λ found. IsSumOf self.old positions.now found.0 found.1) }
         ensures same { self.new ≡ self.old }
     {
-        words.clear();
+        let mut seen = Summary::of_none();
+        let mut decided = 0;
         for p in positions {
-            words.push(self.table(p.tier)?.word(p.index));
+            let known = self.table(p.tier)?.at(p.index);
+            seen = seen.with(known);
+            decided += count_decided(known);
         }
-        Some(sum_of(words.as_slice()))
+        Some((seen, decided))
     }
 
     // Returns the short form of a position's record, if its table has short forms. It is short, so that a processor waits for many records at once.
@@ -185,5 +179,18 @@ fn shorts_of<G: Game>(found: Option<&Table<G>>) -> &[u8]
     match found {
         Some(table) => table.shorts(),
         None => &[],
+    }
+}
+
+// Returns 1 for a record that is no draw, and 0 for a draw or none.
+fn count_decided(known: Option<Solved>) -> u64
+    ensures { result ≡ cond (is_decided known) 1 0 }
+{
+    match known {
+        None => 0,
+        Some(solved) => match solved.value {
+            Value::Draw => 0,
+            Value::Lose | Value::Tie | Value::Win => 1,
+        },
     }
 }

@@ -1,26 +1,21 @@
 //! Whether one record follows from the records of its position's canonical children.
-ghost use Rattle.std.specs.Prelude.{◌≡◌, ◌↔◌, IsTrue, None, option_copied};
+ghost use Rattle.std.specs.Prelude.{◌≡◌, ◌↔◌, ◌≤◌, IsTrue, None, option_copied};
 ghost use Rattle.gm_table.specs.Lower.{IsCanonical, IsInner, AreResults, settle};
-ghost use Rattle.gm_table.specs.Tables.{record_of};
-ghost use Rattle.gm_table.specs.Words.{record_of_word};
 ghost use Rattle.gm_table.specs.Checks.{look_up, value_from, RecordFits};
 
 use crate::cache::TableCache;
 use crate::records::Records;
 use crate::summary::Summary;
-use crate::table::Table;
-use crate::words::sum_of;
 use arrayvec::ArrayVec;
 use gm_game::evaluate::of_end;
 use gm_game::game::Game;
 use gm_game::limits::{MOVES, REMOTENESS};
 use gm_game::position::{End, Position, Solved};
 
-/// Lists that serve many positions: of one its results, and the words of their records.
+/// A list that serves many positions: of one its results.
 #[derive(Drop)]
 pub(crate) struct Lists {
     pub(crate) results: ArrayVec<Position, MOVES>,
-    words: ArrayVec<u64, MOVES>,
 }
 
 impl Lists {
@@ -28,7 +23,6 @@ impl Lists {
     pub(crate) fn new() -> Self {
         Lists {
             results: ArrayVec::new(),
-            words: ArrayVec::new(),
         }
     }
 }
@@ -65,12 +59,13 @@ fn follows<'a, G: Game, C: Records>(
     p: Position,
     solved: Solved,
 ) -> bool
+    requires near { solved.remoteness ≤ REMOTENESS }
     requires inner { IsInner G.rules p }
     requires results { AreResults G.rules p lists.old.results.items }
     ensures value { IsTrue result ↔ (solved ≡ value_from G.rules cache.old.tables cache.old.tier (C.listed records.now) p) }
     ensures same { cache.new ≡ cache.old }
 {
-    gather::<G, C>(records, cache, lists, p).settles(solved)
+    gather::<G, C>(records, cache, lists, p).value() == Some(solved)
 }
 
 // Returns the summary of the results in the lists. If one of them is in the tier, or has no table, each is looked up.
@@ -85,36 +80,29 @@ fn gather<'a, G: Game, C: Records>(
     ensures value { settle result.lost result.won result.tied ≡ value_from G.rules cache.old.tables cache.old.tier (C.listed records.now) p }
     ensures same { cache.new ≡ cache.old }
 {
-    let Lists { results, words } = lists;
-    if let Some((summary, _decided)) = cache.sum(results.as_slice(), words) {
-        return summary;
+    let results = lists.results.as_slice();
+    if let Some((seen, _decided)) = cache.sum(results) {
+        return seen;
     }
-    words.clear();
-    for c in results.as_slice() {
-        words.push(look_up::<G, C>(records, cache, *c));
+    let mut seen = Summary::of_none();
+    for c in results {
+        seen = seen.with(look_up::<G, C>(records, cache, *c));
     }
-    let (summary, _decided) = sum_of(words.as_slice());
-    summary
+    seen
 }
 
-// Returns the word of a canonical position's record: a given one in the tier, and elsewhere that of a table.
-fn look_up<'a, G: Game, C: Records>(records: &C, cache: &mut TableCache<'a, G>, c: Position) -> u64
+// Returns the record of a canonical position: a given one in the tier, and elsewhere that of a table.
+fn look_up<'a, G: Game, C: Records>(
+    records: &C,
+    cache: &mut TableCache<'a, G>,
+    c: Position,
+) -> Option<Solved>
     requires canonical { IsCanonical G.rules c }
-    ensures record { record_of_word result ≡ look_up G.rules cache.old.tables cache.old.tier (C.listed records.now) c }
+    ensures record { result ≡ look_up G.rules cache.old.tables cache.old.tier (C.listed records.now) c }
     ensures same { cache.new ≡ cache.old }
 {
     if c.tier == cache.tier() {
-        return records.word(c.index as usize);
+        return records.record(c.index as usize);
     }
-    word_in(cache.table(c.tier), c.index)
-}
-
-// Returns the word of the record at an index of a table; 0 if there is no table.
-fn word_in<G: Game>(table: Option<&Table<G>>, index: u64) -> u64
-    ensures { record_of_word result ≡ record_of (option_copied table.entry) index }
-{
-    match table {
-        Some(table) => table.word(index),
-        None => 0,
-    }
+    cache.table(c.tier)?.at(c.index)
 }

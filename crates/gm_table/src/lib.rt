@@ -23,4 +23,3 @@ pub mod table;
 pub mod tables;
 pub mod tile;
 pub mod version;
-pub mod words;

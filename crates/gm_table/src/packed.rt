@@ -7,11 +7,9 @@ ghost use Rattle.gm_table.specs.Numbers.{wide};
 ghost use Rattle.gm_table.specs.Packed.{unpacked, IsNear, AreNear};
 ghost use Rattle.gm_table.specs.Tables.{record_at};
 ghost use Rattle.gm_table.specs.Shorts.{record_of_short};
-ghost use Rattle.gm_table.specs.Words.{record_of_word};
 
 use crate::number::code_of;
 use crate::numbers::Numbers;
-use crate::words::word_with;
 use gm_game::position::{Solved, Value};
 use std::alloc::{AllocError, Global};
 use std::marker::Model;
@@ -162,16 +160,6 @@ impl Packed {
     {
         match self.numbers.get(index) {
             Some(number) => stored(number),
-            None => 0,
-        }
-    }
-
-    /// Returns the word of the record at an index; 0 past the end.
-    pub(crate) fn word(&self, index: usize) -> u64
-        ensures { record_of_word result ≡ record_at self.now index }
-    {
-        match self.numbers.get(index) {
-            Some(number) => word_with(number),
             None => 0,
         }
     }

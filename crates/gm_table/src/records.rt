@@ -2,10 +2,8 @@
 ghost use Rattle.std.specs.Prelude.{◌≡◌, List, Option, length};
 ghost use Rattle.gm_game.specs.declared.position.Solved.{Solved as SolvedSpec};
 ghost use Rattle.gm_table.specs.Tables.{record_at};
-ghost use Rattle.gm_table.specs.Words.{record_of_word};
 
 use crate::packed::Packed;
-use crate::words::word_of;
 use gm_game::position::Solved;
 
 /// Records of a tier by index.
@@ -20,10 +18,6 @@ pub(crate) trait Records {
     /// Returns the record at an index; `None` past the end.
     fn record(&self, index: usize) -> Option<Solved>
         ensures { result ≡ record_at (listed self.now) index };
-
-    /// Returns the word of the record at an index; 0 past the end.
-    fn word(&self, index: usize) -> u64
-        ensures { record_of_word result ≡ record_at (listed self.now) index };
 }
 
 impl Records for Packed {
@@ -35,10 +29,6 @@ impl Records for Packed {
 
     fn record(&self, index: usize) -> Option<Solved> {
         self.get(index)
-    }
-
-    fn word(&self, index: usize) -> u64 {
-        Packed::word(self, index)
     }
 }
 
@@ -57,9 +47,5 @@ impl<'a> Records for Listed<'a> {
 
     fn record(&self, index: usize) -> Option<Solved> {
         *self.records.get(index)?
-    }
-
-    fn word(&self, index: usize) -> u64 {
-        word_of(self.record(index))
     }
 }

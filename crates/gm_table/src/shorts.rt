@@ -1,15 +1,15 @@
 //! Records in their short forms of a byte each, and what those of children say. A processor folds many bytes at once.
 ghost use Rattle.std.specs.Prelude.{◌≡◌, ◌≤◌, ◌<◌, ◌+◌, map, length, cond};
-ghost use Rattle.gm_table.specs.Lower.{MOVES, filter, lost_in, won_in, tied_in, lesser, greater, least_of, all_won};
-ghost use Rattle.gm_table.specs.Words.{is_decided};
-ghost use Rattle.gm_table.specs.Shorts.{record_of_short, marked_short};
+ghost use Rattle.gm_table.specs.Lower.{MOVES, filter, lost_in, won_in, tied_in, lesser, greater};
+ghost use Rattle.gm_table.specs.Shorts.{IsSummary, record_of_short, is_decided, marked_short};
 
 use crate::summary::Summary;
 
 /// One more than the greatest remoteness of a short form. As a mark it stands for none.
 const NONE: u8 = 32;
 
-// A fold over the short forms that were read, as `Sum` is over words.
+// A fold over short forms: the least remoteness of a loss, the greatest of a win if all are wins, and the least of a tie, each of them `NONE` if there is no such
+// record; and the number of records that are not draws.
 #[derive(Clone, Copy)]
 struct ShortSum {
     lost: u8,
@@ -56,9 +56,7 @@ fn marked(mark: u8) -> Option<u32>
 /// Returns the summary of children whose records have these short forms, and how many of the records are not draws.
 pub(crate) fn sum_of_shorts(shorts: &[u8]) -> (Summary, u64)
     requires { length shorts.now ≤ MOVES }
-    ensures lost { result.0.lost ≡ least_of lost_in (map record_of_short shorts.now) }
-    ensures won { result.0.won ≡ all_won (map record_of_short shorts.now) }
-    ensures tied { result.0.tied ≡ least_of tied_in (map record_of_short shorts.now) }
+    ensures summary { IsSummary (map record_of_short shorts.now) result.0 }
     ensures decided { result.1 ≡ length (filter is_decided (map record_of_short shorts.now)) }
 {
     let mut sum = ShortSum {

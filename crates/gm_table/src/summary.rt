@@ -1,7 +1,8 @@
 //! What the records of a position's children say of its value.
-ghost use Rattle.std.specs.Prelude.{◌≡◌, ◌↔◌, ◌+◌, IsTrue, None, Some};
+ghost use Rattle.std.specs.Prelude.{◌≡◌, ◌<◌, ◌≤◌, ◌+◌, None, Some, IfNone, IfSome};
 ghost use Rattle.gm_game.specs.Records.{settle, solved as solved_spec, lost_in, won_in, tied_in, lesser, greater};
 
+use gm_game::limits::REMOTENESS;
 use gm_game::position::{Solved, Value};
 
 /// A fold over some children's records: the least remoteness of a loss, the greatest of a win if all are wins, and the least of a tie.
@@ -66,15 +67,20 @@ impl Summary {
         }
     }
 
-    /// Returns whether a position with these children has this value.
-    pub fn settles(self, solved: Solved) -> bool
-        ensures { IsTrue result ↔ (solved ≡ settle self.lost self.won self.tied) }
+    /// Returns the value of a position with these children; `None` if its remoteness is above the limit of a record.
+    pub fn value(self) -> Option<Solved>
+        ensures value { IfSome result (λ solved. solved ≡ settle self.lost self.won self.tied) }
+        ensures near { IfSome result (λ solved. solved.remoteness ≤ REMOTENESS) }
+        ensures none { IfNone result (REMOTENESS < (settle self.lost self.won self.tied).remoteness) }
     {
         match (self.lost, self.won, self.tied) {
-            (Some(n), _, _) => is_next(solved, Value::Win, n),
-            (None, Some(n), _) => is_next(solved, Value::Lose, n),
-            (None, None, Some(n)) => is_next(solved, Value::Tie, n),
-            (None, None, None) => solved.value == Value::Draw && solved.remoteness == 0,
+            (Some(n), _, _) => one_more(Value::Win, n),
+            (None, Some(n), _) => one_more(Value::Lose, n),
+            (None, None, Some(n)) => one_more(Value::Tie, n),
+            (None, None, None) => Some(Solved {
+                value: Value::Draw,
+                remoteness: 0,
+            }),
         }
     }
 }
@@ -86,9 +92,17 @@ fn least(lost: Option<u32>, n: u32) -> Option<u32>
     Some(lost.map_or(n, |m| m.min(n)))
 }
 
-// Returns whether a value is this one, with a remoteness of one more.
-fn is_next(solved: Solved, value: Value, n: u32) -> bool
-    ensures { IsTrue result ↔ (solved ≡ solved_spec value (n + 1)) }
+// Returns this value with a remoteness of one more than n; `None` if that is above the limit of a record.
+fn one_more(value: Value, n: u32) -> Option<Solved>
+    ensures value { IfSome result (λ solved. solved ≡ solved_spec value (n + 1)) }
+    ensures near { IfSome result (λ solved. solved.remoteness ≤ REMOTENESS) }
+    ensures none { IfNone result (REMOTENESS < n + 1) }
 {
-    solved.value == value && u64::from(solved.remoteness) == u64::from(n) + 1
+    if n >= REMOTENESS {
+        return None;
+    }
+    Some(Solved {
+        value,
+        remoteness: n + 1,
+    })
 }

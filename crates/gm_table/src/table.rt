@@ -4,7 +4,6 @@ ghost use Rattle.gm_table.specs.Lower.{at, IsTrueValue, IsTrueTable, IsRecord};
 ghost use Rattle.gm_table.specs.Levels.{IsGreatest};
 ghost use Rattle.gm_table.specs.RecordCodes.{record_number};
 ghost use Rattle.gm_table.specs.Shorts.{record_of_short};
-ghost use Rattle.gm_table.specs.Words.{record_of_word};
 ghost use Rattle.gm_table.specs.declared.version.Version.TheVariants.{Two};
 
 use crate::outline::Outline;
@@ -145,15 +144,6 @@ impl<G: Game> Table<G> {
         ensures { (i : ℕ) → i < length result.now → record_at self.now.records i ≡ record_of_short (get_or result.now i 0) }
     {
         self.records.shorts()
-    }
-
-    /// Returns the word of the record at an index, without a branch; 0 for an index without a record.
-    pub fn word(&self, index: u64) -> u64
-        ensures value { record_of_word result ≡ record_at self.now.records index }
-        ensures is_true { IsRecord G.rules REMOTENESS (IsTrueValue G.rules) (at self.now.tier index) (record_of_word result) }
-        ensures table { IsTable G.rules self.now }
-    {
-        self.records.word(index as usize)
     }
 
     /// Returns the greatest remoteness of wins and losses, or of ties; `None` if the table has no such record.

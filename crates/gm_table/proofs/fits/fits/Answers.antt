@@ -5,7 +5,10 @@ pub follows-requires : goal.follows-requires
 follows-requires g c = (
   omega arith,
   (
-    record { legal = c.requires.canonical.0; canonical = c.requires.canonical.1; unended = c.requires.end ∙ c.in-None-Some.is-0 },
-    c.requires.results c.in-None-Some.is-0,
+    omega arith,
+    (
+      record { legal = c.requires.canonical.0; canonical = c.requires.canonical.1; unended = c.requires.end ∙ c.in-None-Some.is-0 },
+      c.requires.results c.in-None-Some.is-0,
+    ),
   ),
 )

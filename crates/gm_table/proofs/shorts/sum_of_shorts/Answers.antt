@@ -1,7 +1,6 @@
-use Rattle.std.proofs.Common.{arith}
-use Rattle.gm_game.specs.Records.{lost_in, tied_in}
+use Rattle.std.proofs.Common.{refl, arith}
 use Rattle.gm_table.specs.Shorts.{record_of_short}
-use Rattle.gm_table.proofs.WordLemmas.{least_more, won_more, decided_more, decided_few}
+use Rattle.gm_table.proofs.ReadLemmas.{summary_more, summary_all, decided_more, decided_few}
 use Rattle.gm_table.proofs.shorts.sum_of_shorts.Goals as goal
 
 pub with-sum-requires : goal.with-sum-requires
@@ -14,17 +13,17 @@ with-sum-requires c =
 
 pub loop-short-preserved : goal.loop-short-preserved
 loop-short-preserved c =
-    let lost = least_more record_of_short c.args.shorts.now c.loop-short.short-index 0 c.loop-short-test.true lost_in in
-    let won = won_more record_of_short c.args.shorts.now c.loop-short.short-index 0 c.loop-short-test.true in
-    let tied = least_more record_of_short c.args.shorts.now c.loop-short.short-index 0 c.loop-short-test.true tied_in in
-    let decided = decided_more record_of_short c.args.shorts.now c.loop-short.short-index 0 c.loop-short-test.true in
+    let i = c.loop-short.invariant in
+    let inside = c.loop-short-test.true in
     record {
-      lost = cc;
-      won = cc;
-      tied = cc;
-      decided = cc;
+      summary = summary_more record_of_short c.args.shorts.now c.loop-short.short-index 0 inside _ refl _ _ c.with-sum.ensures.lost c.with-sum.ensures.won
+          c.with-sum.ensures.tied i.summary;
+      decided = decided_more record_of_short c.args.shorts.now c.loop-short.short-index 0 inside _ refl _ _ c.with-sum.ensures.decided i.decided;
       lost_fits = c.with-sum.result.lost_fits;
       won_fits = c.with-sum.result.won_fits;
-      tied_fits =
-          c.with-sum.result.tied_fits;
+      tied_fits = c.with-sum.result.tied_fits;
     }
+
+pub returns-clause-summary : goal.returns-clause-summary
+returns-clause-summary c = summary_all record_of_short c.args.shorts.now c.loop-short.short-index _ _ c.loop-short-test.false c.marked.ensures
+    c.marked-2.ensures c.marked-3.ensures c.loop-short.invariant.summary

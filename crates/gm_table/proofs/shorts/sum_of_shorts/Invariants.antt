@@ -1,13 +1,12 @@
 use Rattle.std.proofs.Common.{◌≡◌, ◌≤◌, map, length, take}
-use Rattle.gm_table.proofs.Lower.{filter, lost_in, tied_in, least_of, all_won, is_decided}
+use Rattle.gm_table.proofs.Lower.{filter, is_decided, IsSummary}
 use Rattle.gm_table.specs.Shorts.{record_of_short, marked_short}
 use Rattle.gm_table.proofs.shorts.sum_of_shorts.Given as goal
 
 abbrev pub invariant-loop-short : goal.invariant-loop-short
 invariant-loop-short l = record {
-  lost : marked_short l.sum.0 ≡ least_of lost_in (map record_of_short (take l.short-index l.shorts));
-  won : marked_short l.sum.1.0 ≡ all_won (map record_of_short (take l.short-index l.shorts));
-  tied : marked_short l.sum.1.1.0 ≡ least_of tied_in (map record_of_short (take l.short-index l.shorts));
+  summary : IsSummary (map record_of_short (take l.short-index l.shorts))
+      (record { lost = marked_short l.sum.0; won = marked_short l.sum.1.0; tied = marked_short l.sum.1.1.0 });
   decided : l.sum.1.1.1.0 ≡ length (filter is_decided (map record_of_short (take l.short-index l.shorts)));
   lost_fits : l.sum.0 ≤ 32;
   won_fits : l.sum.1.0 ≤ 32;

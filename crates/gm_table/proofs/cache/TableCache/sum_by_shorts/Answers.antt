@@ -13,6 +13,6 @@ loop-p-preserved g c =
     × (other_record k p ≡ record_of_short c.in_ok-short.field-0)) i.same c.in_ok-short.ensures.short in
     record {
       same = c.in_ok-short.ensures.same ∙ i.same;
-      read = read_more record_of_short c.args.self.now c.args.positions.now c.loop-p.p-index (at 0 0) c.loop-p.shorts.items _ c.in_ok-short.field-0
+      read = read_more c.args.self.now c.args.positions.now record_of_short c.loop-p.p-index (at 0 0) c.loop-p.shorts.items _ c.in_ok-short.field-0
           c.loop-p-test.true (subst IsSome (sym held) refl) is c.push.ensures.items i.read;
     }

@@ -1,10 +1,9 @@
-use Rattle.std.proofs.Common.{◌≡◌, take}
-use Rattle.gm_table.proofs.CacheLemmas.{AreRead}
-use Rattle.gm_table.specs.Shorts.{record_of_short}
+use Rattle.std.proofs.Common.{◌≡◌, map, take}
+use Rattle.gm_table.proofs.Lower.{AreRead, record_of_short}
 use Rattle.gm_table.proofs.cache.TableCache.sum_by_shorts.Given as goal
 
 abbrev pub invariant-loop-p : goal.invariant-loop-p
 invariant-loop-p g l = record {
   same : l.self ≡ l.fn.self;
-  read : AreRead record_of_short l.fn.self (take l.p-index l.positions) l.shorts.items;
+  read : AreRead l.fn.self (take l.p-index l.positions) (map record_of_short l.shorts.items);
 }
