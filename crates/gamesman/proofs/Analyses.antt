@@ -1,8 +1,6 @@
 -- Lines of analyses, with one more tier.
-use Rattle.std.proofs.Common.{◌≡◌, ℕ, ◌+◌, ◌<◌, List, [], ◌∷◌, ◌++◌, length, take, get_or, refl, sym, ap, subst, ◌∙◌, append_assoc, append-nil}
-use Rattle.std.proofs.lemmas.List.{take_more}
-use Rattle.gm_game.specs.Rules.{Rules}
-use Rattle.gamesman.specs.Analysing.{IsAnalysisLine, AreAnalysisLines}
+use Rattle.gamesman.proofs.Lower.{◌≡◌, ℕ, ◌+◌, ◌<◌, List, [], ◌∷◌, ◌++◌, length, take, get_or, refl, sym, ap, subst, ◌∙◌, append_assoc, append-nil, take_more}
+use Rattle.gamesman.proofs.Lower.{Rules, IsAnalysisLine, AreAnalysisLines}
 
 lines_more : (r : Rules) (tiers : List ℕ) (tier : ℕ) (old line new : List ℕ) → AreAnalysisLines r tiers old → IsAnalysisLine r tier line → new ≡ old ++ line
     → AreAnalysisLines r (tiers ++ tier ∷ []) new

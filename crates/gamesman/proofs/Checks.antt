@@ -1,19 +1,13 @@
 -- The output of a check so far.
-use Rattle.std.proofs.Common.{◌≡◌, ℕ, suc, ◌<◌, inl, inr, List, [], ◌∷◌, ◌++◌, length, take, drop, get_or, Option, Some, Ok, refl, sym, ap}
-use Rattle.std.proofs.Common.{subst, ◌∙◌, append_assoc, append-nil, drop-cons, take-append-drop}
-use Rattle.std.specs.List.{Contains}
-use Rattle.std.specs.Io.KnownBytes.{Appends}
-use Rattle.std.proofs.KnownBytes.{Appends-nil, Appends-trans, Appends-kept}
-use Rattle.gm_game.specs.Rules.{Rules}
-use Rattle.gm_game.proofs.Lists.{contains_none, contains_first, contains_later, contains_cases}
-use Rattle.gm_table.specs.Tables.{TableData, AreTables, Inserts}
-use Rattle.gm_build.specs.Work.{HoldsExactly}
+use Rattle.gamesman.proofs.Lower.{◌≡◌, ℕ, suc, ◌<◌, inl, inr, List, [], ◌∷◌, ◌++◌, length, take, drop, get_or, Option, Some, Ok, refl, sym, ap, subst, ◌∙◌}
+use Rattle.gamesman.proofs.Lower.{append_assoc, append-nil, take-append-drop, Contains, Appends, Appends-nil, Appends-trans, Appends-kept, Rules, contains_none}
+use Rattle.gamesman.proofs.Lower.{contains_cases, TableData, HoldsExactly, part_after, Fault, NoFile, IsMemoryFault}
+use Rattle.std.proofs.Common.{drop-cons}
+use Rattle.gm_game.proofs.Lists.{contains_first, contains_later}
+use Rattle.gm_table.specs.Tables.{AreTables, Inserts}
 use Rattle.gm_build.proofs.StoreLemmas.{holds_too}
-use Rattle.gm_play.proofs.Parts.{part_after}
-use Rattle.gamesman.specs.declared.fault.Fault.{Fault}
 use Rattle.gamesman.specs.declared.finding.Finding.{Finding}
-use Rattle.gamesman.specs.declared.finding.Finding.TheVariants.{Right, Missing, NotChecked, NoFile, NoTable}
-use Rattle.gamesman.specs.Told.{IsMemoryFault}
+use Rattle.gamesman.specs.declared.finding.Finding.TheVariants.{Right, Missing, NotChecked, NoTable}
 use Rattle.gamesman.specs.Checking.{finding_line, right_with, status_with, IsFinding, IsFoundAfter, IsTableFor, AreLines, IsUnread, IsTierCut}
 use Rattle.gamesman.specs.Checking.{IsCheckCut, IsCheckOf}
 

@@ -1,23 +1,16 @@
 -- The output of an answer after a fault.
-use Rattle.std.proofs.Common.{◌≡◌, ℕ, Bool, true, false, List, Option, None, Some, Result, Ok, Err, IfErr, IfSome, refl, sym, ap, subst, ◌∙◌}
+use Rattle.gamesman.proofs.Lower.{◌≡◌, ℕ, Bool, true, false, List, Option, None, Some, Result, Ok, Err, IfSome, refl, sym, ap, subst, ◌∙◌, Bor, Keeps, Position}
+use Rattle.gamesman.proofs.Lower.{Rules, AppendsPart, IsReadAs, Fault, NoSuchGame, NoSuchPosition, NoSuchPositionInLine, NoSuchTier, NoSuchIndex, NotLegal}
+use Rattle.gamesman.proofs.Lower.{NotCanonical, NotBuilt, AnotherGames, InputFailed, OutputFailed, OutputClosed, TooMuchInput, EngineNotRead, NotAnEngine}
+use Rattle.gamesman.proofs.Lower.{IsOutputFault, IsCutOff, IsPlaceText, IsAnsweredBy, IsUnbuilt}
+use Rattle.std.proofs.Common.{IfErr}
 use Rattle.std.specs.Result.{IsErrAnd}
-use Rattle.std.specs.Borrow.{Bor}
-use Rattle.std.specs.Io.KnownBytes.{Keeps}
-use Rattle.gm_game.specs.declared.position.Position.{Position}
-use Rattle.gm_game.specs.Rules.{Rules}
 use Rattle.gm_build.specs.declared.build_error.BuildError.{BuildError}
 use Rattle.gm_build.specs.declared.build_error.BuildError.TheVariants.{OutOfMemory, TooFar, StoreFailed, TooManyTiers, TierTooLarge}
 use Rattle.gm_build.specs.Outcomes.{IsBuildError}
-use Rattle.gm_play.specs.Sessions.{AppendsPart}
-use Rattle.gm_play.specs.PlayTexts.{IsReadAs}
-use Rattle.gamesman.specs.declared.fault.Fault.{Fault}
-use Rattle.gamesman.specs.declared.fault.Fault.TheVariants.{NoSuchGame, NoSuchPosition, NoSuchPositionInLine, NoSuchTier, NoSuchIndex, NotLegal, NotCanonical}
-use Rattle.gamesman.specs.declared.fault.Fault.TheVariants.{OutOfMemory as NoMemory, NotBuilt, AnotherGames, InputFailed, OutputFailed, OutputClosed}
-use Rattle.gamesman.specs.declared.fault.Fault.TheVariants.{TooMuchInput, EngineNotRead, NotAnEngine}
-use Rattle.gamesman.specs.Outputs.{IsOutputFault, IsCutOff}
-use Rattle.gm_play.specs.PlaceTexts.{IsPlaceText}
-use Rattle.gamesman.specs.Answers.{IsAnsweredBy, IsUnlocatedFor, IsLocatedBy}
-use Rattle.gamesman.specs.Refusals.{reason_of, IsUnbuilt, IsRefused}
+use Rattle.gamesman.specs.declared.fault.Fault.TheVariants.{OutOfMemory as NoMemory}
+use Rattle.gamesman.specs.Answers.{IsUnlocatedFor, IsLocatedBy}
+use Rattle.gamesman.specs.Refusals.{reason_of, IsRefused}
 
 -- an error that is passed on keeps its properties
 pub passed : {T E : Type 0} → (m : Result T E) (Q : E → Type 0) (e : E) → IsErrAnd m (λ y. y ≡ e) → Q e → IfErr m Q

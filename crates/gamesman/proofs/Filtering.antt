@@ -1,26 +1,20 @@
 -- The answers to the lines of an input, before its end.
-use Rattle.std.proofs.Common.{◌≡◌, ℕ, ◌+◌, ◌≤◌, ◌<◌, true, false, List, [], ◌∷◌, ◌++◌, length, take, Option, Result, Ok, IfOk, refl, sym, ap}
-use Rattle.std.proofs.Common.{subst, ◌∙◌, append_assoc, append-nil, arith}
-use Rattle.std.specs.Prelude.{◌==◌, min, None, Some, ◌↔◌, if◌then◌else◌}
-use Rattle.std.proofs.lemmas.List.{length-take, length-append}
-use Rattle.std.specs.Io.KnownBytes.{Appends, Consumes, Keeps, IsAtEnd, prepend_known}
+use Rattle.gamesman.proofs.Lower.{◌≡◌, ℕ, ◌+◌, ◌≤◌, ◌<◌, true, false, List, [], ◌∷◌, ◌++◌, length, take, Option, Result, Ok, refl, sym, ap, subst, ◌∙◌}
+use Rattle.gamesman.proofs.Lower.{append_assoc, append-nil, arith, ◌==◌, if◌then◌else◌, length-take, length-append, Appends, Keeps, Appends-trans, Appends-nil}
+use Rattle.gamesman.proofs.Lower.{Appends-kept, Position, Rules, TableData, IsTierOrder, HoldsExactly, without_return, kept_bytes, Fault, NoSuchGame}
+use Rattle.gamesman.proofs.Lower.{NoSuchPosition, NoSuchPositionInLine, NoSuchTier, NoSuchIndex, NotLegal, NotCanonical, OutOfMemory, NotBuilt, AnotherGames}
+use Rattle.gamesman.proofs.Lower.{InputFailed, OutputFailed, OutputClosed, TooMuchInput, EngineNotRead, NotAnEngine, IsLineFault, IsOfNone}
+use Rattle.std.proofs.Common.{IfOk}
+use Rattle.std.specs.Prelude.{min, None, Some, ◌↔◌}
+use Rattle.std.specs.Io.KnownBytes.{Consumes, IsAtEnd, prepend_known}
 use Rattle.std.specs.Io.Buffered.{reader_remaining, reader_capacity, reader_buffer, reader_inner}
 use Rattle.std.specs.declared.io.buffered.BufReader.{BufReader}
-use Rattle.std.proofs.KnownBytes.{Consumes-trans, Consumes-nil, Appends-trans, Appends-nil, Appends-kept, Keeps-refl, prepend_known-nil}
-use Rattle.gm_game.specs.declared.position.Position.{Position}
-use Rattle.gm_game.specs.Rules.{Rules}
-use Rattle.gm_table.specs.Tables.{TableData, IsHeld}
-use Rattle.gm_tiers.specs.Orders.{IsTierOrder}
+use Rattle.std.proofs.KnownBytes.{Consumes-trans, Consumes-nil, Keeps-refl, prepend_known-nil}
+use Rattle.gm_table.specs.Tables.{IsHeld}
 use Rattle.gm_tiers.specs.Reach.{IsReached}
-use Rattle.gm_build.specs.Work.{HoldsExactly}
-use Rattle.gm_play.specs.Dialogue.{without_return}
-use Rattle.gm_json.specs.Asking.{kept_bytes, lines_from, lines_of}
+use Rattle.gm_json.specs.Asking.{lines_from, lines_of}
 use Rattle.gm_json.proofs.Splitting.{lines_more, lines_next, lines_end, lines_none, none_kept, kept_push, kept_full}
-use Rattle.gamesman.specs.declared.fault.Fault.{Fault}
-use Rattle.gamesman.specs.declared.fault.Fault.TheVariants.{NoSuchGame, NoSuchPosition, NoSuchPositionInLine, NoSuchTier, NoSuchIndex, NotLegal, NotCanonical}
-use Rattle.gamesman.specs.declared.fault.Fault.TheVariants.{OutOfMemory, NotBuilt, AnotherGames, InputFailed, OutputFailed, OutputClosed, TooMuchInput}
-use Rattle.gamesman.specs.declared.fault.Fault.TheVariants.{EngineNotRead, NotAnEngine}
-use Rattle.gamesman.specs.Filters.{last_number, AreTexts, AreAnswered, AreBefore, AreAllAnswered, IsStopped, IsLeftOff, IsLineFault, IsOfNone}
+use Rattle.gamesman.specs.Filters.{last_number, AreTexts, AreAnswered, AreBefore, AreAllAnswered, IsStopped, IsLeftOff}
 
 module _ (IsText : List ℕ → List ℕ → Type 0) where
   -- the texts of some lines and of one more

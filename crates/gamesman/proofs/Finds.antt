@@ -1,41 +1,27 @@
 -- The positions found tier by tier, and the tables that they come from.
-use Rattle.std.proofs.Common.{◌≡◌, ℕ, zero, suc, ◌+◌, ◌-◌, ◌⊎◌, inl, inr, Bool, List, [], ◌∷◌, ◌++◌, map, length, take, drop, Option, None, Some, Result}
-use Rattle.std.proofs.Common.{Ok, Err, refl, sym, ap, ap₂, subst, ◌∙◌, arith, append-nil, take-append-drop, length-append}
-use Rattle.std.specs.List.{Contains, flat_map}
-use Rattle.std.specs.Io.KnownBytes.{Appends, Keeps}
-use Rattle.std.proofs.KnownBytes.{Appends-trans, Appends-kept}
-use Rattle.std.proofs.lemmas.Grind.{flat_map-append}
+use Rattle.gamesman.proofs.Lower.{◌≡◌, ℕ, zero, suc, ◌+◌, ◌-◌, inl, inr, Bool, List, [], ◌∷◌, ◌++◌, length, take, drop, Option, None, Some, Result, Ok, Err}
+use Rattle.gamesman.proofs.Lower.{refl, sym, ap, subst, ◌∙◌, arith, append-nil, take-append-drop, Contains, flat_map, Appends, Keeps, Appends-trans}
+use Rattle.gamesman.proofs.Lower.{Appends-kept, flat_map-append, Position, Rules, contains_none, contains_cases, TableData, AreAllHeld, AppendsPart, part_after}
+use Rattle.gamesman.proofs.Lower.{Found, IsFound, AreFound, AreChosen, Form, PositionSearch, Fault, NoSuchGame, NoSuchPosition, NoSuchPositionInLine}
+use Rattle.gamesman.proofs.Lower.{NoSuchTier, NoSuchIndex, NotLegal, NotCanonical, OutOfMemory, NotBuilt, AnotherGames, InputFailed, OutputFailed, OutputClosed}
+use Rattle.gamesman.proofs.Lower.{TooMuchInput, EngineNotRead, NotAnEngine, GameSpec, IsOutputFault, IsCutOff, IsMemoryFault, board_row, IsTextOf, IsFoundAt}
+use Rattle.gamesman.proofs.Lower.{AreTiersFor, IsFoundSoFar, IsLeft, limit_by_tier, AreFoundWith}
+use Rattle.std.proofs.Common.{◌⊎◌, map}
+use Rattle.std.proofs.Common.{ap₂, length-append}
 use Rattle.std.proofs.lemmas.List.{map-append, length-map}
 use Rattle.std.proofs.lemmas.List.Elements.{All-append}
 use Rattle.std.proofs.lemmas.Option.{same_Some}
-use Rattle.gm_game.specs.declared.position.Position.{Position}
-use Rattle.gm_game.specs.Rules.{Rules}
-use Rattle.gm_game.proofs.Lists.{contains_none, contains_cases}
-use Rattle.gm_table.specs.Tables.{TableData}
-use Rattle.gm_play.specs.Reached.{AreAllHeld}
-use Rattle.gm_play.specs.Sessions.{AppendsPart}
-use Rattle.gm_play.proofs.Parts.{part_after}
-use Rattle.gm_find.specs.declared.found.Found.{Found}
 use Rattle.gm_find.specs.declared.sought.Choice.{Choice}
 use Rattle.gm_find.specs.declared.sought.Choice.TheVariants.{First, Random}
 use Rattle.gm_find.specs.declared.sought.Sought.{Sought}
 use Rattle.gm_find.specs.Lists.{IsFirst}
 use Rattle.gm_find.specs.Finding.{IsMatch, all_positions, positions_in}
-use Rattle.gm_find.specs.Founds.{IsFound, AreFound, AreChosen, position_of}
+use Rattle.gm_find.specs.Founds.{position_of}
 use Rattle.gm_find.specs.Rows.{found_row}
 use Rattle.gm_find.proofs.ListLemmas.{first_append}
 use Rattle.gm_json.specs.Founds.{found_line}
-use Rattle.gm_command.specs.declared.requests.Form.{Form}
 use Rattle.gm_command.specs.declared.requests.Form.TheVariants.{Rows, Json, Sheet, Boards}
-use Rattle.gm_command.specs.declared.requests.PositionSearch.{PositionSearch}
-use Rattle.gamesman.specs.declared.fault.Fault.{Fault}
-use Rattle.gamesman.specs.declared.fault.Fault.TheVariants.{NoSuchGame, NoSuchPosition, NoSuchPositionInLine, NoSuchTier, NoSuchIndex, NotLegal, NotCanonical}
-use Rattle.gamesman.specs.declared.fault.Fault.TheVariants.{OutOfMemory, NotBuilt, AnotherGames, InputFailed, OutputFailed, OutputClosed, TooMuchInput}
-use Rattle.gamesman.specs.declared.fault.Fault.TheVariants.{EngineNotRead, NotAnEngine}
-use Rattle.gamesman.specs.Games.{GameSpec}
-use Rattle.gamesman.specs.Outputs.{IsOutputFault, IsCutOff}
-use Rattle.gamesman.specs.Told.{IsMemoryFault}
-use Rattle.gamesman.specs.Finds.{board_row, IsTextOf, IsFoundAt, AreTiersFor, IsFoundSoFar, IsLeft, IsToldByTier, IsTierTold, limit_by_tier, AreFoundWith}
+use Rattle.gamesman.specs.Finds.{IsToldByTier, IsTierTold}
 
 -- ---- the tables
 -- a list of one tier

@@ -1,14 +1,10 @@
 -- First parts of texts that are written.
-use Rattle.std.proofs.Common.{◌≡◌, ℕ, ◌+◌, ◌-◌, ◌≤◌, Bool, true, false, List, ◌++◌, length, take, drop, Option, Result, Ok, Err, OnErr, sym, ap, subst, ◌∙◌, arith}
-use Rattle.std.proofs.Common.{take-add, length-take, take-append-drop}
+use Rattle.gamesman.proofs.Lower.{◌≡◌, ℕ, ◌+◌, ◌-◌, ◌≤◌, Bool, true, false, List, ◌++◌, length, take, drop, Option, Result, Ok, Err, sym, ap, subst, ◌∙◌, arith}
+use Rattle.gamesman.proofs.Lower.{take-append-drop, Appends, Keeps, Appends-trans, Appends-kept, AppendsPart, part_after, part_longer, Fault, IsPut, listed}
+use Rattle.gamesman.proofs.Lower.{listed_later}
+use Rattle.std.proofs.Common.{OnErr}
+use Rattle.std.proofs.Common.{take-add, length-take}
 use Rattle.std.proofs.lemmas.List.{take-take}
-use Rattle.std.specs.Io.KnownBytes.{Appends, Keeps}
-use Rattle.std.proofs.KnownBytes.{Appends-trans, Appends-kept}
-use Rattle.gm_play.specs.Sessions.{AppendsPart}
-use Rattle.gm_play.proofs.Parts.{part_after, part_longer}
-use Rattle.gamesman.specs.declared.fault.Fault.{Fault}
-use Rattle.gamesman.specs.Told.{IsPut}
-use Rattle.gamesman.specs.Listing.{listed, listed_later}
 
 module _ (a b c : Option (List ℕ)) (done : ℕ) (xs : List ℕ) (within : done ≤ length xs) (before : Appends a b (take done xs)) where
   -- a write took some more bytes

@@ -8,3 +8,4 @@ pub mod Finds
 pub mod Filtering
 pub mod Lined
 pub mod Paged
+pub mod Lower

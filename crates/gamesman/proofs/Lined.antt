@@ -1,10 +1,6 @@
 -- Lines of games that are appended to a page.
-use Rattle.std.proofs.Common.{◌≡◌, ℕ, List, [], ◌∷◌, ◌++◌, sym, ap, ◌∙◌}
-use Rattle.std.specs.List.{flat_map}
-use Rattle.std.proofs.lemmas.Grind.{flat_map-append}
+use Rattle.gamesman.proofs.Lower.{◌≡◌, ℕ, List, [], ◌∷◌, ◌++◌, sym, ap, ◌∙◌, flat_map, flat_map-append, GameSpec, game_line}
 use Rattle.std.proofs.lemmas.List.{append_assoc, append-nil}
-use Rattle.gamesman.specs.Games.{GameSpec}
-use Rattle.gamesman.specs.Engines.{game_line}
 
 -- the lines of more games
 pub lines_more : (gs hs : List GameSpec) (start old new : List ℕ) → old ≡ start ++ flat_map game_line gs → new ≡ old ++ flat_map game_line hs

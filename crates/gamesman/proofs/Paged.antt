@@ -1,16 +1,10 @@
 -- Pages with an engine, and why there are none.
-use Rattle.std.proofs.Common.{◌≡◌, ℕ, List, Option, Result, Ok, Err, inl, inr}
+use Rattle.gamesman.proofs.Lower.{◌≡◌, ℕ, List, Option, Result, Ok, Err, inl, inr, Position, IsReadAs, Fault, NoSuchGame, NoSuchPosition, NoSuchPositionInLine}
+use Rattle.gamesman.proofs.Lower.{NoSuchTier, NoSuchIndex, NotLegal, NotCanonical, OutOfMemory, NotBuilt, AnotherGames, InputFailed, OutputFailed, OutputClosed}
+use Rattle.gamesman.proofs.Lower.{TooMuchInput, EngineNotRead, NotAnEngine, GameSpec, IsCutOff, IsPaged, IsGamesPage}
 use Rattle.std.proofs.lemmas.Result.{IfErr-weaker}
-use Rattle.gm_game.specs.declared.position.Position.{Position}
-use Rattle.gm_play.specs.PlayTexts.{IsReadAs}
-use Rattle.gamesman.specs.declared.fault.Fault.{Fault}
-use Rattle.gamesman.specs.declared.fault.Fault.TheVariants.{NoSuchGame, NoSuchPosition, NoSuchPositionInLine, NoSuchTier, NoSuchIndex, NotLegal, NotCanonical}
-use Rattle.gamesman.specs.declared.fault.Fault.TheVariants.{OutOfMemory, NotBuilt, AnotherGames, InputFailed, OutputFailed, OutputClosed}
-use Rattle.gamesman.specs.declared.fault.Fault.TheVariants.{TooMuchInput, EngineNotRead, NotAnEngine}
-use Rattle.gamesman.specs.Games.{GameSpec}
-use Rattle.gamesman.specs.Outputs.{IsCutOff}
 use Rattle.gamesman.specs.Answers.{IsEnginePagedBy}
-use Rattle.gamesman.specs.Engines.{IsEngineFault, IsPaged, IsEnginePagedAt, IsGamesPage, IsEveryGame}
+use Rattle.gamesman.specs.Engines.{IsEngineFault, IsEnginePagedAt, IsEveryGame}
 use Rattle.gamesman.proofs.Cut.{kept}
 
 -- no engine is there, so nothing is written

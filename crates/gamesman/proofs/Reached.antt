@@ -1,12 +1,7 @@
 -- All tiers that a tier reaches are held, also those below one of them.
-use Rattle.std.proofs.Common.{ℕ, zero, suc, List, refl}
-use Rattle.std.specs.List.{Contains}
-use Rattle.gm_game.specs.Rules.{Rules}
-use Rattle.gm_table.specs.Tables.{TableData}
-use Rattle.gm_tiers.specs.Orders.{IsOrderFrom}
+use Rattle.gamesman.proofs.Lower.{ℕ, zero, suc, List, refl, Contains, Rules, TableData, IsOrderFrom, HoldsExactly, AreAllHeld}
 use Rattle.gm_tiers.specs.Reach.{IsReachedFrom}
-use Rattle.gm_build.specs.Work.{HoldsExactly}
-use Rattle.gm_play.specs.Reached.{AreAllHeld, AreClosed}
+use Rattle.gm_play.specs.Reached.{AreClosed}
 use Rattle.gm_play.proofs.Held.{all_held}
 
 -- the tiers that are reached from one of them

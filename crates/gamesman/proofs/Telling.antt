@@ -1,19 +1,13 @@
 -- The output of an answer about all of a game after a fault, and the tables for it.
-use Rattle.std.proofs.Common.{◌≡◌, ℕ, true, false, nat_eq, inl, inr, List, Option, None, Some, Result, Ok, Err, refl, sym, subst, ◌∙◌, eqb-true, eq-eqb}
-use Rattle.std.specs.List.{Contains, list_any}
+use Rattle.gamesman.proofs.Lower.{◌≡◌, ℕ, true, false, inl, inr, List, Option, None, Some, Result, Ok, Err, refl, sym, subst, ◌∙◌, Contains, Rules}
+use Rattle.gamesman.proofs.Lower.{PositionSearch, Fault, NoSuchGame, NoSuchPosition, NoSuchPositionInLine, NoSuchTier, NoSuchIndex, NotLegal, NotCanonical}
+use Rattle.gamesman.proofs.Lower.{OutOfMemory, NotBuilt, AnotherGames, InputFailed, OutputFailed, OutputClosed, TooMuchInput, EngineNotRead, NotAnEngine}
+use Rattle.gamesman.proofs.Lower.{IsCutOff, IsUnbuilt, IsMemoryFault, IsPut, GameSpec, IsFoundOf, IsFoundSoFar, IsLeft, limit_by_tier, AreFoundWith}
+use Rattle.gamesman.proofs.Lower.{IsUnsearched, first_of}
+use Rattle.std.proofs.Common.{nat_eq, eqb-true, eq-eqb}
+use Rattle.std.specs.List.{list_any}
 use Rattle.gm_game.proofs.Lists.{any_in, any_from}
-use Rattle.gm_game.specs.Rules.{Rules}
-use Rattle.gm_command.specs.declared.requests.PositionSearch.{PositionSearch}
-use Rattle.gamesman.specs.declared.fault.Fault.{Fault}
-use Rattle.gamesman.specs.declared.fault.Fault.TheVariants.{NoSuchGame, NoSuchPosition, NoSuchPositionInLine, NoSuchTier, NoSuchIndex, NotLegal, NotCanonical}
-use Rattle.gamesman.specs.declared.fault.Fault.TheVariants.{OutOfMemory, NotBuilt, AnotherGames, InputFailed, OutputFailed, OutputClosed, TooMuchInput}
-use Rattle.gamesman.specs.declared.fault.Fault.TheVariants.{EngineNotRead, NotAnEngine}
-use Rattle.gamesman.specs.Outputs.{IsCutOff}
-use Rattle.gamesman.specs.Refusals.{IsUnbuilt}
-use Rattle.gamesman.specs.Told.{IsMemoryFault, IsNoTier, IsNoPlace, IsUnknown, IsPut, IsTold}
-use Rattle.gamesman.specs.Games.{GameSpec}
-use Rattle.gamesman.specs.Finds.{IsFoundOf, IsFoundSoFar, IsLeft, limit_by_tier, AreFoundWith}
-use Rattle.gamesman.specs.Searches.{IsUnsearched, first_of}
+use Rattle.gamesman.specs.Told.{IsNoTier, IsNoPlace, IsUnknown, IsTold}
 use Rattle.gamesman.proofs.Cut.{kept, cut_off, unbuilt_cut}
 
 module _ (IsText : List ℕ → Type 0) (o : Option (List ℕ)) where

@@ -1,16 +1,10 @@
 -- Bytes of records that are read in two parts.
-use Rattle.std.proofs.Common.{◌≡◌, ℕ, ◌+◌, ◌*◌, ◌<◌, ◌≤◌, List, ◌++◌, length, Option, None, Some, IfSome, Result, Ok, Err, IfErr, IsErrAnd, sym, ap, subst, ◌∙◌}
-use Rattle.std.proofs.Common.{append_assoc, length-append, arith}
-use Rattle.std.specs.List.{flat_map}
+use Rattle.gm_tierdb.proofs.Lower.{◌≡◌, ℕ, ◌+◌, ◌<◌, ◌≤◌, List, ◌++◌, length, Option, None, Some, Result, Ok, Err, IfErr, IsErrAnd, sym, ap, subst, ◌∙◌}
+use Rattle.gm_tierdb.proofs.Lower.{append_assoc, length-append, arith, flat_map, take-append-le, Solved, Version, One, Two, width, record_bytes, IsStorable}
+use Rattle.gm_tierdb.proofs.Lower.{AreRecords, HasRecords, IsFirstBad, AreRead}
+use Rattle.std.proofs.Common.{◌*◌, IfSome}
 use Rattle.std.proofs.lemmas.Grind.{flat_map-append}
-use Rattle.std.proofs.lemmas.List.{take-append-le}
 use Rattle.std.proofs.lemmas.List.Elements.{All-append}
-use Rattle.gm_game.specs.declared.position.Solved.{Solved}
-use Rattle.gm_table.specs.declared.version.Version.{Version}
-use Rattle.gm_table.specs.declared.version.Version.TheVariants.{One, Two}
-use Rattle.gm_table.specs.RecordCodes.{width, record_bytes, IsStorable}
-use Rattle.gm_tierdb.specs.TierText.{AreRecords}
-use Rattle.gm_tierdb.specs.Refusals.{HasRecords, IsFirstBad, AreRead}
 use Rattle.gm_tierdb.proofs.RecordLemmas.{length_records}
 
 -- the records of one part and of the other

@@ -1,7 +1,6 @@
 -- The first bytes of a tier's file, and the name of the game in them.
-use Rattle.std.proofs.Common.{◌≡◌, ◌≤◌, ℕ, List, length, take, drop, sym, ap, ◌∙◌}
-use Rattle.std.proofs.lemmas.List.{drop-take, take-take}
-use Rattle.gm_tierdb.specs.Owners.{owner_of}
+use Rattle.gm_tierdb.proofs.Lower.{◌≡◌, ◌≤◌, ℕ, List, length, take, drop, sym, ap, ◌∙◌, take-take, owner_of}
+use Rattle.std.proofs.lemmas.List.{drop-take}
 
 -- the name is in the first 24 bytes
 in_head : (text : List ℕ) → drop 8 (take 24 text) ≡ owner_of text

@@ -1,13 +1,9 @@
 -- The bytes of indexes without a record.
-use Rattle.std.proofs.Common.{◌≡◌, ℕ, zero, suc, ◌+◌, ◌*◌, ◌-◌, ◌<◌, ◌≤◌, List, [], ◌++◌, length, take, replicate, Option, None, refl, sym, ap, ◌∙◌, append_assoc, append-nil, arith, inl, inr}
-use Rattle.std.specs.List.{flat_map}
+use Rattle.gm_tierdb.proofs.Lower.{◌≡◌, ℕ, zero, suc, ◌+◌, ◌-◌, ◌<◌, ◌≤◌, List, [], ◌++◌, length, take, replicate, Option, None, refl, sym, ap, ◌∙◌}
+use Rattle.gm_tierdb.proofs.Lower.{append_assoc, append-nil, arith, inl, flat_map, Solved, record_at, Version, One, Two, width, record_bytes}
+use Rattle.std.proofs.Common.{◌*◌, inr}
 use Rattle.std.proofs.lemmas.Bool.{cases_lt}
 use Rattle.std.proofs.lemmas.List.{replicate-append-replicate}
-use Rattle.gm_game.specs.declared.position.Solved.{Solved}
-use Rattle.gm_table.specs.Tables.{record_at}
-use Rattle.gm_table.specs.declared.version.Version.{Version}
-use Rattle.gm_table.specs.declared.version.Version.TheVariants.{One, Two}
-use Rattle.gm_table.specs.RecordCodes.{width, record_bytes}
 use Rattle.gm_tierdb.proofs.RecordLemmas.{one_more}
 
 abbrev zeros : ℕ → List ℕ

@@ -7,3 +7,4 @@ pub mod RefusalLemmas
 pub mod SealLemmas
 pub mod StreamLemmas
 pub mod HeadLemmas
+pub mod Lower

@@ -1,15 +1,12 @@
 -- Which tables a file of version 1 can have.
-use Rattle.std.proofs.Common.{◌≡◌, ℕ, ◌≤◌, List, slice_get, MatchOption, Option, None, Some, refl, arith}
+use Rattle.gm_tierdb.proofs.Lower.{◌≡◌, ℕ, ◌≤◌, List, Option, None, Some, refl, arith, Solved, WinLose, Ties, REMOTENESS_1, One, Two, IsStorable}
+use Rattle.std.proofs.Common.{slice_get, MatchOption}
 use Rattle.gm_game.specs.declared.position.Value.{Value}
 use Rattle.gm_game.specs.declared.position.Value.TheVariants.{Lose, Draw, Tie, Win}
-use Rattle.gm_game.specs.declared.position.Solved.{Solved}
 use Rattle.gm_game.specs.declared.position.Phase.{Phase}
-use Rattle.gm_game.specs.declared.position.Phase.TheVariants.{WinLose, Ties}
 use Rattle.gm_game.specs.Records.{solved}
 use Rattle.gm_table.specs.Levels.{HasLevel, IsGreatest}
-use Rattle.gm_table.specs.declared.version.TheConstants.{REMOTENESS_1}
-use Rattle.gm_table.specs.declared.version.Version.TheVariants.{One, Two}
-use Rattle.gm_table.specs.RecordCodes.{IsStorableSolved, IsStorable}
+use Rattle.gm_table.specs.RecordCodes.{IsStorableSolved}
 use Rattle.gm_tierdb.specs.TierText.{AreUpTo}
 
 -- a record of a table without a level above that of version 1 can be in a file of it

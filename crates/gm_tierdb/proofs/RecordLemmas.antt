@@ -1,18 +1,15 @@
 -- Lists of records and their bytes.
-use Rattle.std.proofs.Common.{◌≡◌, ◌≢◌, ℕ, zero, suc, ◌+◌, ◌*◌, ◌-◌, ◌<◌, ◌≤◌, List, [], ◌∷◌, ◌++◌, length, take, drop, get_or, All, Option, None, refl, sym}
-use Rattle.std.proofs.Common.{ap, subst, ◌∙◌, append_assoc, append-nil, length-append, arith}
-use Rattle.std.specs.List.{flat_map}
-use Rattle.std.specs.Int.{to_le_bytes}
+use Rattle.gm_tierdb.proofs.Lower.{◌≡◌, ℕ, zero, suc, ◌+◌, ◌-◌, ◌<◌, ◌≤◌, List, [], ◌∷◌, ◌++◌, length, take, drop, get_or, All, Option, None, refl, sym, ap}
+use Rattle.gm_tierdb.proofs.Lower.{subst, ◌∙◌, append_assoc, append-nil, length-append, arith, flat_map, to_le_bytes, Solved, Rules, record_at, Version, One}
+use Rattle.gm_tierdb.proofs.Lower.{Two, word, width, IsStorable, record_bytes, AreRecords}
+use Rattle.std.proofs.Common.{◌≢◌, ◌*◌}
 use Rattle.std.proofs.lemmas.List.{flat_map_more, take_more, nil_from_length}
 use Rattle.std.proofs.lemmas.List.Elements.{All-head, All-nil, All-tail}
 use Rattle.std.proofs.lemmas.Option.{slice_get-get_or}
-use Rattle.gm_game.specs.declared.position.Solved.{Solved}
-use Rattle.gm_game.specs.Rules.{Rules, at}
-use Rattle.gm_table.specs.Tables.{TableData, IsTable, record_at}
-use Rattle.gm_table.specs.declared.version.Version.{Version}
-use Rattle.gm_table.specs.declared.version.Version.TheVariants.{One, Two}
-use Rattle.gm_table.specs.RecordCodes.{word, width, IsStorable, record_number, record_bytes}
-use Rattle.gm_tierdb.specs.TierText.{AreRecords, IsFor}
+use Rattle.gm_game.specs.Rules.{at}
+use Rattle.gm_table.specs.Tables.{TableData, IsTable}
+use Rattle.gm_table.specs.RecordCodes.{record_number}
+use Rattle.gm_tierdb.specs.TierText.{IsFor}
 use Rattle.gm_table.proofs.CodeLemmas.{same_bytes, storable_record}
 use Rattle.gm_tierdb.proofs.LimitLemmas.{old_record}
 

@@ -1,21 +1,15 @@
 -- What is refused, and what isn't.
-use Rattle.std.proofs.Common.{◌≡◌, ℕ, ◌^◌, ◌<◌, Bool, true, false, List, length, take, get_or, Option, Result, Ok, Err, IfOk, IfErr, MatchResult, IsErrOf}
-use Rattle.std.proofs.Common.{IsTrue, ⊎_elim, refl, sym, ap, ◌∙◌, arith}
+use Rattle.gm_tierdb.proofs.Lower.{◌≡◌, ℕ, ◌<◌, List, length, take, get_or, Option, Result, Ok, Err, IfOk, IfErr, IsErrOf, refl, sym, ap, ◌∙◌, arith}
+use Rattle.gm_tierdb.proofs.Lower.{to_le_bytes, w64, NAME, Solved, Rules, FileError, OutOfMemory, Truncated, BadMagic, WrongGame, WrongTier, WrongSize}
+use Rattle.gm_tierdb.proofs.Lower.{BadRecord, Trailing, BadDigest, OldVersion, Version, One, Two, magic, IsVersionText, HasHeader, RefusesIn, file_len}
+use Rattle.std.proofs.Common.{◌^◌, Bool, true, false, MatchResult}
+use Rattle.std.proofs.Common.{IsTrue, ⊎_elim}
 use Rattle.std.proofs.Math.Bool.{not}
-use Rattle.std.specs.Int.{to_le_bytes, from_le_bytes, w64}
+use Rattle.std.specs.Int.{from_le_bytes}
 use Rattle.std.specs.Str.{bytes_eq}
 use Rattle.std.proofs.lemmas.Nat.{from_le_bytes-to_le_bytes_8}
 use Rattle.std.proofs.lemmas.Slice.Eq.{bytes_eq-Decides}
-use Rattle.gm_game.specs.declared.limits.TheConstants.{NAME}
-use Rattle.gm_game.specs.declared.position.Solved.{Solved}
-use Rattle.gm_game.specs.Rules.{Rules}
-use Rattle.gm_tierdb.specs.declared.file_error.FileError.{FileError}
-use Rattle.gm_tierdb.specs.declared.file_error.FileError.TheVariants.{OutOfMemory, Truncated, BadMagic, WrongGame, WrongTier, WrongSize, BadRecord, Trailing}
-use Rattle.gm_tierdb.specs.declared.file_error.FileError.TheVariants.{BadDigest, OldVersion}
-use Rattle.gm_table.specs.declared.version.Version.{Version}
-use Rattle.gm_table.specs.declared.version.Version.TheVariants.{One, Two}
-use Rattle.gm_tierdb.specs.TierText.{magic, IsVersionText}
-use Rattle.gm_tierdb.specs.Refusals.{HasHeader, RefusesIn, IsOld, file_len}
+use Rattle.gm_tierdb.specs.Refusals.{IsOld}
 use Rattle.gm_tierdb.proofs.RecordLemmas.{none_bad}
 use Rattle.gm_tierdb.proofs.TextLemmas.{parts_of_text, same_text}
 

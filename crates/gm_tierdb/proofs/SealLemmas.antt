@@ -1,18 +1,11 @@
 -- Files whose digest is tested apart.
-use Rattle.std.proofs.Common.{◌≡◌, ℕ, ◌+◌, ◌*◌, ◌-◌, List, length, take, drop, Option, Result, Ok, Err, IsErrAnd, IsErrOf, sym, ap, subst, ◌∙◌, arith}
-use Rattle.sha2.specs.Sha256.{sha256}
-use Rattle.gm_game.specs.declared.limits.TheConstants.{NAME}
-use Rattle.gm_game.specs.declared.position.Solved.{Solved}
-use Rattle.gm_game.specs.Rules.{Rules}
-use Rattle.gm_table.specs.declared.version.Version.{Version}
-use Rattle.gm_table.specs.declared.version.Version.TheVariants.{One, Two}
-use Rattle.gm_table.specs.RecordCodes.{width}
-use Rattle.gm_tierdb.specs.declared.file_error.FileError.{FileError}
-use Rattle.gm_tierdb.specs.declared.file_error.FileError.TheVariants.{OutOfMemory, Truncated, BadMagic, WrongGame, WrongTier, WrongSize, BadRecord, Trailing}
-use Rattle.gm_tierdb.specs.declared.file_error.FileError.TheVariants.{BadDigest, OldVersion}
-use Rattle.gm_tierdb.specs.TierText.{AreRecords, IsVersionText, IsTierText}
-use Rattle.gm_tierdb.specs.Refusals.{HasHeader, RefusesIn, records_part, body_len, file_len}
-use Rattle.gm_tierdb.specs.Seals.{IsSealed, IsUnsealed, IsWhole, RefusesWhole}
+use Rattle.gm_tierdb.proofs.Lower.{◌≡◌, ℕ, ◌+◌, ◌-◌, List, length, take, drop, Option, Result, Ok, Err, IsErrAnd, IsErrOf, sym, ap, subst, ◌∙◌, arith, sha256}
+use Rattle.gm_tierdb.proofs.Lower.{NAME, Solved, Rules, Version, One, Two, width, FileError, OutOfMemory, Truncated, BadMagic, WrongGame, WrongTier, WrongSize}
+use Rattle.gm_tierdb.proofs.Lower.{BadRecord, Trailing, BadDigest, OldVersion, AreRecords, IsVersionText, HasHeader, RefusesIn, records_part, body_len}
+use Rattle.gm_tierdb.proofs.Lower.{file_len, IsSealed}
+use Rattle.std.proofs.Common.{◌*◌}
+use Rattle.gm_tierdb.specs.TierText.{IsTierText}
+use Rattle.gm_tierdb.specs.Seals.{IsUnsealed, IsWhole, RefusesWhole}
 use Rattle.gm_tierdb.proofs.TextLemmas.{parts_of_text, text_of_parts, same_text}
 use Rattle.gm_tierdb.proofs.RefusalLemmas.{not_old, only_memory}
 

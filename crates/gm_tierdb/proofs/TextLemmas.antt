@@ -1,20 +1,11 @@
 -- The parts of a text, and the text of the parts.
-use Rattle.std.proofs.Common.{◌≡◌, ℕ, ◌+◌, ◌*◌, List, [], ◌++◌, length, take, drop, Option, refl, sym, ap, ◌∙◌, append_assoc, take-add, take-append-drop}
-use Rattle.std.proofs.Common.{length-append, arith}
-use Rattle.std.specs.List.{flat_map}
-use Rattle.std.specs.Int.{to_le_bytes, w64}
-use Rattle.std.proofs.lemmas.List.{take-take}
+use Rattle.gm_tierdb.proofs.Lower.{◌≡◌, ℕ, ◌+◌, List, [], ◌++◌, length, take, drop, Option, refl, sym, ap, ◌∙◌, append_assoc, take-add, take-append-drop}
+use Rattle.gm_tierdb.proofs.Lower.{length-append, arith, flat_map, to_le_bytes, w64, take-take, sha256, NAME, Solved, Rules, Version, One, Two, width}
+use Rattle.gm_tierdb.proofs.Lower.{record_bytes, magic, body, AreRecords, IsVersionText, HasHeader, records_part, body_len, file_len}
+use Rattle.std.proofs.Common.{◌*◌}
 use Rattle.std.proofs.Math.Seq.{take-append_seam, drop-append_seam}
-use Rattle.sha2.specs.Sha256.{sha256}
 use Rattle.sha2.proofs.Facts256.{length-sha256}
-use Rattle.gm_game.specs.declared.limits.TheConstants.{NAME}
-use Rattle.gm_game.specs.declared.position.Solved.{Solved}
-use Rattle.gm_game.specs.Rules.{Rules}
-use Rattle.gm_table.specs.declared.version.Version.{Version}
-use Rattle.gm_table.specs.declared.version.Version.TheVariants.{One, Two}
-use Rattle.gm_table.specs.RecordCodes.{width, record_bytes}
-use Rattle.gm_tierdb.specs.TierText.{magic, body, version_text, AreRecords, IsVersionText}
-use Rattle.gm_tierdb.specs.Refusals.{HasHeader, records_part, body_len, file_len}
+use Rattle.gm_tierdb.specs.TierText.{version_text}
 use Rattle.gm_tierdb.proofs.RecordLemmas.{length_records, same_records}
 
 -- what stands between a front and a back

@@ -1,7 +1,5 @@
-use Rattle.std.proofs.Common.{None, inr, sym, subst}
-use Rattle.std.proofs.lemmas.Result.{err_from_is_err_and}
-use Rattle.gamesman.specs.Analysing.{IsAnalysisText, AreAnalysisLines}
-use Rattle.gamesman.specs.Searches.{IsUnsearched}
+use Rattle.gamesman.proofs.Lower.{None, inr, sym, subst, err_from_is_err_and, AreAnalysisLines, IsUnsearched}
+use Rattle.gamesman.specs.Analysing.{IsAnalysisText}
 use Rattle.gamesman.proofs.Telling.{unbuilt_told, put_told}
 use Rattle.gamesman.proofs.analyse.analyse.Goals as goal
 

@@ -1,8 +1,4 @@
-use Rattle.std.proofs.Common.{ℕ, List, get_or, subst, ◌∙◌}
-use Rattle.std.specs.List.{Contains}
-use Rattle.std.proofs.lemmas.List.{take_all}
-use Rattle.std.proofs.lemmas.List.Elements.{Contains-get_or}
-use Rattle.gamesman.specs.Analysing.{AreAnalysisLines}
+use Rattle.gamesman.proofs.Lower.{ℕ, List, get_or, subst, ◌∙◌, Contains, take_all, Contains-get_or, AreAnalysisLines}
 use Rattle.gamesman.proofs.Analyses.{lines_next}
 use Rattle.gamesman.proofs.analyse.lines_of.Goals as goal
 

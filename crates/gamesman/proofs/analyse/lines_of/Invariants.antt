@@ -1,5 +1,4 @@
-use Rattle.std.proofs.Common.{take}
-use Rattle.gamesman.specs.Analysing.{AreAnalysisLines}
+use Rattle.gamesman.proofs.Lower.{take, AreAnalysisLines}
 use Rattle.gamesman.proofs.analyse.lines_of.Given as goal
 
 abbrev pub invariant-loop-tier : goal.invariant-loop-tier

@@ -1,8 +1,6 @@
-use Rattle.std.proofs.Common.{◌≡◌, ℕ, List, Some, Result, Ok, Err, sym, subst}
-use Rattle.std.specs.Prelude.{OnOk, is_ok, if◌then◌else◌}
-use Rattle.std.proofs.lemmas.Result.{on_ok_weaker}
+use Rattle.gamesman.proofs.Lower.{◌≡◌, ℕ, List, Some, Result, Ok, Err, sym, subst, if◌then◌else◌, on_ok_weaker, IsAnalysisLine}
+use Rattle.std.specs.Prelude.{OnOk, is_ok}
 use Rattle.gm_table.specs.Tables.{table_of}
-use Rattle.gamesman.specs.Analysing.{IsAnalysisLine}
 use Rattle.gamesman.proofs.analyse.push_line.Goals as goal
 
 taken : {T E : Type 0} → (r : Result T E) (new more old : List ℕ) → new ≡ (if is_ok r then more else old) → OnOk r (new ≡ more)

@@ -1,5 +1,4 @@
-use Rattle.std.proofs.Common.{inl}
-use Rattle.std.proofs.lemmas.Result.{err_from_is_err_and}
+use Rattle.gamesman.proofs.Lower.{inl, err_from_is_err_and}
 use Rattle.gamesman.proofs.Cut.{kept}
 use Rattle.gamesman.proofs.check.check.Goals as goal
 

@@ -1,7 +1,4 @@
-use Rattle.std.proofs.Common.{ℕ, suc, List, take, drop, get_or, sym, subst}
-use Rattle.std.proofs.lemmas.List.{take_more, take_all}
-use Rattle.std.proofs.lemmas.List.Elements.{Contains-get_or}
-use Rattle.std.proofs.lemmas.Result.{err_from_is_err_and}
+use Rattle.gamesman.proofs.Lower.{ℕ, suc, List, take, drop, get_or, sym, subst, take_more, take_all, Contains-get_or, err_from_is_err_and}
 use Rattle.gamesman.proofs.Checks.{IsToldTo, told_none, told_next, told_all, cut_at, split_at}
 use Rattle.gamesman.proofs.check.check_tiers.Goals as goal
 

@@ -1,4 +1,4 @@
-use Rattle.std.proofs.Common.{take}
+use Rattle.gamesman.proofs.Lower.{take}
 use Rattle.gamesman.proofs.Checks.{IsToldTo}
 use Rattle.gamesman.proofs.check.check_tiers.Given as goal
 

@@ -1,6 +1,4 @@
-use Rattle.std.proofs.Common.{ℕ, List, subst}
-use Rattle.gamesman.specs.declared.finding.Finding.TheVariants.{NoFile}
-use Rattle.gamesman.specs.Checking.{IsFoundIn}
+use Rattle.gamesman.proofs.Lower.{ℕ, List, subst, NoFile, IsFoundIn}
 use Rattle.gamesman.proofs.check.inspect.Goals as goal
 
 pub returns-in-NoFile-clause-found : goal.returns-in-NoFile-clause-found

@@ -1,6 +1,4 @@
-use Rattle.std.proofs.Common.{List, ℕ, refl, sym, subst, inl, inr, ◌∙◌}
-use Rattle.std.proofs.lemmas.Result.{err_from_is_err_and}
-use Rattle.gamesman.specs.Engines.{IsGamesPage}
+use Rattle.gamesman.proofs.Lower.{List, ℕ, refl, sym, subst, inl, inr, ◌∙◌, err_from_is_err_and, IsGamesPage}
 use Rattle.gamesman.proofs.Cut.{kept, cut_off}
 use Rattle.gamesman.proofs.engine.write_games.Goals as goal
 

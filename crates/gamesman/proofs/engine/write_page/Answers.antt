@@ -1,7 +1,4 @@
-use Rattle.std.proofs.Common.{List, ℕ, refl, sym, subst}
-use Rattle.std.proofs.lemmas.Result.{err_from_is_err_and}
-use Rattle.gamesman.specs.Games.{game_spec}
-use Rattle.gamesman.specs.Engines.{IsPaged}
+use Rattle.gamesman.proofs.Lower.{List, ℕ, refl, sym, subst, err_from_is_err_and, game_spec, IsPaged}
 use Rattle.gamesman.proofs.Cut.{kept, unwritten_answer}
 use Rattle.gamesman.proofs.engine.write_page.Goals as goal
 

@@ -1,7 +1,4 @@
-use Rattle.std.proofs.Common.{List, ℕ, subst}
-use Rattle.gamesman.specs.Games.{game_spec}
-use Rattle.gamesman.specs.Texts.{IsTextFor}
-use Rattle.gamesman.specs.Answers.{IsAnsweredBy}
+use Rattle.gamesman.proofs.Lower.{List, ℕ, subst, game_spec, IsTextFor, IsAnsweredBy}
 use Rattle.gamesman.proofs.Cut.{asked_text, one_answer}
 use Rattle.gamesman.proofs.Reached.{reached_held}
 use Rattle.gamesman.proofs.explore.explore.Goals as goal

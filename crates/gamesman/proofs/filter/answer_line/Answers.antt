@@ -1,5 +1,4 @@
-use Rattle.std.proofs.Common.{refl, subst, rules}
-use Rattle.gamesman.specs.Filters.{IsOfNone}
+use Rattle.gamesman.proofs.Lower.{refl, subst, rules, IsOfNone}
 use Rattle.gamesman.proofs.Cut.{kept}
 use Rattle.gamesman.proofs.Reached.{order_closed}
 use Rattle.gamesman.proofs.Filtering.{unheld}

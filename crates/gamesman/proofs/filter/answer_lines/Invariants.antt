@@ -1,6 +1,4 @@
-use Rattle.std.specs.Io.Iter.{bytes_remaining}
-use Rattle.gamesman.specs.Games.{game_spec}
-use Rattle.gamesman.specs.Texts.{IsTextFor}
+use Rattle.gamesman.proofs.Lower.{bytes_remaining, game_spec, IsTextFor}
 use Rattle.gamesman.proofs.Filtering.{Amid}
 use Rattle.gamesman.proofs.filter.answer_lines.Given as goal
 

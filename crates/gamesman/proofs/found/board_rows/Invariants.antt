@@ -1,7 +1,4 @@
-use Rattle.std.proofs.Common.{◌≡◌, take}
-use Rattle.std.specs.List.{flat_map}
-use Rattle.gamesman.specs.Games.{game_spec}
-use Rattle.gamesman.specs.Finds.{board_row}
+use Rattle.gamesman.proofs.Lower.{◌≡◌, take, flat_map, game_spec, board_row}
 use Rattle.gamesman.proofs.found.board_rows.Given as goal
 
 abbrev pub invariant-loop-x : goal.invariant-loop-x

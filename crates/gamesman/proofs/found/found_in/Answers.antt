@@ -1,5 +1,4 @@
-use Rattle.std.proofs.Common.{Bool, ◌∷◌, [], subst}
-use Rattle.gm_find.specs.Founds.{AreFound}
+use Rattle.gamesman.proofs.Lower.{Bool, ◌∷◌, [], subst, AreFound}
 use Rattle.gamesman.proofs.Finds.{held_one}
 use Rattle.gamesman.proofs.found.found_in.Goals as goal
 

@@ -1,9 +1,4 @@
-use Rattle.std.proofs.Common.{Bool, List, sym, subst}
-use Rattle.std.specs.List.{All}
-use Rattle.gm_find.specs.declared.found.Found.{Found}
-use Rattle.gm_find.specs.Founds.{IsFound, AreChosen}
-use Rattle.gamesman.specs.Games.{game_spec}
-use Rattle.gamesman.specs.Finds.{IsTextOf}
+use Rattle.gamesman.proofs.Lower.{Bool, List, sym, subst, All, Found, IsFound, AreChosen, game_spec, IsTextOf}
 use Rattle.gamesman.proofs.found.lines_at_once.Goals as goal
 
 pub lines_of-requires-clause-found : goal.lines_of-requires-clause-found

@@ -1,8 +1,4 @@
-use Rattle.std.proofs.Common.{Bool, sym, subst}
-use Rattle.gm_find.specs.Founds.{AreChosen}
-use Rattle.gm_command.specs.declared.requests.Form.{Form}
-use Rattle.gamesman.specs.Games.{game_spec}
-use Rattle.gamesman.specs.Finds.{IsTextOf}
+use Rattle.gamesman.proofs.Lower.{Bool, sym, subst, AreChosen, Form, game_spec, IsTextOf}
 use Rattle.gamesman.proofs.found.sheet_at_once.Goals as goal
 
 pub returns-clause-text : goal.returns-clause-text

@@ -1,8 +1,4 @@
-use Rattle.std.proofs.Common.{ℕ, ◌∷◌, [], Option, List, refl, sym, subst}
-use Rattle.std.specs.List.{Contains}
-use Rattle.gm_tiers.specs.Orders.{IsOrderFrom}
-use Rattle.gamesman.specs.Searches.{first_of}
-use Rattle.gamesman.specs.Finds.{AreTiersFor}
+use Rattle.gamesman.proofs.Lower.{ℕ, ◌∷◌, [], Option, List, refl, sym, subst, Contains, IsOrderFrom, first_of, AreTiersFor}
 use Rattle.gamesman.proofs.Reached.{order_held, reached_held}
 use Rattle.gamesman.proofs.Finds.{held_one}
 use Rattle.gamesman.proofs.found.write_among.Goals as goal

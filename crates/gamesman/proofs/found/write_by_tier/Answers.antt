@@ -1,9 +1,4 @@
-use Rattle.std.proofs.Common.{◌+◌, get_or, inr}
-use Rattle.std.proofs.lemmas.List.{take_more, take_all}
-use Rattle.std.proofs.lemmas.List.Elements.{Contains-get_or}
-use Rattle.std.proofs.lemmas.Result.{err_from_is_err_and}
-use Rattle.gamesman.specs.Games.{game_spec}
-use Rattle.gamesman.specs.Searches.{first_of, IsUnsearched}
+use Rattle.gamesman.proofs.Lower.{◌+◌, get_or, inr, take_more, take_all, Contains-get_or, err_from_is_err_and, game_spec, first_of, IsUnsearched}
 use Rattle.gamesman.proofs.Telling.{memory_unbuilt}
 use Rattle.gamesman.proofs.Finds.{told_by_tier, so_far_none, next_told, end_told, full_told, failed_told}
 use Rattle.gamesman.proofs.found.write_by_tier.Goals as goal

@@ -1,5 +1,4 @@
-use Rattle.std.proofs.Common.{take}
-use Rattle.gamesman.specs.Games.{game_spec}
+use Rattle.gamesman.proofs.Lower.{take, game_spec}
 use Rattle.gamesman.proofs.Finds.{IsSoFar}
 use Rattle.gamesman.proofs.found.write_by_tier.Given as goal
 

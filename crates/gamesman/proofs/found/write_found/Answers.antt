@@ -1,7 +1,4 @@
-use Rattle.std.proofs.Common.{inr}
-use Rattle.std.proofs.lemmas.Result.{err_from_is_err_and}
-use Rattle.gamesman.specs.Games.{game_spec}
-use Rattle.gamesman.specs.Searches.{first_of}
+use Rattle.gamesman.proofs.Lower.{inr, err_from_is_err_and, game_spec, first_of}
 use Rattle.gamesman.proofs.Telling.{memory_unbuilt, find_unsearched}
 use Rattle.gamesman.proofs.found.write_found.Goals as goal
 

@@ -1,8 +1,5 @@
-use Rattle.std.proofs.Common.{None, Some, inr, sym, subst, ◌∙◌}
-use Rattle.std.proofs.lemmas.Result.{err_from_is_err_and}
-use Rattle.gamesman.specs.Games.{game_spec}
-use Rattle.gamesman.specs.Searches.{first_of, IsUnsearched}
-use Rattle.gamesman.specs.Finds.{IsFoundIn, IsFoundOf}
+use Rattle.gamesman.proofs.Lower.{None, Some, inr, sym, subst, ◌∙◌, err_from_is_err_and, game_spec, first_of, IsUnsearched, IsFoundOf}
+use Rattle.gamesman.specs.Finds.{IsFoundIn}
 use Rattle.gamesman.proofs.Telling.{memory_unbuilt, find_unsearched, put_told}
 use Rattle.gamesman.proofs.Finds.{found_with}
 use Rattle.gamesman.proofs.found.write_in.Goals as goal

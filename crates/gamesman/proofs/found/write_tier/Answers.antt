@@ -1,10 +1,4 @@
-use Rattle.std.proofs.Common.{List, inl, inr, sym, subst, ◌∙◌}
-use Rattle.std.specs.List.{All}
-use Rattle.std.proofs.lemmas.Result.{err_from_is_err_and}
-use Rattle.gm_find.specs.declared.found.Found.{Found}
-use Rattle.gm_find.specs.Founds.{IsFound}
-use Rattle.gamesman.specs.Games.{game_spec}
-use Rattle.gamesman.specs.Finds.{IsTextOf, IsFoundAt}
+use Rattle.gamesman.proofs.Lower.{List, inl, inr, sym, subst, ◌∙◌, All, err_from_is_err_and, Found, IsFound, game_spec, IsTextOf, IsFoundAt}
 use Rattle.gamesman.proofs.Cut.{kept, cut_off}
 use Rattle.gamesman.proofs.Telling.{memory_cut}
 use Rattle.gamesman.proofs.found.write_tier.Goals as goal

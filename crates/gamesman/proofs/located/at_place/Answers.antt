@@ -1,9 +1,5 @@
-use Rattle.std.proofs.Common.{inl, inr, sym, subst}
-use Rattle.std.proofs.lemmas.Result.{err_from_is_err_and}
-use Rattle.gm_game.specs.declared.position.Position.{Position}
-use Rattle.gm_play.specs.Reached.{AreAllHeld}
+use Rattle.gamesman.proofs.Lower.{inl, inr, sym, subst, err_from_is_err_and, Position, AreAllHeld, OutOfMemory}
 use Rattle.gm_play.specs.PlaceTexts.{IsPositionText}
-use Rattle.gamesman.specs.declared.fault.Fault.TheVariants.{OutOfMemory}
 use Rattle.gamesman.specs.Searches.{IsAtText, IsUnplaced}
 use Rattle.gamesman.proofs.Telling.{memory_told, memory_unbuilt, unbuilt_told, unknown_told, no_place_told, put_told}
 use Rattle.gamesman.proofs.Reached.{reached_held}

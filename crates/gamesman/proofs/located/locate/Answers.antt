@@ -1,7 +1,5 @@
-use Rattle.std.proofs.Common.{ℕ, List, refl, subst, ◌∙◌}
-use Rattle.std.proofs.lemmas.Result.{err_from_is_err_and}
+use Rattle.gamesman.proofs.Lower.{ℕ, List, refl, subst, ◌∙◌, err_from_is_err_and, IsPlaceText}
 use Rattle.gm_play.specs.Places.{IsLocated}
-use Rattle.gm_play.specs.PlaceTexts.{IsPlaceText}
 use Rattle.gamesman.proofs.Cut.{kept, unlocated_answer}
 use Rattle.gamesman.proofs.located.locate.Goals as goal
 

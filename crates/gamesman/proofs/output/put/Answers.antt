@@ -1,4 +1,4 @@
-use Rattle.std.proofs.Common.{rules}
+use Rattle.gamesman.proofs.Lower.{rules}
 use Rattle.gm_play.proofs.Parts.{part_stuck, part_kept}
 use Rattle.gamesman.proofs.Fronts.{more_written, same_written, part_of}
 use Rattle.gamesman.proofs.output.put.Goals as goal

@@ -1,5 +1,4 @@
-use Rattle.std.proofs.Common.{length, ◌≤◌, take}
-use Rattle.std.specs.Io.KnownBytes.{Appends}
+use Rattle.gamesman.proofs.Lower.{length, ◌≤◌, take, Appends}
 use Rattle.gamesman.proofs.output.put.Given as goal
 
 abbrev pub invariant-loop : goal.invariant-loop

@@ -1,4 +1,4 @@
-use Rattle.std.proofs.lemmas.Result.{err_from_is_err_and}
+use Rattle.gamesman.proofs.Lower.{err_from_is_err_and}
 use Rattle.gamesman.proofs.output.put_all.Goals as goal
 
 pub returns-in_err-put : goal.returns-in_err-put

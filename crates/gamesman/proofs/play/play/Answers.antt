@@ -1,10 +1,6 @@
-use Rattle.std.proofs.Common.{◌≡◌, ℕ, List, Option, None, Some, Result, Ok, Err, IfSome, inl, inr, refl, ap, subst}
-use Rattle.std.specs.Borrow.{Bor}
-use Rattle.std.proofs.lemmas.Result.{err_from_is_err_and}
-use Rattle.gm_game.specs.declared.position.Position.{Position}
-use Rattle.gm_game.specs.Rules.{Rules}
-use Rattle.gm_play.specs.PlayTexts.{IsReadAs, IsNoPosition}
-use Rattle.gamesman.specs.declared.fault.Fault.{Fault}
+use Rattle.gamesman.proofs.Lower.{◌≡◌, ℕ, List, Option, None, Some, Result, Ok, Err, IfSome, inl, inr, refl, ap, subst, Bor, err_from_is_err_and, Position}
+use Rattle.gamesman.proofs.Lower.{Rules, IsReadAs, Fault}
+use Rattle.gm_play.specs.PlayTexts.{IsNoPosition}
 use Rattle.gamesman.specs.Plays.{IsFrom, IsFromNone}
 use Rattle.gamesman.proofs.Cut.{kept, one_answer}
 use Rattle.gamesman.proofs.play.play.Goals as goal

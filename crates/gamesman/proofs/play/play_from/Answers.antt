@@ -1,5 +1,4 @@
-use Rattle.std.proofs.Common.{refl, inr}
-use Rattle.std.proofs.lemmas.Result.{err_from_is_err_and}
+use Rattle.gamesman.proofs.Lower.{refl, inr, err_from_is_err_and}
 use Rattle.gamesman.proofs.Reached.{reached_held}
 use Rattle.gamesman.proofs.play.play_from.Goals as goal
 

@@ -1,9 +1,4 @@
-use Rattle.std.proofs.Common.{◌++◌, [], ◌∷◌, subst}
-use Rattle.std.specs.Io.KnownBytes.{Appends}
-use Rattle.std.proofs.KnownBytes.{Appends-trans}
-use Rattle.std.proofs.lemmas.Result.{err_from_is_err_and}
-use Rattle.gm_play.specs.Sessions.{AppendsPart}
-use Rattle.gm_play.proofs.Parts.{part_after, part_longer}
+use Rattle.gamesman.proofs.Lower.{◌++◌, [], ◌∷◌, subst, Appends, Appends-trans, err_from_is_err_and, AppendsPart, part_after, part_longer}
 use Rattle.gamesman.specs.Plays.{whose_text}
 use Rattle.gamesman.proofs.Fronts.{err_after}
 use Rattle.gamesman.proofs.play.write_side.Goals as goal

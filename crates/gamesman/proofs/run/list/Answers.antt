@@ -1,9 +1,4 @@
-use Rattle.std.proofs.Common.{Option, List, ℕ, false, subst}
-use Rattle.std.proofs.lemmas.Result.{err_from_is_err_and}
-use Rattle.std.specs.Io.KnownBytes.{Appends}
-use Rattle.gm_play.specs.Sessions.{AppendsPart}
-use Rattle.gamesman.specs.Listing.{listed, listed_later}
-use Rattle.gamesman.specs.Told.{IsPut}
+use Rattle.gamesman.proofs.Lower.{Option, List, ℕ, false, subst, err_from_is_err_and, Appends, AppendsPart, listed, listed_later, IsPut}
 use Rattle.gamesman.proofs.Fronts.{put_after, part_listed}
 use Rattle.gamesman.proofs.run.list.Goals as goal
 

@@ -1,8 +1,4 @@
-use Rattle.std.proofs.Common.{ℕ, inl, inr, subst}
-use Rattle.std.proofs.lemmas.Result.{err_from_is_err_and}
-use Rattle.gm_tiers.specs.Orders.{IsOrderFrom}
-use Rattle.gamesman.specs.Games.{game_spec}
-use Rattle.gamesman.specs.Refusals.{IsUnbuilt}
+use Rattle.gamesman.proofs.Lower.{ℕ, inl, inr, subst, err_from_is_err_and, IsOrderFrom, game_spec, IsUnbuilt}
 use Rattle.gamesman.proofs.Telling.{find_unsearched}
 use Rattle.gamesman.proofs.search.find.Goals as goal
 

@@ -1,5 +1,4 @@
-use Rattle.std.proofs.Common.{ℕ, List, inr, refl, sym, subst, ◌∙◌}
-use Rattle.std.specs.List.{Contains}
+use Rattle.gamesman.proofs.Lower.{ℕ, List, inr, refl, sym, subst, ◌∙◌, Contains}
 use Rattle.gamesman.proofs.Telling.{listed, unlisted}
 use Rattle.gamesman.proofs.search.known_tier.Goals as goal
 

@@ -1,6 +1,4 @@
-use Rattle.std.proofs.Common.{None, inr}
-use Rattle.std.proofs.lemmas.Result.{err_from_is_err_and}
-use Rattle.gamesman.specs.Searches.{IsLongestOf, IsUnsearched}
+use Rattle.gamesman.proofs.Lower.{None, inr, err_from_is_err_and, IsLongestOf, IsUnsearched}
 use Rattle.gamesman.proofs.Telling.{unbuilt_told}
 use Rattle.gamesman.proofs.search.longest.Goals as goal
 

@@ -1,5 +1,4 @@
-use Rattle.std.proofs.Common.{List, ℕ, subst}
-use Rattle.std.specs.List.{Contains}
+use Rattle.gamesman.proofs.Lower.{List, ℕ, subst, Contains}
 use Rattle.gamesman.proofs.Reached.{order_held}
 use Rattle.gamesman.proofs.search.longest_of.Goals as goal
 

@@ -1,6 +1,4 @@
-use Rattle.std.proofs.Common.{inl, inr, refl, sym, subst}
-use Rattle.std.proofs.lemmas.Result.{err_from_is_err_and}
-use Rattle.gm_tiers.specs.Orders.{IsTierOrder}
+use Rattle.gamesman.proofs.Lower.{inl, inr, refl, sym, subst, err_from_is_err_and, IsTierOrder}
 use Rattle.gamesman.proofs.Reached.{order_closed}
 use Rattle.gamesman.proofs.search.serve_from.Goals as goal
 

@@ -1,7 +1,5 @@
-use Rattle.std.proofs.Common.{None, inr, sym, subst}
-use Rattle.std.proofs.lemmas.Result.{err_from_is_err_and}
+use Rattle.gamesman.proofs.Lower.{None, inr, sym, subst, err_from_is_err_and, IsLongestOf, IsUnsearched}
 use Rattle.gm_analyse.specs.Longest.{IsLongestText}
-use Rattle.gamesman.specs.Searches.{IsLongestOf, IsUnsearched}
 use Rattle.gamesman.proofs.Telling.{memory_told, memory_unbuilt, put_told}
 use Rattle.gamesman.proofs.search.write_longest.Goals as goal
 

@@ -1,7 +1,5 @@
-use Rattle.std.proofs.Common.{None, inr, refl, sym, ◌∙◌}
-use Rattle.std.proofs.lemmas.Result.{err_from_is_err_and}
+use Rattle.gamesman.proofs.Lower.{None, inr, refl, sym, ◌∙◌, err_from_is_err_and, IsUnsearched}
 use Rattle.gamesman.specs.Solving.{IsReport}
-use Rattle.gamesman.specs.Searches.{IsUnsearched}
 use Rattle.gamesman.proofs.Telling.{unbuilt_told, put_told}
 use Rattle.gamesman.proofs.solve.solve.Goals as goal
 

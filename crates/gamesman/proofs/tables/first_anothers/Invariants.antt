@@ -1,4 +1,4 @@
-use Rattle.std.proofs.Common.{◌≡◌}
+use Rattle.gamesman.proofs.Lower.{◌≡◌}
 use Rattle.gamesman.specs.Shelves.{failed_in}
 use Rattle.gamesman.proofs.tables.first_anothers.Given as goal
 

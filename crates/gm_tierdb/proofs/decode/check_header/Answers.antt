@@ -1,6 +1,4 @@
-use Rattle.std.proofs.Common.{◌≡◌, ◌∙◌, ap, sym, take, drop, inl}
-use Rattle.std.specs.Int.{to_le_bytes, w64}
-use Rattle.gm_tierdb.specs.TierText.{magic}
+use Rattle.gm_tierdb.proofs.Lower.{◌≡◌, ◌∙◌, ap, sym, take, drop, inl, to_le_bytes, w64, magic}
 use Rattle.gm_tierdb.proofs.RefusalLemmas.{alike, unlike, not_both, same_number}
 use Rattle.gm_tierdb.proofs.decode.check_header.Goals as goal
 

@@ -1,4 +1,4 @@
-use Rattle.gm_table.specs.declared.version.Version.TheVariants.{Two}
+use Rattle.gm_tierdb.proofs.Lower.{Two}
 use Rattle.gm_tierdb.proofs.RefusalLemmas.{exact_answer, old_answer}
 use Rattle.gm_tierdb.proofs.decode.decode.Goals as goal
 

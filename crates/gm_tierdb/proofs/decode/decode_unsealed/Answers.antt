@@ -1,6 +1,4 @@
-use Rattle.std.proofs.Common.{sym, subst}
-use Rattle.gm_table.specs.declared.version.Version.TheVariants.{Two}
-use Rattle.gm_tierdb.specs.Refusals.{AreRead, records_part}
+use Rattle.gm_tierdb.proofs.Lower.{sym, subst, Two, AreRead, records_part}
 use Rattle.gm_tierdb.proofs.RefusalLemmas.{old_version}
 use Rattle.gm_tierdb.proofs.SealLemmas.{unsealed_text, whole_of_text, refuses_of_whole, not_old_text, error_again}
 use Rattle.gm_tierdb.proofs.decode.decode_unsealed.Goals as goal

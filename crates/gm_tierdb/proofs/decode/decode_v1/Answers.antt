@@ -1,4 +1,4 @@
-use Rattle.gm_table.specs.declared.version.Version.TheVariants.{One}
+use Rattle.gm_tierdb.proofs.Lower.{One}
 use Rattle.gm_tierdb.proofs.RefusalLemmas.{exact_answer}
 use Rattle.gm_tierdb.proofs.decode.decode_v1.Goals as goal
 

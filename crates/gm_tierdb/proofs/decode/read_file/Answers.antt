@@ -1,6 +1,4 @@
-use Rattle.std.proofs.Common.{subst, rules}
-use Rattle.gm_tierdb.specs.Refusals.{AreRead, HasRecords, records_part}
-use Rattle.gm_tierdb.specs.Seals.{IsSealed}
+use Rattle.gm_tierdb.proofs.Lower.{subst, rules, AreRead, HasRecords, records_part, IsSealed}
 use Rattle.gm_tierdb.proofs.SealLemmas.{sealed_text}
 use Rattle.gm_tierdb.proofs.decode.read_file.Goals as goal
 

@@ -1,8 +1,4 @@
-use Rattle.std.proofs.Common.{sym, subst}
-use Rattle.gm_table.specs.RecordCodes.{IsStorable}
-use Rattle.gm_table.specs.Tables.{record_at}
-use Rattle.gm_table.specs.declared.version.Version.{Version}
-use Rattle.gm_table.specs.declared.version.Version.TheVariants.{One}
+use Rattle.gm_tierdb.proofs.Lower.{sym, subst, IsStorable, record_at, Version, One}
 use Rattle.gm_tierdb.proofs.encode.push_record.Goals as goal
 
 pub push_short-requires : goal.push_short-requires

@@ -1,8 +1,6 @@
-use Rattle.std.proofs.Common.{◌≤◌, ◌+◌, ◌<◌, ◌++◌, ◌-◌, ◌*◌, ◌∙◌, length, replicate, ap, sym, append-nil, arith}
-use Rattle.std.specs.List.{flat_map}
+use Rattle.gm_tierdb.proofs.Lower.{◌≤◌, ◌+◌, ◌<◌, ◌++◌, ◌-◌, ◌∙◌, length, replicate, ap, sym, append-nil, arith, flat_map, width, record_bytes, record_at}
+use Rattle.std.proofs.Common.{◌*◌}
 use Rattle.std.proofs.lemmas.List.{take_all}
-use Rattle.gm_table.specs.RecordCodes.{width, record_bytes}
-use Rattle.gm_table.specs.Tables.{record_at}
 use Rattle.gm_tierdb.proofs.HoleBytes.{holes_more}
 use Rattle.gm_tierdb.proofs.RecordLemmas.{one_more, storable_at}
 use Rattle.gm_tierdb.proofs.encode.push_records.Goals as goal

@@ -1,6 +1,4 @@
-use Rattle.std.proofs.Common.{◌≡◌, ◌≤◌, ◌-◌, ◌++◌, length, take}
-use Rattle.std.specs.List.{flat_map}
-use Rattle.gm_table.specs.RecordCodes.{record_bytes}
+use Rattle.gm_tierdb.proofs.Lower.{◌≡◌, ◌≤◌, ◌-◌, ◌++◌, length, take, flat_map, record_bytes}
 use Rattle.gm_tierdb.proofs.encode.push_records.Given as goal
 
 abbrev pub invariant-loop-index : goal.invariant-loop-index

@@ -1,9 +1,5 @@
-use Rattle.std.proofs.Common.{◌≡◌, ◌++◌, ap, ◌∙◌, length}
-use Rattle.std.specs.List.{flat_map}
-use Rattle.std.specs.Int.{to_le_bytes, w64}
-use Rattle.sha2.specs.Sha256.{sha256}
-use Rattle.gm_table.specs.RecordCodes.{record_bytes}
-use Rattle.gm_tierdb.specs.TierText.{magic, body, version_text}
+use Rattle.gm_tierdb.proofs.Lower.{◌≡◌, ◌++◌, ap, ◌∙◌, length, flat_map, to_le_bytes, w64, sha256, record_bytes, magic, body}
+use Rattle.gm_tierdb.specs.TierText.{version_text}
 use Rattle.gm_tierdb.proofs.RecordLemmas.{storable_for}
 use Rattle.gm_tierdb.proofs.encode.write_file.Goals as goal
 

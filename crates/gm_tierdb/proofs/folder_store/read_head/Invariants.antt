@@ -1,4 +1,4 @@
-use Rattle.std.proofs.Common.{◌-◌, ◌≤◌}
+use Rattle.gm_tierdb.proofs.Lower.{◌-◌, ◌≤◌}
 use Rattle.gm_tierdb.proofs.folder_store.read_head.Given as goal
 
 abbrev pub invariant-loop-count : goal.invariant-loop-count

@@ -1,5 +1,4 @@
-use Rattle.std.proofs.Common.{rules, ◌≡◌}
-use Rattle.gm_tierdb.specs.Owners.{owner_of}
+use Rattle.gm_tierdb.proofs.Lower.{rules, ◌≡◌, owner_of}
 use Rattle.gm_tierdb.proofs.HeadLemmas.{owner_kept}
 use Rattle.gm_tierdb.proofs.owner.may_be_anothers.Goals as goal
 

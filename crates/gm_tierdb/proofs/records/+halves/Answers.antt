@@ -1,6 +1,5 @@
-use Rattle.std.proofs.Common.{rules, ◌≡◌, ◌*◌, ◌+◌, ◌/◌, ◌-◌, length, IfOk, IfErr, subst, arith, ap, ◌∙◌}
-use Rattle.gm_table.specs.RecordCodes.{width}
-use Rattle.gm_tierdb.specs.Refusals.{IsFirstBad, AreRead}
+use Rattle.gm_tierdb.proofs.Lower.{rules, ◌≡◌, ◌+◌, ◌-◌, length, IfOk, IfErr, subst, arith, ap, ◌∙◌, width, IsFirstBad, AreRead}
+use Rattle.std.proofs.Common.{◌*◌, ◌/◌}
 use Rattle.gm_tierdb.proofs.HalfLemmas.{has_read, bad_first, bad_second, read_joined, passed_on}
 use Rattle.gm_tierdb.proofs.records.+halves.Goals as goal
 

@@ -1,4 +1,5 @@
-use Rattle.std.proofs.Common.{◌+◌, ◌*◌}
+use Rattle.gm_tierdb.proofs.Lower.{◌+◌}
+use Rattle.std.proofs.Common.{◌*◌}
 use Rattle.gm_tierdb.proofs.records.+halves.Given as goal
 
 abbrev pub decreases-join+arg2 : goal.decreases-join+arg2

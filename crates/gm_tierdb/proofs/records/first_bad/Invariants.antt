@@ -1,7 +1,5 @@
-use Rattle.std.proofs.Common.{◌≡◌, ◌++◌, ◌-◌, ◌*◌, All, length, List, Option}
-use Rattle.std.specs.List.{flat_map}
-use Rattle.gm_game.specs.declared.position.Solved.{Solved}
-use Rattle.gm_table.specs.RecordCodes.{width, record_bytes, IsStorable}
+use Rattle.gm_tierdb.proofs.Lower.{◌≡◌, ◌++◌, ◌-◌, All, length, List, Option, flat_map, Solved, width, record_bytes, IsStorable}
+use Rattle.std.proofs.Common.{◌*◌}
 use Rattle.gm_tierdb.proofs.records.first_bad.Given as goal
 
 abbrev pub invariant-loop-index : goal.invariant-loop-index

@@ -1,9 +1,5 @@
-use Rattle.std.proofs.Common.{◌≡◌, ◌≤◌, length, subst, ◌++◌, ◌∷◌, [], arith, ap, ◌∙◌, sym, take}
-use Rattle.std.specs.Int.{to_le_bytes}
+use Rattle.gm_tierdb.proofs.Lower.{◌≡◌, ◌≤◌, length, subst, ◌++◌, ◌∷◌, [], arith, ap, ◌∙◌, sym, take, to_le_bytes, All-push, word, width, IsStorable, none_here}
 use Rattle.std.proofs.lemmas.List.{length-append}
-use Rattle.std.proofs.lemmas.List.Elements.{All-push}
-use Rattle.gm_table.specs.RecordCodes.{word, width, IsStorable}
-use Rattle.gm_table.proofs.CodeLemmas.{none_here}
 use Rattle.gm_tierdb.proofs.RecordLemmas.{all_read, grown, none_read, one_less, room}
 use Rattle.gm_tierdb.proofs.records.read_records.Goals as goal
 

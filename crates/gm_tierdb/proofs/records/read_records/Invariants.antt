@@ -1,6 +1,5 @@
-use Rattle.std.proofs.Common.{◌≡◌, ◌++◌, ◌-◌, ◌*◌, All, length}
-use Rattle.std.specs.List.{flat_map}
-use Rattle.gm_table.specs.RecordCodes.{width, record_bytes, IsStorable}
+use Rattle.gm_tierdb.proofs.Lower.{◌≡◌, ◌++◌, ◌-◌, All, length, flat_map, width, record_bytes, IsStorable}
+use Rattle.std.proofs.Common.{◌*◌}
 use Rattle.gm_tierdb.proofs.records.read_records.Given as goal
 
 abbrev pub invariant-loop-index : goal.invariant-loop-index

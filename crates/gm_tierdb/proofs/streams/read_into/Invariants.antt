@@ -1,6 +1,5 @@
-use Rattle.std.proofs.Common.{length, ◌-◌, ◌≤◌}
+use Rattle.gm_tierdb.proofs.Lower.{length, ◌-◌, ◌≤◌, READ_LEN}
 use Rattle.std.specs.Io.KnownBytes.{Consumes}
-use Rattle.gm_tierdb.specs.declared.streams.TheConstants.{READ_LEN}
 use Rattle.gm_tierdb.proofs.streams.read_into.Given as goal
 
 abbrev pub invariant-loop-chunk : goal.invariant-loop-chunk

@@ -1,7 +1,4 @@
-use Rattle.std.proofs.Common.{◌-◌, ◌++◌, length, take, drop, sym, ap, subst, ◌∙◌, arith, take-add, rules}
-use Rattle.std.proofs.lemmas.List.{length-take, take-take}
-use Rattle.std.specs.Io.KnownBytes.{Appends}
-use Rattle.std.proofs.KnownBytes.{Appends-trans}
+use Rattle.gm_tierdb.proofs.Lower.{◌-◌, ◌++◌, length, take, drop, sym, ap, subst, ◌∙◌, arith, take-add, rules, length-take, take-take, Appends, Appends-trans}
 use Rattle.gm_tierdb.proofs.StreamLemmas.{part_stuck, part_kept}
 use Rattle.gm_tierdb.proofs.streams.write_text.Goals as goal
 

@@ -1,5 +1,4 @@
-use Rattle.std.proofs.Common.{length, ◌-◌, ◌≤◌, take}
-use Rattle.std.specs.Io.KnownBytes.{Appends}
+use Rattle.gm_tierdb.proofs.Lower.{length, ◌-◌, ◌≤◌, take, Appends}
 use Rattle.gm_tierdb.proofs.streams.write_text.Given as goal
 
 abbrev pub invariant-loop-done : goal.invariant-loop-done

@@ -1,7 +1,4 @@
-use Rattle.std.proofs.Common.{ℕ, List, subst}
-use Rattle.std.specs.List.{Contains}
-use Rattle.gamesman.specs.declared.fault.Fault.TheVariants.{OutOfMemory}
-use Rattle.gamesman.specs.Refusals.{IsUnbuilt}
+use Rattle.gamesman.proofs.Lower.{ℕ, List, subst, Contains, OutOfMemory, IsUnbuilt}
 use Rattle.gamesman.proofs.Cut.{passed, reason_unbuilt}
 use Rattle.gamesman.proofs.tables.BuildOptions.build_from.Goals as goal
 

@@ -1,7 +1,5 @@
-use Rattle.std.proofs.Common.{◌≡◌, ◌∙◌, IfOk, ap, sym, subst, arith}
+use Rattle.gm_tierdb.proofs.Lower.{◌≡◌, ◌∙◌, IfOk, ap, sym, subst, arith, false≢true, AreSame}
 use Rattle.std.specs.Option.{option_map}
-use Rattle.std.proofs.lemmas.Bool.{false≢true}
-use Rattle.gm_tierdb.specs.StoreTexts.{AreSame}
 use Rattle.gm_tierdb.proofs.flaky.FlakyStore.read.Goals as goal
 
 pub returns-then-fails_next-clause-count : goal.returns-then-fails_next-clause-count

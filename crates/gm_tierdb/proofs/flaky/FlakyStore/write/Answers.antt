@@ -1,6 +1,6 @@
-use Rattle.std.proofs.Common.{◌∙◌, OnOk, ap, sym, subst, inl, arith}
-use Rattle.std.proofs.lemmas.Bool.{false≢true}
-use Rattle.gm_tierdb.specs.StoreTexts.{AreSame, Sets, MaySet}
+use Rattle.gm_tierdb.proofs.Lower.{◌∙◌, ap, sym, subst, inl, arith, false≢true, AreSame}
+use Rattle.std.proofs.Common.{OnOk}
+use Rattle.gm_tierdb.specs.StoreTexts.{Sets, MaySet}
 use Rattle.gm_tierdb.proofs.flaky.FlakyStore.write.Goals as goal
 
 pub returns-then-fails_next-clause-count : goal.returns-then-fails_next-clause-count
