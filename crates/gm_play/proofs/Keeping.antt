@@ -1,11 +1,11 @@
 -- Properties that best moves preserve, move by move.
-use Rattle.gm_play.proofs.Lower.{◌≡◌, ◌≢◌, ℕ, zero, suc, ◌<◌, ◌≤◌, inl, inr, Bool, true, false, List, Option, None, Some, refl, sym, ◌∙◌, subst, arith}
-use Rattle.gm_play.proofs.Lower.{Contains, Position, End, Value, Lose, Draw, Tie, Win, Rules, IsGame, loses, wins, HasValue, contains_none, map_from, map_in}
-use Rattle.gm_play.proofs.Lower.{loses_zero, wins_zero, loses_suc, wins_suc, loses_at_end, wins_at_end, ties_at_end, wins_from, HasValue_once, never_both}
-use Rattle.gm_play.proofs.Lower.{no_win_of_tie, no_loss_of_tie, win_within, loss_within, Side, You, Computer, wanted_from, IsNoFarther, IsBestOf, IsBestMove}
+use Rattle.gm_play.proofs.Lower.{◌≡◌, ◌≢◌, ℕ, zero, suc, ◌+◌, ◌<◌, ◌≤◌, inl, inr, Bool, true, false, List, Option, None, Some, refl, sym, ap, ◌∙◌, subst, arith}
+use Rattle.gm_play.proofs.Lower.{Contains, Position, End, Value, Lose, Draw, Tie, Win, Rules, IsGame, loses, wins, HasValue, contains_none, map_from, Solved}
+use Rattle.gm_play.proofs.Lower.{loses_zero, loses_suc, loses_at_end, wins_at_end, ties_at_end, wins_from, HasValue_once, never_both}
+use Rattle.gm_play.proofs.Lower.{no_win_of_tie, no_loss_of_tie, win_within, Side, You, Computer, wanted_from, IsNoFarther, IsBestOf, IsBestMove}
 use Rattle.gm_play.proofs.Lower.{IsWonIn, IsEven, HasWon, HasLost}
 use Rattle.gm_game.specs.declared.position.End.TheVariants.{Lose as EndLose, Tie as EndTie, Win as EndWin}
-use Rattle.gm_play.specs.BestMoves.{IsBest}
+use Rattle.gm_play.proofs.Lowering.{step_value}
 
 false_unless : (b : Bool) → (b ≡ true → ⊥) → b ≡ false
 false_unless true h = absurd (h refl)
@@ -32,12 +32,6 @@ best_once r p m n (o, a) (q, b) =
     let e : a.value ≡ b.value = (HasValue_once r p a.value b.value a.own b.own a.is_value b.is_value).0 in
     best_of_once r p b.value (r.moves p) m n a.remoteness b.remoteness (subst (λ (v : Value). IsBestOf r p v (r.moves p) m a.remoteness) e a.best) b.best
 
--- the best move, by the value of the position
-best_from : (r : Rules) (p : Position) (v : Value) (n m : ℕ) → HasValue r p v n → IsBest r p m → (k : ℕ) × IsBestOf r p v (r.moves p) m k
-best_from r p v n m h b =
-    let e : b.value ≡ v = (HasValue_once r p b.value v b.own n b.is_value h).0 in
-    (b.remoteness, subst (λ (w : Value). IsBestOf r p w (r.moves p) m b.remoteness) e b.best)
-
 module _ (r : Rules) (g : IsGame r) where
   open_case : (p : Position) (m : ℕ) (o : Option End) → r.is_legal p ≡ true → Contains (r.moves p) m → r.primitive p ≡ o → r.primitive p ≡ None
   open_case p m None l has e = e
@@ -60,17 +54,9 @@ module _ (r : Rules) (g : IsGame r) where
 
   -- from a won position the best move leads to a nearer loss
   pub best_won : (p : Position) (m n : ℕ) → IsBestMove r p (Some m) → HasValue r p Win n → (k : ℕ) × (k < n) × HasValue r (r.play p m) Lose k
-  best_won p m zero (o, b) h = (let e = wins_zero r p h.0 in absurd (cc))
-  best_won p m (suc n) (o, b) h = elim (wins_suc r n p h.0) [
-    | inl e ↦ absurd (cc)
-    | inr t ↦ (
-        let (d, is, l) = t.1 in
-        let (j, few, w) = loss_within r n d l in
-        let (x, has, e) = map_in (r.play p) (r.moves p) d is in
-        let (k, best) = best_from r p Win (suc n) m h b in
-        let near : k ≤ j = best.no_better x j has (subst (λ (q : Position). HasValue r q Lose j) (sym e) w) in
-        (k, omega arith, best.reaches))
-  ]
+  best_won p m n b h =
+      let (k, here, e) = step_value r p m Win n b h in
+      (k, (let far : k + 1 ≡ n = ap (λ (s : Solved). s.remoteness) e in omega arith), here)
 
   pub won_at : (p : Position) (s : Side) (n : ℕ) (o : Option End) → IsWonIn r p s n → r.primitive p ≡ o → r.primitive p ≢ None → HasWon r p s
   won_at p s n None w e h = absurd (h e)

@@ -1,7 +1,7 @@
 -- A best move lowers the remoteness of its position by one.
-use Rattle.gm_play.proofs.Lower.{◌≡◌, ℕ, zero, suc, ◌+◌, ◌<◌, ◌≤◌, inl, inr, true, None, sym, ap, subst, ◌∙◌, arith, Contains, cases_lt, Position, Value, Lose}
+use Rattle.gm_play.proofs.Lower.{◌≡◌, ℕ, zero, suc, ◌+◌, ◌<◌, ◌≤◌, inl, inr, true, None, Some, sym, ap, subst, ◌∙◌, arith, Contains, cases_lt, Position, Value, Lose}
 use Rattle.gm_play.proofs.Lower.{Draw, Tie, Win, solved, Rules, IsChild, wins, loses, ties, HasValue, win_within, loss_within, map_from, map_in, loses_zero}
-use Rattle.gm_play.proofs.Lower.{wins_zero, loses_suc, wins_suc, ties_suc, wins_from, ties_from, ties_at_end, wanted_from, IsBestOf, worth_from}
+use Rattle.gm_play.proofs.Lower.{wins_zero, loses_suc, wins_suc, ties_suc, wins_from, ties_from, ties_at_end, wanted_from, IsBestOf, IsBestMove, worth_from, HasValue_once}
 use Rattle.gm_game.proofs.Basic.{wins_later}
 use Rattle.gm_game.proofs.Steps.{loses_from}
 
@@ -67,3 +67,13 @@ module _ (r : Rules) (p : Position) (open_ : r.primitive p ≡ None) where
   best_worth Tie own m k h b = ap (solved Tie) (sym (near_tie own m k h b))
   best_worth Lose own m k h b = ap (solved Lose) (sym (far_loss own m k h b))
   best_worth Draw own m k h b = ap (solved Draw) (b.reaches.0 ∙ sym h.0)
+
+pub step_value : (r : Rules) (p : Position) (m : ℕ) (v : Value) (n : ℕ) → IsBestMove r p (Some m) → HasValue r p v n → (k : ℕ) × HasValue r (r.play p m)
+    (wanted_from v) k × (worth_from (wanted_from v) k ≡ solved v n)
+step_value r p m v n (open_, b) h =
+    let (e, d) = HasValue_once r p b.value v b.own n b.is_value h in
+    let w : worth_from (wanted_from b.value) b.remoteness ≡ solved b.value b.own = best_worth r p open_ b.value b.own m b.remoteness b.is_value b.best in (
+      b.remoteness,
+      subst (λ (x : Value). HasValue r (r.play p m) (wanted_from x) b.remoteness) e b.best.reaches,
+      ap (λ (x : Value). worth_from (wanted_from x) b.remoteness) (sym e) ∙ w ∙ ap (λ (x : Value). solved x b.own) e ∙ ap (solved v) d,
+    )

@@ -1,8 +1,8 @@
 -- The first of the sorted moves is the best move, and its worth is the value of the position.
-use Rattle.gm_play.proofs.Lower.{◌≡◌, ℕ, suc, ◌+◌, ◌<◌, ◌≤◌, true, List, [], ◌∷◌, map, None, refl, sym, ap, subst, ◌∙◌, arith, IsPermutation, Contains}
+use Rattle.gm_play.proofs.Lower.{◌≡◌, ℕ, suc, ◌+◌, ◌<◌, ◌≤◌, true, List, [], ◌∷◌, map, Some, refl, sym, ap, subst, ◌∙◌, arith, IsPermutation, Contains}
 use Rattle.gm_play.proofs.Lower.{Contains-permutation, IsPermutation-sym, REMOTENESS, Position, Solved, Value, Lose, Draw, Tie, Win, IsGame, solved, Rules}
-use Rattle.gm_play.proofs.Lower.{IsChild, wins, HasValue, IsTrueValue, HasValue_once, win_within, contains_none, contains_first, map_from, map_in, wins_from}
-use Rattle.gm_play.proofs.Lower.{ties_from, MoveValue, wanted_from, IsNoFarther, IsBestOf, worth_from, IsMoveValue, AreMoveValues}
+use Rattle.gm_play.proofs.Lower.{IsChild, HasValue, IsTrueValue, HasValue_once, contains_none, contains_first, map_from, map_in, wins_from}
+use Rattle.gm_play.proofs.Lower.{ties_from, no_win_of_tie, IsBestMove, MoveValue, wanted_from, IsNoFarther, IsBestOf, worth_from, IsMoveValue, AreMoveValues}
 use Rattle.std.proofs.Common.{◌*◌, ◌^◌}
 use Rattle.std.specs.List.Sorted.{IsNonDecreasingBy}
 use Rattle.std.proofs.lemmas.List.Elements.{All-contains}
@@ -18,130 +18,97 @@ rank_first a b m n few h = omega arith
 number_next : (a b m n : ℕ) → a ≡ b → 2 ^ 32 * a + m ≤ 2 ^ 32 * b + n → m ≤ n
 number_next a b m n e h = omega arith
 
-rank_apart : (v w : Value) (k l : ℕ) → k ≤ REMOTENESS → l ≤ REMOTENESS → rank v k ≤ rank w l → (w ≡ Lose → v ≡ Lose) × (w ≡ Tie → (v ≡ Lose → ⊥) → v ≡ Tie)
-    × (w ≡ Draw → (v ≡ Lose → ⊥) → (v ≡ Tie → ⊥) → v ≡ Draw)
-rank_apart Lose w k l a b h = (λ e. refl, λ e f. absurd (f refl), λ e f x. absurd (f refl))
-rank_apart Tie Lose k l a b h = absurd (omega arith)
-rank_apart Tie Tie k l a b h = (λ e. absurd (cc), λ e f. refl, λ e f x. absurd (x refl))
-rank_apart Tie Draw k l a b h = (λ e. absurd (cc), λ e f. absurd (cc), λ e f x. absurd (x refl))
-rank_apart Tie Win k l a b h = (λ e. absurd (cc), λ e f. absurd (cc), λ e f x. absurd (cc))
-rank_apart Draw Lose k l a b h = absurd (omega arith)
-rank_apart Draw Tie k l a b h = absurd (omega arith)
-rank_apart Draw Draw k l a b h = (λ e. absurd (cc), λ e f. absurd (cc), λ e f x. refl)
-rank_apart Draw Win k l a b h = (λ e. absurd (cc), λ e f. absurd (cc), λ e f x. absurd (cc))
-rank_apart Win Lose k l a b h = absurd (omega arith)
-rank_apart Win Tie k l a b h = absurd (omega arith)
-rank_apart Win Draw k l a b h = absurd (omega arith)
-rank_apart Win Win k l a b h = (λ e. absurd (cc), λ e f. absurd (cc), λ e f x. absurd (cc))
-
 rank_far : (v : Value) (k l : ℕ) → k ≤ REMOTENESS → l ≤ REMOTENESS → rank (wanted_from v) k ≤ rank (wanted_from v) l → IsNoFarther v k l
 rank_far Lose k l a b h = omega arith
 rank_far Draw k l a b h = tt
 rank_far Tie k l a b h = omega arith
 rank_far Win k l a b h = omega arith
 
+-- the key by which a move to a result of this value is sorted
+abbrev pub key : Value → ℕ → ℕ → ℕ
+key w k m = 2 ^ 32 * rank w k + m
+
+-- a position has one value
+pub key_once : (r : Rules) (q : Position) (v w : Value) (k l m a : ℕ) → HasValue r q v k → HasValue r q w l → k ≤ REMOTENESS → a ≤ key v k m
+    → (l ≤ REMOTENESS) × (a ≤ key w l m)
+key_once r q v w k l m a h i small low =
+    let (same, far) = HasValue_once r q v w k l h i in
+    (subst (λ (n : ℕ). n ≤ REMOTENESS) far small, subst (λ (n : ℕ). a ≤ n) (ap (λ (x : Value). key x k m) same ∙ ap (λ (n : ℕ). key w n m) far) low)
+
+module _ (r : Rules) (g : IsGame r) (p : Position) (legal : r.is_legal p ≡ true) where
+  -- a move that no move to a wanted value comes before leads to a wanted value
+  wanted_first : (m k l : ℕ) → Contains (r.moves p) m → (v w : Value) (own : ℕ) → HasValue r p v own → HasValue r (r.play p m) w k → k ≤ REMOTENESS
+      → l ≤ REMOTENESS → rank w k ≤ rank (wanted_from v) l → w ≡ wanted_from v
+  wanted_first m k l has Lose w own q h a b low =
+      let (j, few, won) = reply_won r g p m own legal has q in (HasValue_once r (r.play p m) w Win k j h won).0
+  wanted_first m k l has Draw Lose own q h a b low = let w = wins_from r k p (r.play p m) (goes_on r g p m legal has) (map_from (r.play p) (r.moves p) m has) h.0 in let f = q.2 (suc k) in absurd (cc)
+  wanted_first m k l has Draw Draw own q h a b low = refl
+  wanted_first m k l has Draw Tie own q h a b low =
+      absurd (q.3 (suc k) (ties_from r k p (r.play p m) (goes_on r g p m legal has) q.2 (map_from (r.play p) (r.moves p) m has) h.0))
+  wanted_first m k l has Draw Win own q h a b low = absurd (omega arith)
+  wanted_first m k l has Tie Lose own q h a b low = absurd (no_win_of_tie r own p q.0 (suc k) (wins_from r k p (r.play p m) (goes_on r g p m legal has) (map_from (r.play p) (r.moves p) m has) h.0))
+  wanted_first m k l has Tie Draw own q h a b low = absurd (omega arith)
+  wanted_first m k l has Tie Tie own q h a b low = refl
+  wanted_first m k l has Tie Win own q h a b low = absurd (omega arith)
+  wanted_first m k l has Win Lose own q h a b low = refl
+  wanted_first m k l has Win Draw own q h a b low = absurd (omega arith)
+  wanted_first m k l has Win Tie own q h a b low = absurd (omega arith)
+  wanted_first m k l has Win Win own q h a b low = absurd (omega arith)
+
+  -- the move that comes before all others is the best one, and its worth is the value of the position
+  module _ (known : (d : Position) → IsChild r p d → (s : Solved) × IsTrueValue r d s) (m k : ℕ) (w : Value) (has : Contains (r.moves p) m)
+      (goes : HasValue r (r.play p m) w k)
+      (first : (n l : ℕ) (u : Value) → Contains (r.moves p) n → HasValue r (r.play p n) u l → (l ≤ REMOTENESS) × (key w k m ≤ key u l n)) where
+    low : (n l : ℕ) (u : Value) → Contains (r.moves p) n → HasValue r (r.play p n) u l → rank w k ≤ rank u l
+    low n l u i h = rank_first (rank w k) (rank u l) m n (g.move_fits p n legal i) (first n l u i h).1
+
+    first_best : (v : Value) → w ≡ wanted_from v → IsBestOf r p v (r.moves p) m k
+    first_best v e = record {
+      there = has;
+      reaches = subst (λ (u : Value). HasValue r (r.play p m) u k) e goes;
+      no_better = λ n l i h. rank_far v k l (first m k w has goes).0 (first n l (wanted_from v) i h).0
+          (subst (λ (u : Value). rank u k ≤ rank (wanted_from v) l) e (low n l (wanted_from v) i h));
+      first = λ n i h. number_next (rank w k) (rank (wanted_from v) k) m n (ap (λ (u : Value). rank u k) e) (first n k (wanted_from v) i h).1;
+    }
+
+    pub first_is : (v : Value) (own : ℕ) → HasValue r p v own → IsBestMove r p (Some m) × (worth_from w k ≡ solved v own)
+    first_is v own q =
+        let open_ = goes_on r g p m legal has in
+        let (n, l, i, h) = leads r g p legal open_ known v own q in
+        let e = wanted_first m k l has v w own q goes (first m k w has goes).0 (first n l (wanted_from v) i h).0 (low n l (wanted_from v) i h) in
+        let b = first_best v e in (
+          (open_, record { value = v; own = own; is_value = q; remoteness = k; best = b }),
+          ap (λ (u : Value). worth_from u k) e ∙ best_worth r p open_ v own m k q b,
+        )
+
 least_first : (x : MoveValue) (xs : List MoveValue) → IsNonDecreasingBy place (x ∷ xs) → (y : MoveValue) → Contains (x ∷ xs) y → place x ≤ place y
 least_first x xs h y (j, low, e) = subst (λ (z : MoveValue). place x ≤ place z) e (h 0 j y (omega arith) low)
 
-module _ (r : Rules) (g : IsGame r) (p : Position) (legal : r.is_legal p ≡ true) (known : (d : Position) → IsChild r p d → (s : Solved) × IsTrueValue r d s)
-    (x : MoveValue) (xs : List MoveValue) (h : AreMoveValues r p (x ∷ xs)) where
+module _ (r : Rules) (p : Position) (x : MoveValue) (xs : List MoveValue) (h : AreMoveValues r p (x ∷ xs)) where
   abbrev number : MoveValue → ℕ
   number y = y.number
 
-  move_of : (y : MoveValue) → Contains (x ∷ xs) y → Contains (r.moves p) y.number
-  move_of y has = Contains-permutation (map number (x ∷ xs)) (r.moves p) y.number (IsPermutation-sym (r.moves p) (map number (x ∷ xs)) h.listed)
-      (map_from number (x ∷ xs) y has)
+  is_value : (y : MoveValue) → Contains (x ∷ xs) y → HasValue r (r.play p y.number) y.result.value y.result.remoteness
+  is_value y has =
+      let m = All-contains (IsMoveValue r p) (x ∷ xs) y h.each has in
+      subst (λ (q : Position). HasValue r q y.result.value y.result.remoteness) m.position m.is_true
 
-  first_there : Contains (r.moves p) x.number
-  first_there = move_of x (contains_first x xs)
-
-  open_ : r.primitive p ≡ None
-  open_ = goes_on r g p x.number legal first_there
-
-  value_of : (y : MoveValue) → IsMoveValue r p y → HasValue r (r.play p y.number) y.result.value y.result.remoteness
-  value_of y m = subst (λ (q : Position). HasValue r q y.result.value y.result.remoteness) m.position m.is_true
-
-  first_value : HasValue r (r.play p x.number) x.result.value x.result.remoteness
-  first_value = value_of x (All-contains (IsMoveValue r p) (x ∷ xs) x h.each (contains_first x xs))
-
-  first_small : x.result.remoteness ≤ REMOTENESS
-  first_small = (All-contains (IsMoveValue r p) (x ∷ xs) x h.each (contains_first x xs)).small
-
-  -- no move with another value comes before the first
-  abbrev Follows : Value → ℕ → ℕ → Type 0
-  Follows w k n = (k ≤ REMOTENESS) × (rank x.result.value x.result.remoteness ≤ rank w k) × (rank x.result.value x.result.remoteness ≡ rank w k → x.number ≤ n)
-
-  follows : (n k : ℕ) (w : Value) → Contains (r.moves p) n → HasValue r (r.play p n) w k → Follows w k n
-  follows n k w has v =
+  sorted_first : (n l : ℕ) (u : Value) → Contains (r.moves p) n → HasValue r (r.play p n) u l → (l ≤ REMOTENESS) × (place x ≤ key u l n)
+  sorted_first n l u has v =
       let (y, there, e) = map_in number (x ∷ xs) n (Contains-permutation (r.moves p) (map number (x ∷ xs)) n h.listed has) in
-      let m = All-contains (IsMoveValue r p) (x ∷ xs) y h.each there in
-      let here : HasValue r (r.play p n) y.result.value y.result.remoteness = subst (λ (z : ℕ). HasValue r (r.play p z) y.result.value y.result.remoteness)
-      e (value_of y m) in
-      let (same, far) = HasValue_once r (r.play p n) y.result.value w y.result.remoteness k here v in
-      let at : rank y.result.value y.result.remoteness ≡ rank w k = ap (λ (z : Value). rank z y.result.remoteness) same ∙ ap (rank w) far in
-      let small : y.result.remoteness ≤ REMOTENESS = m.small in
-      let before : place x ≤ place y = least_first x xs h.ordered y there in
-      let fits : y.number < 2 ^ 32 = subst (λ (z : ℕ). z < 2 ^ 32) (sym e) (g.move_fits p n legal has) in
-      let low = rank_first (rank x.result.value x.result.remoteness) (rank y.result.value y.result.remoteness) x.number y.number fits before in (
-        subst (λ (z : ℕ). z ≤ REMOTENESS) far small,
-        subst (λ (z : ℕ). rank x.result.value x.result.remoteness ≤ z) at low,
-        λ q. subst (λ (z : ℕ). x.number ≤ z) e (number_next (rank x.result.value x.result.remoteness) (rank y.result.value y.result.remoteness) x.number
-            y.number (q ∙ sym at) before),
-      )
+      subst (λ (z : ℕ). (l ≤ REMOTENESS) × (place x ≤ key u l z)) e
+      (key_once r (r.play p y.number) y.result.value u y.result.remoteness l y.number (place x) (is_value y there)
+      (subst (λ (z : ℕ). HasValue r (r.play p z) u l) (sym e) v) (All-contains (IsMoveValue r p) (x ∷ xs) y h.each there).small
+      (least_first x xs h.ordered y there))
 
-  not_lost : (v : Value) (own : ℕ) → HasValue r p v own → (v ≡ Win → ⊥) → x.result.value ≡ Lose → ⊥
-  not_lost v own q other e =
-      let l : HasValue r (r.play p x.number) Lose x.result.remoteness = subst (λ (w : Value). HasValue r (r.play p x.number) w x.result.remoteness) e
-      first_value in
-      let w : wins r (suc x.result.remoteness) p ≡ true = wins_from r x.result.remoteness p (r.play p x.number) open_
-      (map_from (r.play p) (r.moves p) x.number first_there) l.0 in
-      let (j, few, z) = win_within r (suc x.result.remoteness) p w in
-      other (HasValue_once r p v Win own j q z).0
-
-  not_tied : (own : ℕ) → HasValue r p Draw own → x.result.value ≡ Tie → ⊥
-  not_tied own q e =
-      let t : HasValue r (r.play p x.number) Tie x.result.remoteness = subst (λ (w : Value). HasValue r (r.play p x.number) w x.result.remoteness) e
-      first_value in
-      q.3 (suc x.result.remoteness) (ties_from r x.result.remoteness p (r.play p x.number) open_ q.2 (map_from (r.play p) (r.moves p) x.number first_there) t.0)
-
-  abbrev Leads : Value → Type 0
-  Leads v = (m : ℕ) × (k : ℕ) × Contains (r.moves p) m × HasValue r (r.play p m) (wanted_from v) k
-
-  wanted_first : (v : Value) (own : ℕ) → HasValue r p v own → Leads v → x.result.value ≡ wanted_from v
-  wanted_first Lose own q (m, k, has, w) =
-      let (j, few, won) = reply_won r g p x.number own legal first_there q in
-      (HasValue_once r (r.play p x.number) x.result.value Win x.result.remoteness j first_value won).0
-  wanted_first Win own q (m, k, has, w) =
-      let f = follows m k Lose has w in
-      (rank_apart x.result.value Lose x.result.remoteness k first_small f.0 f.1).0 refl
-  wanted_first Tie own q (m, k, has, w) =
-      let f = follows m k Tie has w in
-      (rank_apart x.result.value Tie x.result.remoteness k first_small f.0 f.1).1 refl (not_lost Tie own q (λ e. absurd (cc)))
-  wanted_first Draw own q (m, k, has, w) =
-      let f = follows m k Draw has w in
-      (rank_apart x.result.value Draw x.result.remoteness k first_small f.0 f.1).2 refl (not_lost Draw own q (λ e. absurd (cc))) (not_tied own q)
-
-  first_best : (v : Value) → x.result.value ≡ wanted_from v → IsBestOf r p v (r.moves p) x.number x.result.remoteness
-  first_best v e =
-      let same : rank x.result.value x.result.remoteness ≡ rank (wanted_from v) x.result.remoteness = ap (λ (w : Value). rank w x.result.remoteness) e in
-      record {
-        there = first_there;
-        reaches = subst (λ (w : Value). HasValue r (r.play p x.number) w x.result.remoteness) e first_value;
-        no_better = λ n k has w. (let f = follows n k (wanted_from v) has w in rank_far v x.result.remoteness k first_small f.0
-            (subst (λ (z : ℕ). z ≤ rank (wanted_from v) k) same f.1));
-        first = λ n has w. (follows n x.result.remoteness (wanted_from v) has w).2 same;
-      }
-
-  begins : (v : Value) (own : ℕ) → HasValue r p v own → BeginsBest r p (x ∷ xs)
-  begins v own q =
-      let e : x.result.value ≡ wanted_from v = wanted_first v own q (leads r g p legal open_ known v own q) in
-      let b = first_best v e in
-      let m = All-contains (IsMoveValue r p) (x ∷ xs) x h.each (contains_first x xs) in
-      let worth : x.worth ≡ solved v own = m.worth ∙ ap (λ (w : Value). worth_from w x.result.remoteness) e ∙ best_worth r p open_ v own x.number
-      x.result.remoteness q b in (
-        (open_, record { value = v; own = own; is_value = q; remoteness = x.result.remoteness; best = b }),
-        subst (IsTrueValue r p) (sym worth) q,
-      )
+  begins : (g : IsGame r) → r.is_legal p ≡ true → ((d : Position) → IsChild r p d → (s : Solved) × IsTrueValue r d s) → (v : Value) (own : ℕ)
+      → HasValue r p v own → BeginsBest r p (x ∷ xs)
+  begins g legal known v own q =
+      let there = contains_first x xs in
+      let has = Contains-permutation (map number (x ∷ xs)) (r.moves p) x.number (IsPermutation-sym (r.moves p) (map number (x ∷ xs)) h.listed)
+      (map_from number (x ∷ xs) x there) in
+      let (best, worth) = first_is r g p legal known x.number x.result.remoteness x.result.value has (is_value x there) sorted_first v own q in
+      (best, subst (IsTrueValue r p) (sym ((All-contains (IsMoveValue r p) (x ∷ xs) x h.each there).worth ∙ worth)) q)
 
 no_moves : (r : Rules) (p : Position) → IsPermutation (r.moves p) [] → (ms : List ℕ) → r.moves p ≡ ms → ms ≡ []
 no_moves r p h [] e = refl
@@ -152,4 +119,4 @@ no_moves r p h (m ∷ ms) e = absurd (contains_none m (Contains-permutation (r.m
 pub begins_best : (r : Rules) (g : IsGame r) (p : Position) → r.is_legal p ≡ true → ((d : Position) → IsChild r p d → (s : Solved) × IsTrueValue r d s) →
     (s : Solved) → IsTrueValue r p s → (list : List MoveValue) → AreMoveValues r p list → BeginsBest r p list
 begins_best r g p legal known s q [] h = λ e. absurd (g.unended p legal e (no_moves r p h.listed (r.moves p) refl))
-begins_best r g p legal known s q (x ∷ xs) h = begins r g p legal known x xs h s.value s.remoteness q
+begins_best r g p legal known s q (x ∷ xs) h = begins r p x xs h g legal known s.value s.remoteness q

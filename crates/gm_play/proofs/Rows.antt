@@ -6,7 +6,7 @@ use Rattle.gm_play.proofs.Lower.{AreBest, wanted_from, IsBestMove, worth_from, A
 use Rattle.std.proofs.lemmas.List.{append_assoc, append-nil}
 use Rattle.std.proofs.lemmas.List.Elements.{All-contains_itself}
 use Rattle.gm_play.specs.PlayTexts.{AreLineRows}
-use Rattle.gm_play.proofs.Walking.{step_value}
+use Rattle.gm_play.proofs.Lowering.{step_value}
 
 -- moves with their values have legal results
 pub are_moves : (r : Rules) → IsGame r → (p : Position) → r.is_legal p ≡ true → (list : List MoveValue) → AreMoveValues r p list → All (IsMoveOf r p) list

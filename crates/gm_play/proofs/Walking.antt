@@ -11,7 +11,7 @@ use Rattle.gm_play.specs.declared.best_line.BestLine.{BestLine}
 use Rattle.gm_play.specs.declared.best_line.LineEnd.{LineEnd}
 use Rattle.gm_play.specs.declared.best_line.LineEnd.TheVariants.{Over, Again, Cut}
 use Rattle.gm_play.specs.BestLines.{positions_along, AreFresh, EndsSo, IsBestLine, IsWhole}
-use Rattle.gm_play.proofs.Lowering.{best_worth}
+use Rattle.gm_play.proofs.Lowering.{step_value}
 
 -- one more move
 best_push : (r : Rules) (p : Position) (ms : List ℕ) (m : ℕ) → AreBest r p ms → IsBestMove r (position_after r p ms) (Some m) → AreBest r p (ms ++ m ∷ [])
@@ -137,16 +137,6 @@ module _ (r : Rules) (start : Position) (limit : ℕ) (moves : List ℕ) (positi
 -- along a line of best moves the remoteness falls by one a move
 abbrev Falls : Rules → Position → List ℕ → ℕ → Type 0
 Falls r p ms n = (w : Value) × (j : ℕ) × (w ≢ Draw) × (j + length ms ≡ n) × HasValue r (position_after r p ms) w j
-
-pub step_value : (r : Rules) (p : Position) (m : ℕ) (v : Value) (n : ℕ) → IsBestMove r p (Some m) → HasValue r p v n → (k : ℕ) × HasValue r (r.play p m)
-    (wanted_from v) k × (worth_from (wanted_from v) k ≡ solved v n)
-step_value r p m v n (open_, b) h =
-    let (e, d) = HasValue_once r p b.value v b.own n b.is_value h in
-    let w : worth_from (wanted_from b.value) b.remoteness ≡ solved b.value b.own = best_worth r p open_ b.value b.own m b.remoteness b.is_value b.best in (
-      b.remoteness,
-      subst (λ (x : Value). HasValue r (r.play p m) (wanted_from x) b.remoteness) e b.best.reaches,
-      ap (λ (x : Value). worth_from (wanted_from x) b.remoteness) (sym e) ∙ w ∙ ap (λ (x : Value). solved x b.own) e ∙ ap (solved v) d,
-    )
 
 same_far : (v : Value) (k n : ℕ) → v ≢ Draw → worth_from (wanted_from v) k ≡ solved v n → (wanted_from v ≢ Draw) × (k + 1 ≡ n)
 same_far Lose k n d e = (λ f. absurd (cc), ap (λ s. s.remoteness) e)

@@ -1,77 +1,41 @@
 -- From every position that goes on, a move leads to a wanted value.
-use Rattle.gm_play.proofs.Lower.{◌≡◌, ◌≢◌, ℕ, zero, suc, ◌<◌, inl, inr, true, false, is_some, List, [], ◌∷◌, Option, None, Some, length, take, get_or, refl}
+use Rattle.gm_play.proofs.Lower.{◌≡◌, ◌≢◌, ℕ, zero, suc, ◌<◌, inl, inr, true, false, is_some, List, [], ◌∷◌, Option, None, Some, length, take, get_or}
 use Rattle.gm_play.proofs.Lower.{sym, subst, ◌∙◌, arith, IsSome, IfSome, Contains, option_map, Position, Value, Lose, Draw, Tie, Win, Solved, Rules, IsChild}
-use Rattle.gm_play.proofs.Lower.{IsAscending, IsGame, loses, wins, ties, HasValue, IsTrueValue, contains_first, map_from, map_in, loses_zero, wins_zero}
-use Rattle.gm_play.proofs.Lower.{loses_suc, wins_suc, ties_suc, never_both, no_win_of_tie, no_loss_of_tie, TableData, IsHeld, AreHeld, AreTables, value_in}
+use Rattle.gm_play.proofs.Lower.{IsAscending, IsGame, HasValue, IsTrueValue, solved, map_in, TableData, IsHeld, AreHeld, AreTables, value_in}
 use Rattle.gm_play.proofs.Lower.{value_known, value_true, Choice, wanted_from, IsChoice, IsBestMove}
 use Rattle.std.proofs.Common.{length-take}
 use Rattle.std.proofs.lemmas.List.{get_or-take}
 use Rattle.std.proofs.lemmas.Grind.{get_or_default_zero}
+use Rattle.gm_game.specs.Rules.{IsCanonicalChild}
+use Rattle.gm_game.specs.Settling.{IsSettled}
+use Rattle.gm_game.proofs.Frontier.{value_iff_settled}
 use Rattle.gm_game.proofs.Player.{draw_child}
-
--- a position that has a value and loses, wins or ties has that value
-lost_value : (r : Rules) (d : Position) (n : ℕ) → loses r n d ≡ true → (v : Value) (k : ℕ) → HasValue r d v k → (l : ℕ) × HasValue r d Lose l
-lost_value r d n h Lose k v = (k, v)
-lost_value r d n h Draw k v = (let f = v.1 n in absurd (cc))
-lost_value r d n h Tie k v = absurd (no_loss_of_tie r k d v.0 n h)
-lost_value r d n h Win k v = absurd (never_both r n k d h v.0)
-
-won_value : (r : Rules) (d : Position) (n : ℕ) → wins r n d ≡ true → (v : Value) (k : ℕ) → HasValue r d v k → (l : ℕ) × HasValue r d Win l
-won_value r d n h Lose k v = absurd (never_both r k n d v.0 h)
-won_value r d n h Draw k v = (let f = v.2 n in absurd (cc))
-won_value r d n h Tie k v = absurd (no_win_of_tie r k d v.0 n h)
-won_value r d n h Win k v = (k, v)
-
-tied_value : (r : Rules) (d : Position) (n : ℕ) → ties r n d → (v : Value) (k : ℕ) → HasValue r d v k → (l : ℕ) × HasValue r d Tie l
-tied_value r d n h Lose k v = absurd (no_loss_of_tie r n d h k v.0)
-tied_value r d n h Draw k v = absurd (v.3 n h)
-tied_value r d n h Tie k v = (k, v)
-tied_value r d n h Win k v = absurd (no_win_of_tie r n d h k v.0)
-
-first_of_some : (ms : List ℕ) → ms ≢ [] → (m : ℕ) × Contains ms m
-first_of_some [] h = absurd (h refl)
-first_of_some (m ∷ ms) h = (m, contains_first m ms)
+use Rattle.gm_game.proofs.Symmetry.{child_legal, child_of_canonical, IsTrueValue-canonical}
 
 module _ (r : Rules) (g : IsGame r) (p : Position) (legal : r.is_legal p ≡ true) (open_ : r.primitive p ≡ None)
     (known : (d : Position) → IsChild r p d → (s : Solved) × IsTrueValue r d s) where
   abbrev Leads : Value → Type 0
   Leads v = (m : ℕ) × (k : ℕ) × Contains (r.moves p) m × HasValue r (r.play p m) (wanted_from v) k
 
-  by_child : (v : Value) (d : Position) (k : ℕ) → IsChild r p d → HasValue r d (wanted_from v) k → Leads v
-  by_child v d k is h = let (m, has, e) = map_in (r.play p) (r.moves p) d is in (m, k, has, subst (λ (q : Position). HasValue r q (wanted_from v) k) (sym e) h)
+  by_child : (v : Value) (k : ℕ) → (d : Position) × IsChild r p d × HasValue r d (wanted_from v) k → Leads v
+  by_child v k (d, is, h) =
+      let (m, has, e) = map_in (r.play p) (r.moves p) d is in
+      (m, k, has, subst (λ (q : Position). HasValue r q (wanted_from v) k) (sym e) h)
 
-  leads_win : (n : ℕ) → wins r n p ≡ true → Leads Win
-  leads_win zero h = (let e = wins_zero r p h in absurd (cc))
-  leads_win (suc n) h = elim (wins_suc r n p h) [
-    | inl e ↦ absurd (cc)
-    | inr t ↦ (let (d, is, l) = t.1 in let (s, v) = known d is in let (k, w) = lost_value r d n l s.value s.remoteness v in by_child Win d k is w)
-  ]
+  by_canonical : (v : Value) (k : ℕ) → (c : Position) × IsCanonicalChild r p c × HasValue r c (wanted_from v) k → Leads v
+  by_canonical v k (c, is, h) =
+      let (d, child, e) = child_of_canonical r g p c is in
+      let same = IsTrueValue-canonical r g d (solved (wanted_from v) k) (child_legal r g p d legal child) in
+      by_child v k (d, child, same.1 (subst (λ (q : Position). HasValue r q (wanted_from v) k) (sym e) h))
 
-  leads_lose : (n : ℕ) → loses r n p ≡ true → Leads Lose
-  leads_lose zero h = (let e = loses_zero r p h in absurd (cc))
-  leads_lose (suc n) h = elim (loses_suc r n p h) [
-    | inl e ↦ absurd (cc)
-    | inr t ↦ (
-        let (m, has) = first_of_some (r.moves p) (g.unended p legal open_) in
-        let is : IsChild r p (r.play p m) = map_from (r.play p) (r.moves p) m has in
-        let (s, v) = known (r.play p m) is in
-        let (k, w) = won_value r (r.play p m) n (t.1 (r.play p m) is) s.value s.remoteness v in
-        (m, k, has, w)
-        )
-  ]
-
-  leads_tie : (n : ℕ) → ties r n p → Leads Tie
-  leads_tie zero h = absurd (cc)
-  leads_tie (suc n) h = elim (ties_suc r n p h) [
-    | inl e ↦ absurd (cc)
-    | inr t ↦ (let (d, is, l) = t.2 in let (s, v) = known d is in let (k, w) = tied_value r d n l s.value s.remoteness v in by_child Tie d k is w)
-  ]
+  settled_so : (v : Value) (n : ℕ) → v ≢ Draw → HasValue r p v n → IsSettled r p (IsCanonicalChild r p) v n
+  settled_so v n drawless h = (value_iff_settled r g p v n legal open_ drawless).0 h
 
   pub leads : (v : Value) (n : ℕ) → HasValue r p v n → Leads v
-  leads Lose n h = leads_lose n h.0
-  leads Draw n h = (let (d, is, w) = draw_child r p (subst (HasValue r p Draw) h.0 h) known in by_child Draw d 0 is w)
-  leads Tie n h = leads_tie n h.0
-  leads Win n h = leads_win n h.0
+  leads Lose n h = let (k, e, all, wins) = settled_so Lose n (λ d. absurd (cc)) h in by_canonical Lose k wins.longest
+  leads Draw n h = by_child Draw 0 (draw_child r p (subst (HasValue r p Draw) h.0 h) known)
+  leads Tie n h = let (k, e, none, least) = settled_so Tie n (λ d. absurd (cc)) h in by_canonical Tie k least.one
+  leads Win n h = let (k, e, least) = settled_so Win n (λ d. absurd (cc)) h in by_canonical Win k least.one
 
   -- so the choice among all moves is the best move
   pub best_is : (v : Value) (n : ℕ) → HasValue r p v n → (o : Option Choice) → IsChoice r p v (r.moves p) o → IsBestMove r p (option_map (λ c. c.number) o)

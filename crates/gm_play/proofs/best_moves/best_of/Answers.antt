@@ -1,4 +1,4 @@
-use Rattle.gm_play.proofs.Lower.{◌≡◌, None, false, IfSome, Option, is_some, sym, subst, ◌∙◌, End, Solved, IsTrueValue, IsBestMove}
+use Rattle.gm_play.proofs.Lower.{◌≡◌, None, IfSome, Option, sym, subst, Solved, IsTrueValue, IsBestMove}
 use Rattle.gm_play.proofs.Wanted.{best_is, children_known, none_if}
 use Rattle.gm_play.proofs.best_moves.best_of.Goals as goal
 

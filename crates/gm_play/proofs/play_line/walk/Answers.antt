@@ -1,4 +1,4 @@
-use Rattle.gm_play.proofs.Lower.{◌≡◌, ◌≢◌, ◌+◌, ℕ, List, ◌∷◌, drop, get_or, true, false, Option, None, Some, is_some, refl, sym, subst, arith, End, IsLine}
+use Rattle.gm_play.proofs.Lower.{◌≡◌, ◌≢◌, ◌+◌, ℕ, List, ◌∷◌, drop, get_or, true, Option, None, Some, is_some, refl, sym, subst, arith, End, IsLine}
 use Rattle.gm_play.proofs.Lower.{IsPlayed, IsReplied, PlayLine}
 use Rattle.std.proofs.Common.{MatchOption}
 use Rattle.gm_play.proofs.Playing.{reply_is_next, no_reply_is_left, step_on, step_stuck, step_end, step_last, answered_on, held_answered, held_replied}
