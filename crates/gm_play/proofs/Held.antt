@@ -1,6 +1,5 @@
 -- Held tiers.
-use Rattle.gm_play.proofs.Lower.{ℕ, zero, suc, inl, inr, List, refl, sym, subst, Contains, Rules, TableData, IsHeld, AreHeld, IsBelow, AreAllHeld}
-use Rattle.gm_game.specs.Rules.{IsTierOrChild}
+use Rattle.gm_play.proofs.Lower.{ℕ, zero, suc, List, refl, subst, Contains, Rules, TableData, IsHeld, AreHeld, IsBelow, AreAllHeld}
 
 module _ (r : Rules) (entries : List TableData) where
   pub held_own : (tier : ℕ) → AreAllHeld r entries tier → IsHeld entries tier
@@ -8,10 +7,6 @@ module _ (r : Rules) (entries : List TableData) where
 
   pub held_children : (tier : ℕ) → AreAllHeld r entries tier → AreHeld r entries tier
   held_children tier h child has = h 1 child (child, has, refl)
-
-  pub held_after : (tier t : ℕ) → AreAllHeld r entries tier → IsTierOrChild r tier t → AreAllHeld r entries t
-  held_after tier t h (inl e) = subst (AreAllHeld r entries) (sym e) h
-  held_after tier t h (inr c) = λ n u b. h (suc n) u (t, c, b)
 
   -- where these tiers are held, and the child tiers of each are among them, all below one of them is held
   module _ (these : ℕ → Type 0) (closed : (tier child : ℕ) → these tier → Contains (r.child_tiers tier) child → these child)

@@ -1,13 +1,11 @@
 //! Lines of play: the computer's best moves against any replies.
 ghost use Rattle.std.specs.Prelude.{◌≡◌, ◌≢◌, ◌+◌, ◌^◌, ◌<◌, ℕ, List, true, None, IfSome, MatchOption};
-ghost use Rattle.gm_play.specs.Lower.{Contains, IsHeld, AreHeld};
-ghost use Rattle.std.specs.Prelude.{IfNone};
-ghost use Rattle.gm_play.specs.BestMoves.{IsBestMove};
+ghost use Rattle.gm_play.specs.Lower.{Contains};
 ghost use Rattle.gm_play.specs.Sides.{IsWonIn, IsEven, HasLost};
-ghost use Rattle.gm_play.specs.Reached.{AreAllHeld};
+ghost use Rattle.gm_play.specs.Reached.{AreAllHeld, IsReached};
 ghost use Rattle.gm_play.specs.Lines.{IsLine, LeadsTo, IsPlayed, WinsWithin, one_more, IsAnswered, IsReplied};
 
-use crate::best_moves::best_move;
+use crate::known::Known;
 use crate::sides::Side;
 use gm_game::game::Game;
 use gm_game::position::Position;
@@ -42,60 +40,46 @@ pub fn play_line<G: Game>(
     ensures won { (n : ℕ) → IsWonIn G.rules start first n → IfSome result (WinsWithin G.rules n) }
     ensures even { IsEven G.rules start → IfSome result (λ end. HasLost G.rules end.position end.side → ⊥) }
 {
-    walk(tables, start, first, replies)
+    let start = Known {
+        tables,
+        position: start,
+    };
+    walk(&start, first, replies)
 }
 
 // Plays the line move by move.
-fn walk<G: Game>(
-    tables: &Tables<G>,
-    start: Position,
-    first: Side,
-    replies: &[u32],
-) -> Option<PlayLine>
-    requires legal { G.rules.is_legal start ≡ true }
-    requires held { AreAllHeld G.rules tables.now start.tier }
-    ensures { MatchOption result ((moves : List ℕ) → IsLine G.rules start first replies.now moves → ⊥)
-        (IsPlayed G.rules start first replies.now) }
+fn walk<G: Game>(start: &Known<'_, G>, first: Side, replies: &[u32]) -> Option<PlayLine>
+    ensures { MatchOption result ((moves : List ℕ) → IsLine G.rules start.now.position first replies.now moves → ⊥)
+        (IsPlayed G.rules start.now.position first replies.now) }
 {
     let mut line = PlayLine {
-        position: start,
+        position: start.position,
         side: first,
         moves: 0,
     };
     for reply in replies {
-        line = answered(tables, line);
+        line = answered(start, line);
         if G::primitive(line.position).is_some() {
             return Some(line);
         }
         line = replied::<G>(line, *reply)?;
     }
-    Some(answered(tables, line))
+    Some(answered(start, line))
 }
 
 // Returns the line with the computer's move if it is the computer's turn and the game goes on, and otherwise unchanged.
-fn answered<G: Game>(tables: &Tables<G>, line: PlayLine) -> PlayLine
-    requires legal { G.rules.is_legal line.position ≡ true }
-    requires held { AreAllHeld G.rules tables.now line.position.tier }
+fn answered<G: Game>(start: &Known<'_, G>, line: PlayLine) -> PlayLine
+    requires reached { IsReached G.rules start.now.position.tier line.position }
     requires few { line.moves + 1 < 2 ^ 64 }
     ensures { IsAnswered G.rules line.side line result }
 {
     match line.side {
         Side::You => line,
-        Side::Computer => match known_best(tables, line.position) {
+        Side::Computer => match start.at(line.position).best_move() {
             Some(number) => played::<G>(line, number),
             None => line,
         },
     }
-}
-
-// Returns the best move. The tables of the tier and of its child tiers must be held.
-fn known_best<G: Game>(tables: &Tables<G>, p: Position) -> Option<u32>
-    requires legal { G.rules.is_legal p ≡ true }
-    requires own { IsHeld tables.now p.tier }
-    requires children { AreHeld G.rules tables.now p.tier }
-    ensures { IsBestMove G.rules p result }
-{
-    best_move(tables, p).unwrap()
 }
 
 // Returns the line with a reply, if it is a move.
