@@ -21,17 +21,7 @@ part_longer a b xs ys (done, rest, e, h) = (done, rest ++ ys, ap (λ l. l ++ ys)
 pub part_after : (a b c : Option (List ℕ)) (xs ys : List ℕ) → Appends a b xs → AppendsPart b c ys → AppendsPart a c (xs ++ ys)
 part_after a b c xs ys h (done, rest, e, k) = (xs ++ done, rest, ap (λ l. xs ++ l) e ∙ sym (append_assoc xs done rest), Appends-trans a b c xs done h k)
 
-pub part_is : (a b : Option (List ℕ)) (xs ys : List ℕ) → xs ≡ ys → AppendsPart a b xs → AppendsPart a b ys
-part_is a b xs ys e h = subst (λ (l : List ℕ). AppendsPart a b l) e h
-
-pub text_is : (a b : Option (List ℕ)) (xs ys : List ℕ) → xs ≡ ys → Appends a b xs → Appends a b ys
-text_is a b xs ys e h = subst (λ (l : List ℕ). Appends a b l) e h
-
 -- an error that is passed on broke what it broke
 pub passed : {T E : Type 0} → (r : Result T E) (Q : E → Type 0) (e : E) → IsErrAnd r (λ y. y ≡ e) → Q e → IfErr r Q
 passed (Ok x) Q e h q = tt
 passed (Err y) Q e h q = subst Q (sym h) q
-
-pub err_map : {T E : Type 0} → (r : Result T E) (P Q : E → Type 0) → ((e : E) → P e → Q e) → IfErr r P → IfErr r Q
-err_map (Ok x) P Q f h = tt
-err_map (Err e) P Q f h = f e h

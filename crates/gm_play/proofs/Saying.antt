@@ -3,10 +3,6 @@ use Rattle.gm_play.proofs.Lower.{◌≡◌, ◌≤◌, ℕ, true, List, ◌++◌
 use Rattle.gm_play.proofs.Lower.{Rules, IsTrueValue, Side, You, Computer, IsGame, Speaks, Advice, IsKnown, before, place, asks_or_ends, persons_turn}
 use Rattle.gm_play.proofs.Lower.{moves_or_ends, computers_turn, IsBestMove, Question}
 use Rattle.gm_play.specs.Endings.{over_line}
-use Rattle.std.specs.Result.{is_ok}
-use Rattle.std.specs.Prelude.{Result, Ok, Err}
-use Rattle.gm_play.specs.declared.answers.AnswerError.{AnswerError}
-use Rattle.gm_play.specs.declared.answers.AnswerError.TheVariants.{Illegal, NotHeld}
 use Rattle.gm_game.proofs.Checker.{IsTrueValue_once}
 use Rattle.gm_play.proofs.Keeping.{best_once}
 use Rattle.gm_play.proofs.Reaching.{own_reached, reached_by}
@@ -64,9 +60,3 @@ module _ (r : Rules) (shown : Position → List ℕ) (move_shown : Position → 
         t.1 ∙ ap (λ (x : Position). (next x).asked) e,
         t.2,
       ))
-
--- a result that can be neither refusal is a value
-pub ok_unless : (r : Result (Option ℕ) AnswerError) → (r ≡ Err Illegal → ⊥) → (r ≡ Err NotHeld → ⊥) → is_ok r ≡ true
-ok_unless (Ok x) a b = refl
-ok_unless (Err Illegal) a b = absurd (a refl)
-ok_unless (Err NotHeld) a b = absurd (b refl)

@@ -9,7 +9,7 @@ use Rattle.gm_play.specs.Sessions.{IsRead, IsSession, IsUnread, IsUnwritten, IsT
 use Rattle.gm_play.specs.declared.session_error.SessionError.{SessionError}
 use Rattle.gm_play.specs.declared.session_error.SessionError.TheVariants.{ReadFailed, WriteFailed, TooMuchInput, OutputClosed}
 use Rattle.gm_play.proofs.Kept.{heard, closed}
-use Rattle.gm_play.proofs.Parts.{part_after, part_longer, part_is, text_is}
+use Rattle.gm_play.proofs.Parts.{part_after, part_longer}
 
 module _ (r : Rules) (shown : Position → List ℕ) (move_shown : Position → ℕ → List ℕ) (k : Advice) (seen : Question → Position → List ℕ) where
   abbrev Talk : (Position → List ℕ → List ℕ) → Position → List ℕ → List ℕ → List ℕ
@@ -146,8 +146,7 @@ module _ {r : Rules} {shown : Position → List ℕ} {move_shown : Position → 
         record {
           bytes = g.bytes;
           is_read = g.is_read;
-          writes = text_is w0 w2 (g.written ++ text) (spoken r shown move_shown k seen f start first g.bytes) said_all
-              (Appends-trans w0 w1 w2 g.written text g.writes a);
+          writes = subst (Appends w0 w2) said_all (Appends-trans w0 w1 w2 g.written text g.writes a);
           end = inl (λ more. (
               let none = ap (count_after (λ q. count r shown move_shown k seen q [] more)) o in
               let h = g.uses more in
@@ -161,7 +160,7 @@ module _ {r : Rules} {shown : Position → List ℕ} {move_shown : Position → 
         broken_output r shown move_shown k seen start first e r0 r1 w0 w2 of record {
           bytes = g.bytes;
           is_read = g.is_read;
-          writes = part_is w0 w2 (g.written ++ (text ++ rest)) (spoken r shown move_shown k seen f start first g.bytes)
+          writes = subst (AppendsPart w0 w2)
               (ap (λ (t : List ℕ). g.written ++ (t ++ rest)) is.0 ∙ sym (g.talks f []) ∙ ap (spoken r shown move_shown k seen f start first) (append-nil g.bytes))
               (part_after w0 w1 w2 g.written (text ++ rest) g.writes (part_longer w1 w2 text rest a));
         }
@@ -237,7 +236,7 @@ module _ {r : Rules} {shown : Position → List ℕ} {move_shown : Position → 
     read_fails r2 h few = record {
       bytes = g.bytes;
       is_read = read_so_far r2 h few;
-      writes = text_is w0 w1 g.written (Whole waiting g.bytes) (sym (append-nil g.written) ∙ spoken_here waiting) g.writes;
+      writes = subst (Appends w0 w1) (sym (append-nil g.written) ∙ spoken_here waiting) g.writes;
     }
 
     -- one byte too many
@@ -249,7 +248,7 @@ module _ {r : Rules} {shown : Position → List ℕ} {move_shown : Position → 
       reads = Consumes-trans r0 r1 r2 g.bytes (b ∷ []) g.reads c;
       many = g.len ∙ many;
       all_used = g.uses (b ∷ []) ∙ (let h = count_one r shown move_shown k seen p g.line b (b == 10) refl in omega (arith, h, g.len, many));
-      writes = text_is w0 w1 g.written (Whole waiting g.bytes) (sym (append-nil g.written) ∙ spoken_here waiting) g.writes;
+      writes = subst (Appends w0 w1) (sym (append-nil g.written) ∙ spoken_here waiting) g.writes;
     }
 
     -- what is answered to the kept part of a line is the answer to the line
@@ -272,8 +271,7 @@ module _ {r : Rules} {shown : Position → List ℕ} {move_shown : Position → 
         input_ends d a = record {
           bytes = g.bytes;
           is_read = read_so_far r2 keeps few;
-          writes = text_is w0 w2 (g.written ++ text) (Whole (closing r shown move_shown k seen) g.bytes) (closes line text e h)
-              (Appends-trans w0 w1 w2 g.written text g.writes a);
+          writes = subst (Appends w0 w2) (closes line text e h) (Appends-trans w0 w1 w2 g.written text g.writes a);
           end = inr d;
         }
 
@@ -281,6 +279,5 @@ module _ {r : Rules} {shown : Position → List ℕ} {move_shown : Position → 
         close_fails x (of, a) = broken_output r shown move_shown k seen start first x r0 r2 w0 w2 of record {
           bytes = g.bytes;
           is_read = read_so_far r2 keeps few;
-          writes = part_is w0 w2 (g.written ++ text) (Whole (closing r shown move_shown k seen) g.bytes) (closes line text e h)
-              (part_after w0 w1 w2 g.written text g.writes a);
+          writes = subst (AppendsPart w0 w2) (closes line text e h) (part_after w0 w1 w2 g.written text g.writes a);
         }

@@ -1,5 +1,5 @@
 //! The texts of answers: values, moves and lines of play.
-ghost use Rattle.std.specs.Prelude.{◌≡◌, ◌++◌, [], true, IfOk, OnOk};
+ghost use Rattle.std.specs.Prelude.{◌≡◌, ◌++◌, [], IfOk, OnOk};
 ghost use Rattle.gm_play.specs.Lower.{All, flat_map, text_of};
 ghost use Rattle.gm_play.specs.BestLines.{AreBest};
 ghost use Rattle.gm_play.specs.PlayTexts.{row, value_word, end_row, after_best, IsMoveOf, move_row, AreMoveRows, rows_from, IsLineText};
@@ -9,7 +9,7 @@ use crate::best_moves::wanted;
 use crate::firsts::moves_of;
 use crate::known::Known;
 use crate::move_values::MoveValue;
-use gm_game::position::{Position, Solved, Value};
+use gm_game::position::{Solved, Value};
 use gm_game::shown::{Line, Shown};
 use gm_game::text::{push_decimal, value_text};
 use std::alloc::{AllocError, Global};
@@ -24,35 +24,36 @@ pub fn moves_text<G: Shown>(
     ensures { IfOk result (λ v. AreMoveRows G.Game.rules G.shown G.move_shown distinct (G.shown known.now.position) v.items) }
 {
     let list = moves_of(known, distinct);
-    move_rows::<G>(alloc, known.position, list.as_slice())
+    move_rows(alloc, known, list.as_slice())
 }
 
-// Returns the rows of some moves of a legal position.
+// Returns the rows of some moves of a position.
 fn move_rows<G: Shown>(
     alloc: Global,
-    p: Position,
+    known: &Known<'_, G>,
     list: &[MoveValue],
 ) -> Result<Vec<u8>, AllocError>
-    requires legal { G.Game.rules.is_legal p ≡ true }
-    requires each { All (IsMoveOf G.Game.rules p) list.now }
-    ensures { IfOk result (λ v. v.items ≡ flat_map (move_row G.Game.rules G.shown G.move_shown p) list.now) }
+    requires { All (IsMoveOf G.Game.rules known.now.position) list.now }
+    ensures { IfOk result (λ v. v.items ≡ flat_map (move_row G.Game.rules G.shown G.move_shown known.now.position) list.now) }
 {
     let mut rows = Vec::new(alloc);
     for x in list {
-        push_move::<G>(&mut rows, p, x)?;
+        push_move(&mut rows, known, *x)?;
     }
     Ok(rows)
 }
 
-fn push_move<G: Shown>(rows: &mut Vec<u8>, p: Position, x: &MoveValue) -> Result<(), AllocError>
-    requires legal { G.Game.rules.is_legal p ≡ true }
-    requires each { IsMoveOf G.Game.rules p x.now }
-    ensures { OnOk result (rows.new.items ≡ rows.old.items ++ move_row G.Game.rules G.shown G.move_shown p x.now) }
+fn push_move<G: Shown>(
+    rows: &mut Vec<u8>,
+    known: &Known<'_, G>,
+    x: MoveValue,
+) -> Result<(), AllocError>
+    requires { IsMoveOf G.Game.rules known.now.position x }
+    ensures { OnOk result (rows.new.items ≡ rows.old.items ++ move_row G.Game.rules G.shown G.move_shown known.now.position x) }
 {
-    let x = *x;
     push_row(
         rows,
-        G::move_text(p, x.number).as_slice(),
+        G::move_text(known.position, x.number).as_slice(),
         value_text(x.worth).as_slice(),
         G::show(x.position).as_slice(),
     )
@@ -99,7 +100,7 @@ pub fn line_text<G: Shown>(
 {
     let line = best_line(alloc, start, limit)?;
     let mut rows = Vec::new(alloc);
-    let pushed = push_line::<G>(&mut rows, start.position, start.value(), &line);
+    let pushed = push_line(&mut rows, start, start.value(), &line);
     drop(line);
     match pushed {
         Ok(()) => Ok(rows),
@@ -110,20 +111,19 @@ pub fn line_text<G: Shown>(
     }
 }
 
-// Appends the rows of a line of best play from a legal position of this value.
+// Appends the rows of a line of best play from a position of this value.
 fn push_line<G: Shown>(
     rows: &mut Vec<u8>,
-    start: Position,
+    start: &Known<'_, G>,
     value: Solved,
     line: &BestLine,
 ) -> Result<(), AllocError>
-    requires legal { G.Game.rules.is_legal start ≡ true }
-    requires best { AreBest G.Game.rules start line.now.moves.items }
-    ensures { OnOk result (rows.new.items ≡ rows.old.items ++ row [] (G.shown start) (text_of value)
-        ++ rows_from G.Game.rules G.shown G.move_shown start value line.now.moves.items ++ end_row line.now.end) }
+    requires { AreBest G.Game.rules start.now.position line.now.moves.items }
+    ensures { OnOk result (rows.new.items ≡ rows.old.items ++ row [] (G.shown start.now.position) (text_of value)
+        ++ rows_from G.Game.rules G.shown G.move_shown start.now.position value line.now.moves.items ++ end_row line.now.end) }
 {
-    push_place::<G>(rows, b"", start, value)?;
-    push_steps::<G>(rows, start, value, line.moves.as_slice())?;
+    push_place(rows, b"", start, value)?;
+    push_steps(rows, start, value, line.moves.as_slice())?;
     push_end(rows, line.end)
 }
 
@@ -140,21 +140,20 @@ pub fn value_after(value: Solved) -> Solved
 // Appends the rows of best moves from a position of this value.
 fn push_steps<G: Shown>(
     rows: &mut Vec<u8>,
-    start: Position,
+    start: &Known<'_, G>,
     value: Solved,
     moves: &[u32],
 ) -> Result<(), AllocError>
-    requires legal { G.Game.rules.is_legal start ≡ true }
-    requires best { AreBest G.Game.rules start moves.now }
-    ensures { OnOk result (rows.new.items ≡ rows.old.items ++ rows_from G.Game.rules G.shown G.move_shown start value moves.now) }
+    requires { AreBest G.Game.rules start.now.position moves.now }
+    ensures { OnOk result (rows.new.items ≡ rows.old.items ++ rows_from G.Game.rules G.shown G.move_shown start.now.position value moves.now) }
 {
-    let mut p = start;
+    let mut here = *start;
     let mut value = value;
     for number in moves {
-        let text = G::move_text(p, *number);
-        p = G::play(p, *number);
+        let text = G::move_text(here.position, *number);
+        here = here.play(*number);
         value = value_after(value);
-        push_place::<G>(rows, text.as_slice(), p, value)?;
+        push_place(rows, text.as_slice(), &here, value)?;
     }
     Ok(())
 }
@@ -163,16 +162,15 @@ fn push_steps<G: Shown>(
 fn push_place<G: Shown>(
     rows: &mut Vec<u8>,
     text: &[u8],
-    p: Position,
+    known: &Known<'_, G>,
     value: Solved,
 ) -> Result<(), AllocError>
-    requires { G.Game.rules.is_legal p ≡ true }
-    ensures { OnOk result (rows.new.items ≡ rows.old.items ++ row text.now (G.shown p) (text_of value)) }
+    ensures { OnOk result (rows.new.items ≡ rows.old.items ++ row text.now (G.shown known.now.position) (text_of value)) }
 {
     push_row(
         rows,
         text,
-        G::show(p).as_slice(),
+        G::show(known.position).as_slice(),
         value_text(value).as_slice(),
     )
 }

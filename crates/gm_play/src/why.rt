@@ -52,7 +52,7 @@ fn rows_for<G: Shown>(
     let mut rows = Vec::new(alloc);
     for x in list {
         let exchange = exchange_after(known, *x);
-        push_exchange::<G>(&mut rows, known.position, exchange)?;
+        push_exchange(&mut rows, known, exchange)?;
     }
     Ok(rows)
 }
@@ -81,15 +81,18 @@ fn exchange_after<G: Game>(known: &Known<'_, G>, x: MoveValue) -> Exchange
     }
 }
 
-fn push_exchange<G: Shown>(rows: &mut Vec<u8>, p: Position, x: Exchange) -> Result<(), AllocError>
-    requires legal { G.Game.rules.is_legal p ≡ true }
-    requires each { IsMoveOf G.Game.rules p x.made }
+fn push_exchange<G: Shown>(
+    rows: &mut Vec<u8>,
+    known: &Known<'_, G>,
+    x: Exchange,
+) -> Result<(), AllocError>
+    requires each { IsMoveOf G.Game.rules known.now.position x.made }
     requires exchange { IsExchange G.Game.rules x }
-    ensures { OnOk result (rows.new.items ≡ rows.old.items ++ exchange_row G.Game.rules G.shown G.move_shown p x) }
+    ensures { OnOk result (rows.new.items ≡ rows.old.items ++ exchange_row G.Game.rules G.shown G.move_shown known.now.position x) }
 {
     push_five(
         rows,
-        G::move_text(p, x.made.number).as_slice(),
+        G::move_text(known.position, x.made.number).as_slice(),
         value_text(x.made.worth).as_slice(),
         answer_line::<G>(x.made.position, x.answer).as_slice(),
         G::show(x.left).as_slice(),

@@ -1,10 +1,10 @@
 use Rattle.gm_play.proofs.Lower.{◌≡◌, ◌∙◌, ◌+◌, ◌≤◌, ◌<◌, ◌++◌, ◌∷◌, [], length, ℕ, Some, None, subst, arith, SESSION_BYTES, KEPT, Advice}
 use Rattle.std.proofs.Common.{eq-eqb}
 use Rattle.std.proofs.lemmas.Bool.{ne_eqb}
-use Rattle.std.proofs.lemmas.Result.{on_ok_weaker}
+use Rattle.std.proofs.lemmas.Result.{on_ok_weaker, IfErr-weaker}
 use Rattle.gm_play.specs.Sessions.{ReadsByte}
 use Rattle.gm_play.proofs.Kept.{kept_push, kept_full}
-use Rattle.gm_play.proofs.Parts.{passed, err_map}
+use Rattle.gm_play.proofs.Parts.{passed}
 use Rattle.gm_play.proofs.Talk.{starts, asks_next, ends, fails, goes_on, answers, read_fails, too_long, hears, input_ends, close_fails}
 use Rattle.gm_play.proofs.session.converse.Goals as goal
 use Rattle.gm_play.proofs.session.converse.Goals.{then-byte-eq10+in_ok-say-2+in-Some-asked, else-byte-eq10+then-not-is_full, else-byte-eq10+else-not-is_full}
@@ -50,7 +50,7 @@ returns-in-Ok-None-clause-err g c k known =
     let talk = c.loop-count.invariant.talk k known in
     let reads : ReadsByte (g.R.Read.remaining c.loop-count.input) (g.R.Read.remaining c.read_byte.new.input) None =
     subst (ReadsByte _ _) c.in-Ok-None.field-0-is c.in-Ok-None.ensures.ok in
-    err_map c.say-in-Ok-None.result _ _
+    IfErr-weaker c.say-in-Ok-None.result _ _
     (λ e cut. close_fails talk g.met.G.Shown.readable c.loop-count.asked.legal _ _ c.deref.ensures.0
     (c.as_slice-in-Ok-None.ensures.value ∙ c.close.ensures k talk.known) _ _ c.loop-count.invariant.few reads.0 e cut)
     c.say-in-Ok-None.ensures.err

@@ -3,11 +3,8 @@ use Rattle.gm_play.specs.PlayTexts.{end_row}
 use Rattle.gm_play.proofs.Rows.{rows_true}
 use Rattle.gm_play.proofs.texts.line_text.Goals as goal
 
-pub push_line-pushed-requires-clause-legal : goal.push_line-pushed-requires-clause-legal
-push_line-pushed-requires-clause-legal g c = c.args.start.now.legal
-
-pub push_line-pushed-requires-clause-best : goal.push_line-pushed-requires-clause-best
-push_line-pushed-requires-clause-best g c = c.in_ok-line.ensures.line.best
+pub push_line-pushed-requires : goal.push_line-pushed-requires
+push_line-pushed-requires g c = c.in_ok-line.ensures.line.best
 
 pub returns-in-Ok : goal.returns-in-Ok
 returns-in-Ok g c =

@@ -2,8 +2,8 @@ use Rattle.gm_play.proofs.Lower.{refl, ap, sym, subst, ◌∙◌, All, flat_map,
 use Rattle.gm_play.specs.PlayTexts.{AreMoveRows}
 use Rattle.gm_play.proofs.texts.moves_text.Goals as goal
 
-pub move_rows-requires-clause-each : goal.move_rows-requires-clause-each
-move_rows-requires-clause-each g c = subst (All (IsMoveOf g.G.Game.rules c.args.known.now.position)) (sym c.as_slice.ensures.value) c.moves_of-list.ensures.each
+pub move_rows-requires : goal.move_rows-requires
+move_rows-requires g c = subst (All (IsMoveOf g.G.Game.rules c.args.known.now.position)) (sym c.as_slice.ensures.value) c.moves_of-list.ensures.each
 
 pub returns : goal.returns
 returns g c =

@@ -1,29 +1,17 @@
-use Rattle.gm_play.proofs.Lower.{◌≡◌, ◌+◌, ◌++◌, true, ℕ, List, drop, get_or, refl, sym, subst, ◌∙◌, drop_more, drop_all, Position, AreBest, rows_from}
+use Rattle.gm_play.proofs.Lower.{◌≡◌, ◌+◌, ◌++◌, ℕ, List, drop, get_or, refl, sym, subst, ◌∙◌, drop_more, drop_all, Position, AreBest, rows_from}
 use Rattle.gm_play.proofs.Rows.{best_step, row_named, rows_next, rows_all}
 use Rattle.gm_play.proofs.texts.push_steps.Goals as goal
 
 pub loop-number-init : goal.loop-number-init
-loop-number-init g c = record { legal = c.requires.legal; best = c.requires.best; rows = refl }
-
-pub move_text-text-requires-clause-legal : goal.move_text-text-requires-clause-legal
-move_text-text-requires-clause-legal g c = c.loop-number.invariant.legal
+loop-number-init g c = record { best = c.requires; rows = refl }
 
 pub move_text-text-requires-clause-listed : goal.move_text-text-requires-clause-listed
-move_text-text-requires-clause-listed g c = (best_step g.G.Game.rules c.loop-number.p c.args.moves.now c.loop-number.number-index c.loop-number-test.true
+move_text-text-requires-clause-listed g c = (best_step g.G.Game.rules c.loop-number.here.position c.args.moves.now c.loop-number.number-index
+    c.loop-number-test.true c.loop-number.invariant.best).0
+
+pub play-here-requires : goal.play-here-requires
+play-here-requires g c = (best_step g.G.Game.rules c.loop-number.here.position c.args.moves.now c.loop-number.number-index c.loop-number-test.true
     c.loop-number.invariant.best).0
-
-pub play-p-requires-clause-legal : goal.play-p-requires-clause-legal
-play-p-requires-clause-legal g c = c.loop-number.invariant.legal
-
-pub play-p-requires-clause-listed : goal.play-p-requires-clause-listed
-play-p-requires-clause-listed g c = (best_step g.G.Game.rules c.loop-number.p c.args.moves.now c.loop-number.number-index c.loop-number-test.true
-    c.loop-number.invariant.best).0
-
-pub push_place-requires : goal.push_place-requires
-push_place-requires g c =
-    let r = g.G.Game.rules in
-    let step = best_step r c.loop-number.p c.args.moves.now c.loop-number.number-index c.loop-number-test.true c.loop-number.invariant.best in
-    subst (λ (q : Position). r.is_legal q ≡ true) (sym c.play-p.ensures) (g.met.G.Game.lawful.play_legal c.loop-number.p _ c.loop-number.invariant.legal step.0)
 
 pub loop-number-preserved : goal.loop-number-preserved
 loop-number-preserved g c =
@@ -32,18 +20,16 @@ loop-number-preserved g c =
     let move_shown = g.G.Shown.move_shown in
     let ms = c.args.moves.now in
     let k = c.loop-number.number-index in
-    let p = c.loop-number.p in
-    let step = best_step r p ms k c.loop-number-test.true c.loop-number.invariant.best in
+    let p = c.loop-number.here.position in
     record {
-      legal = subst (λ (x : Position). r.is_legal x ≡ true) (sym c.play-p.ensures)
-          (g.met.G.Game.lawful.play_legal p (get_or ms k 0) c.loop-number.invariant.legal step.0);
-      best = subst (λ (x : Position). AreBest r x (drop (k + 1) ms)) (sym c.play-p.ensures) step.1;
-      rows = rows_next r shown move_shown p c.play-p.result c.loop-number.value c.value_after-value.result (get_or ms k 0) (drop (k + 1) ms)
-          c.loop-number.rows.items c.push_place.new.rows.items _ c.play-p.ensures
+      best = subst (λ (x : Position). AreBest r x (drop (k + 1) ms)) (sym c.play-here.ensures)
+          (best_step r p ms k c.loop-number-test.true c.loop-number.invariant.best).1;
+      rows = rows_next r shown move_shown p c.play-here.result.position c.loop-number.value c.value_after-value.result (get_or ms k 0) (drop (k + 1) ms)
+          c.loop-number.rows.items c.push_place.new.rows.items _ c.play-here.ensures
           c.value_after-value.ensures (row_named c.loop-number.rows.items _ _ _ _ _ c.in_ok-push_place.ensures
           (c.as_slice.ensures.value ∙ c.move_text-text.ensures))
           (subst (λ (xs : List ℕ). c.loop-number.rows.items ++ rows_from r shown move_shown p c.loop-number.value xs ≡ c.args.rows.now.items ++ rows_from r
-          shown move_shown c.args.start c.args.value ms)
+          shown move_shown c.args.start.now.position c.args.value ms)
           (drop_more ms k 0 c.loop-number-test.true) c.loop-number.invariant.rows);
     }
 
@@ -53,6 +39,6 @@ returns g c =
     let ms = c.args.moves.now in
     let l = c.loop-number in
     rows_all l.rows.items _
-    (subst (λ (xs : List ℕ). l.rows.items ++ rows_from r g.G.Shown.shown g.G.Shown.move_shown l.p l.value xs ≡ c.args.rows.now.items ++ rows_from r
-    g.G.Shown.shown g.G.Shown.move_shown c.args.start c.args.value ms)
+    (subst (λ (xs : List ℕ). l.rows.items ++ rows_from r g.G.Shown.shown g.G.Shown.move_shown l.here.position l.value xs ≡ c.args.rows.now.items ++ rows_from r
+    g.G.Shown.shown g.G.Shown.move_shown c.args.start.now.position c.args.value ms)
     (drop_all l.number-index ms c.loop-number-test.false) l.invariant.rows)

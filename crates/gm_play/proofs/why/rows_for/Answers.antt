@@ -13,7 +13,6 @@ exchange_after-exchange-requires g c = record {
 
 pub push_exchange-requires : goal.push_exchange-requires
 push_exchange-requires g c = record {
-  legal = c.args.known.now.legal;
   each = subst (λ (x : MoveValue). IsMoveOf g.G.Game.rules c.args.known.now.position x) (sym c.exchange_after-exchange.ensures.made)
       (c.requires.each c.loop-x.x-index _ c.loop-x-test.true);
   exchange = c.exchange_after-exchange.ensures.exchange;
