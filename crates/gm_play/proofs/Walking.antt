@@ -88,26 +88,25 @@ module _ (r : Rules) (start : Position) (limit : ℕ) (moves : List ℕ) (positi
     fresh = fresh_push positions (r.play p m) h.fresh new;
   }
 
-  -- the line with the moves so far
+  -- the line with these moves
+  is_line : (line : BestLine) (ms : List ℕ) (ps : List Position) → line.moves.items ≡ ms → line.positions.items ≡ ps → AreBest r start ms
+      → ps ≡ positions_along r start ms → length ms ≤ limit → EndsSo r start limit ms line.end → IsBestLine r start limit line
+  is_line line ms ps e d best along few end = record {
+    best = subst (AreBest r start) (sym e) best;
+    positions = d ∙ along ∙ ap (positions_along r start) (sym e);
+    few = subst (λ (xs : List ℕ). length xs ≤ limit) (sym e) few;
+    end = subst (λ (xs : List ℕ). EndsSo r start limit xs line.end) (sym e) end;
+  }
+
   pub line_over : (line : BestLine) → line.moves.items ≡ moves → line.positions.items ≡ positions → line.end ≡ Over → r.primitive p ≢ None → IsBestLine r
       start limit line
-  line_over line e d w over = record {
-    best = subst (AreBest r start) (sym e) h.best;
-    positions = d ∙ h.along ∙ ap (positions_along r start) (sym e);
-    few = subst (λ (ms : List ℕ). length ms ≤ limit) (sym e) h.few;
-    end = subst (EndsSo r start limit line.moves.items) (sym w) (subst (λ (ms : List ℕ). EndsSo r start limit ms Over) (sym e)
-        (λ none. over (ap r.primitive h.here ∙ none), subst AreFresh h.along h.fresh));
-  }
+  line_over line e d w over = is_line line moves positions e d h.best h.along h.few
+      (subst (EndsSo r start limit moves) (sym w) (λ none. over (ap r.primitive h.here ∙ none), subst AreFresh h.along h.fresh))
 
   pub line_cut : (line : BestLine) → line.moves.items ≡ moves → line.positions.items ≡ positions → line.end ≡ Cut → r.primitive p ≡ None → limit ≤ length
       moves → IsBestLine r start limit line
-  line_cut line e d w open_ all = record {
-    best = subst (AreBest r start) (sym e) h.best;
-    positions = d ∙ h.along ∙ ap (positions_along r start) (sym e);
-    few = subst (λ (ms : List ℕ). length ms ≤ limit) (sym e) h.few;
-    end = subst (EndsSo r start limit line.moves.items) (sym w) (subst (λ (ms : List ℕ). EndsSo r start limit ms Cut) (sym e)
-        (ap r.primitive (sym h.here) ∙ open_, (let few = h.few in omega arith), subst AreFresh h.along h.fresh));
-  }
+  line_cut line e d w open_ all = is_line line moves positions e d h.best h.along h.few
+      (subst (EndsSo r start limit moves) (sym w) (ap r.primitive (sym h.here) ∙ open_, (let few = h.few in omega arith), subst AreFresh h.along h.fresh))
 
   pub came_before : (m k : ℕ) → slice_get positions k ≡ Some (r.play p m) → EndsSo r start limit (moves ++ m ∷ []) (Again k)
   came_before m k there =
@@ -127,12 +126,8 @@ module _ (r : Rules) (start : Position) (limit : ℕ) (moves : List ℕ) (positi
 
   pub line_again : (line : BestLine) (m k : ℕ) → line.moves.items ≡ moves ++ m ∷ [] → line.positions.items ≡ positions ++ r.play p m ∷ [] → line.end ≡ Again
       k → IsBestMove r p (Some m) → length moves < limit → slice_get positions k ≡ Some (r.play p m) → IsBestLine r start limit line
-  line_again line m k e d w b low there = record {
-    best = subst (AreBest r start) (sym e) (best_next m b);
-    positions = d ∙ along_next m ∙ ap (positions_along r start) (sym e);
-    few = subst (λ (ms : List ℕ). length ms ≤ limit) (sym e) (few_next m low);
-    end = subst (EndsSo r start limit line.moves.items) (sym w) (subst (λ (ms : List ℕ). EndsSo r start limit ms (Again k)) (sym e) (came_before m k there));
-  }
+  line_again line m k e d w b low there = is_line line (moves ++ m ∷ []) (positions ++ r.play p m ∷ []) e d (best_next m b) (along_next m) (few_next m low)
+      (subst (EndsSo r start limit (moves ++ m ∷ [])) (sym w) (came_before m k there))
 
 -- along a line of best moves the remoteness falls by one a move
 abbrev Falls : Rules → Position → List ℕ → ℕ → Type 0

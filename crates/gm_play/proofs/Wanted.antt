@@ -1,11 +1,9 @@
 -- From every position that goes on, a move leads to a wanted value.
 use Rattle.gm_play.proofs.Lower.{◌≡◌, ◌≢◌, ℕ, zero, suc, ◌<◌, inl, inr, true, false, is_some, List, [], ◌∷◌, Option, None, Some, length, take, get_or}
-use Rattle.gm_play.proofs.Lower.{sym, subst, ◌∙◌, arith, IsSome, IfSome, Contains, option_map, Position, Value, Lose, Draw, Tie, Win, Solved, Rules, IsChild}
-use Rattle.gm_play.proofs.Lower.{IsAscending, IsGame, HasValue, IsTrueValue, solved, map_in, TableData, IsHeld, AreHeld, AreTables, value_in}
+use Rattle.gm_play.proofs.Lower.{sym, subst, arith, IsSome, IfSome, Contains, option_map, Position, Value, Lose, Draw, Tie, Win, Solved, Rules, IsChild}
+use Rattle.gm_play.proofs.Lower.{IsAscending, IsGame, HasValue, IsTrueValue, solved, contains_none, contains_cases, map_in, TableData, IsHeld, AreHeld, AreTables, value_in}
 use Rattle.gm_play.proofs.Lower.{value_known, value_true, Choice, wanted_from, IsChoice, IsBestMove}
-use Rattle.std.proofs.Common.{length-take}
-use Rattle.std.proofs.lemmas.List.{get_or-take}
-use Rattle.std.proofs.lemmas.Grind.{get_or_default_zero}
+use Rattle.std.proofs.lemmas.List.Elements.{Contains-get_or}
 use Rattle.gm_game.specs.Rules.{IsCanonicalChild}
 use Rattle.gm_game.specs.Settling.{IsSettled}
 use Rattle.gm_game.proofs.Frontier.{value_iff_settled}
@@ -67,29 +65,24 @@ children_known r g entries tables p legal own held d is =
     let k = some_true r q (value_in r entries q) there (value_true r g entries q tables) in
     subst (λ (x : Position). (s : Solved) × IsTrueValue r x s) e k
 
--- the numbers of an ascending list before one of them are smaller
-tail_up : (x : ℕ) (xs : List ℕ) → IsAscending (x ∷ xs) → IsAscending xs
-tail_up x [] up = tt
-tail_up x (y ∷ ys) up = up.1
+-- the numbers of an ascending list after its first one are greater, and those before one of them are smaller
+pub ascending_rest : (x : ℕ) (xs : List ℕ) → IsAscending (x ∷ xs) → IsAscending xs
+ascending_rest x [] up = tt
+ascending_rest x (y ∷ ys) up = up.1
 
-below_head : (x : ℕ) (xs : List ℕ) (j : ℕ) → IsAscending (x ∷ xs) → j < length xs → x < get_or xs j 0
-below_head x [] j up l = absurd (omega arith)
-below_head x (y ∷ ys) zero up l = up.0
-below_head x (y ∷ ys) (suc j) up l = (let a = below_head y ys j up.1 (omega arith) in let b = up.0 in omega arith)
-
-below : (xs : List ℕ) (i j : ℕ) → IsAscending xs → i < j → j < length xs → get_or xs i 0 < get_or xs j 0
-below [] i j up h l = absurd (omega arith)
-below (x ∷ xs) i zero up h l = absurd (omega arith)
-below (x ∷ xs) zero (suc j) up h l = below_head x xs j up (omega arith)
-below (x ∷ xs) (suc i) (suc j) up h l = below xs i j (tail_up x xs up) (omega arith) (omega arith)
+pub ascending_above : (x : ℕ) (xs : List ℕ) → IsAscending (x ∷ xs) → (y : ℕ) → Contains xs y → x < y
+ascending_above x [] up y has = absurd (contains_none y has)
+ascending_above x (z ∷ zs) up y has =
+    let low = up.0 in
+    elim (contains_cases z y zs has) [ inl e ↦ omega arith | inr c ↦ (let high = ascending_above z zs up.1 y c in omega arith) ]
 
 pub all_below : (xs : List ℕ) (k : ℕ) → IsAscending xs → k < length xs → (n : ℕ) → Contains (take k xs) n → n < get_or xs k 0
-all_below xs k up inside n (j, low, e) =
-    let j<k : j < k = omega (arith, length-take k xs) in
-    let same : get_or xs j n ≡ n = sym (get_or-take k xs j n j<k) ∙ e in
-    let here : get_or xs j 0 ≡ n = sym (get_or_default_zero xs j n (omega arith)) ∙ same in
-    let less = below xs j k up j<k inside in
-    omega arith
+all_below [] k up inside n has = absurd (omega arith)
+all_below (x ∷ xs) zero up inside n has = absurd (contains_none n has)
+all_below (x ∷ xs) (suc k) up inside n has = elim (contains_cases x n (take k xs) has) [
+  | inl e ↦ (let low = ascending_above x xs up (get_or xs k 0) (Contains-get_or xs k 0 (omega arith)) in omega arith)
+  | inr c ↦ all_below xs k (ascending_rest x xs up) (omega arith) n c
+]
 
 -- whether the game goes on
 pub none_if : {A : Type 0} (o p : Option A) → o ≡ p → false ≡ is_some o → p ≡ None
