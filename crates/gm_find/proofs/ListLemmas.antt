@@ -4,6 +4,7 @@ use Rattle.gm_find.proofs.Lower.{length-append, Contains, range_with_len, IsAsce
 use Rattle.gm_find.proofs.Lower.{IsFirst}
 use Rattle.std.proofs.Common.{append_assoc}
 use Rattle.std.proofs.lemmas.Bool.{cases_lt}
+use Rattle.gm_play.proofs.Wanted.{ascending_above, ascending_rest}
 
 module _ {A : Type 0} (P : A → Type 0) where
   -- one element more, which has the property or not
@@ -90,18 +91,6 @@ module _ {A : Type 0} (P : A → Type 0) where
       (more, e, first_taken k (limit - length old) xs more h (omega arith))
 
   -- of an ascending list of numbers that has all those with the property, the first are those of all numbers
-  ascending_above : (x : ℕ) (xs : List ℕ) → IsAscending (x ∷ xs) → (y : ℕ) → Contains xs y → x < y
-  ascending_above x [] h y c = absurd (contains_none y c)
-  ascending_above x (z ∷ xs) h y c = elim (contains_cases z y xs c) [
-    | inl e ↦ (let l = h.0 in omega arith)
-    | inr d ↦
-        (let l = h.0 in let m = ascending_above z xs h.1 y d in omega arith)
-  ]
-
-  ascending_rest : (x : ℕ) (xs : List ℕ) → IsAscending (x ∷ xs) → IsAscending xs
-  ascending_rest x [] h = tt
-  ascending_rest x (z ∷ xs) h = h.1
-
   module _ (f : ℕ → A) where
     -- what is known of the list: ascending numbers from k to below k + n, with all of them that have the property
     pub record IsRun (k n : ℕ) (is : List ℕ) : Type 0 where

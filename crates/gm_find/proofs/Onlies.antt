@@ -69,23 +69,15 @@ pub is_win : (r : Rules) (p : Position) (s : Solved) (n : ℕ) → IsTrueValue r
 is_win r p s n h w = HasValue_once r p s.value Win s.remoteness n h w
 
 -- a turn before the last
-pub turn_parts : (r : Rules) (d : Bool) (n : ℕ) (p : Position) → 2 < n → IsOnlyWin r d n p → HasOnly r d (Keep Win) p ×
-    ((m : ℕ) → Contains (r.moves p) m → IsOnlyAfter r d (n - 2) p m)
-turn_parts r d zero p l h = absurd (omega arith)
-turn_parts r d (suc zero) p l h = absurd (omega arith)
-turn_parts r d (suc (suc zero)) p l h = absurd (omega arith)
-turn_parts r d (suc (suc (suc n))) p l h =
+pub turn_is : (r : Rules) (d : Bool) (n : ℕ) (p : Position) → 2 < n
+    → IsOnlyWin r d n p ↔ (HasOnly r d (Keep Win) p × ((m : ℕ) → Contains (r.moves p) m → IsOnlyAfter r d (n - 2) p m))
+turn_is r d zero p l = absurd (omega arith)
+turn_is r d (suc zero) p l = absurd (omega arith)
+turn_is r d (suc (suc zero)) p l = absurd (omega arith)
+turn_is r d (suc (suc (suc n))) p l =
     let e : suc n ≡ suc (suc (suc n)) - 2 = omega arith in
-    (h.0, λ m has. subst (λ (k : ℕ). IsOnlyAfter r d k p m) e (h.1 m has))
-
-pub turn_from : (r : Rules) (d : Bool) (n : ℕ) (p : Position) → 2 < n → HasOnly r d (Keep Win) p → ((m : ℕ) → Contains (r.moves p) m → IsOnlyAfter r d (n - 2) p m)
-    → IsOnlyWin r d n p
-turn_from r d zero p l h k = absurd (omega arith)
-turn_from r d (suc zero) p l h k = absurd (omega arith)
-turn_from r d (suc (suc zero)) p l h k = absurd (omega arith)
-turn_from r d (suc (suc (suc n))) p l h k =
-    let e : suc (suc (suc n)) - 2 ≡ suc n = omega arith in
-    (h, λ m has. subst (λ (j : ℕ). IsOnlyAfter r d j p m) e (k m has))
+    subst (λ (k : ℕ). IsOnlyWin r d (suc (suc (suc n))) p ↔ (HasOnly r d (Keep Win) p × ((m : ℕ) → Contains (r.moves p) m → IsOnlyAfter r d k p m))) e
+    (λ h. h, λ h. h)
 
 -- a property of all moves, after one move more
 pub each_more : (P : ℕ → Type 0) (ms : List ℕ) (k m : ℕ) → k < length ms → get_or ms k 0 ≡ m → ((n : ℕ) → Contains (take k ms) n → P n) → P m → (n : ℕ) →

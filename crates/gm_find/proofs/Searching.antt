@@ -1,21 +1,18 @@
 -- What a search for reached positions keeps.
-use Rattle.gm_find.proofs.Lower.{◌≡◌, ℕ, ◌+◌, ◌⊎◌, inl, inr, true, List, [], ◌∷◌, ◌++◌, length, refl, sym, ap, ◌∙◌, subst, arith, Contains}
+use Rattle.gm_find.proofs.Lower.{◌≡◌, ℕ, ◌⊎◌, inl, inr, true, List, [], ◌∷◌, ◌++◌, length, refl, sym, ap, ◌∙◌, subst, arith, Contains}
 use Rattle.gm_find.proofs.Lower.{◌↔◌, Contains-append_left, Contains-push_cases, Contains-push, Position, IsGame, Rules, map_from, map_in, contains_none}
 use Rattle.gm_find.proofs.Lower.{contains_cases, contains_first, contains_later, at, IsSearched, key_of}
 use Rattle.std.specs.Prelude.{IsPermutation}
 use Rattle.std.proofs.lemmas.List.Sorted.{Contains-permutation, IsPermutation-sym}
 use Rattle.gm_game.specs.Rules.{children, IsCanonicalChild}
 use Rattle.gm_play.specs.Lines.{position_after}
+use Rattle.gm_play.proofs.Walking.{after_push}
 use Rattle.gm_find.specs.Reaching.{IsPlay, IsReachedByPlay, AreReached}
 
 -- a line with one move more
 play_more : (r : Rules) (p : Position) (ms : List ℕ) (m : ℕ) → IsPlay r p ms → Contains (r.moves (position_after r p ms)) m → IsPlay r p (ms ++ m ∷ [])
 play_more r p [] m h has = (has, tt)
 play_more r p (n ∷ ns) m h has = (h.0, play_more r (r.play p n) ns m h.1 has)
-
-after_more : (r : Rules) (p : Position) (ms : List ℕ) (m : ℕ) → position_after r p (ms ++ m ∷ []) ≡ r.play (position_after r p ms) m
-after_more r p [] m = refl
-after_more r p (n ∷ ns) m = after_more r (r.play p n) ns m
 
 -- the moves of a canonical child
 child_move : (r : Rules) (p c : Position) → IsCanonicalChild r p c → (m : ℕ) × Contains (r.moves p) m × (r.canonical (r.play p m) ≡ c)
@@ -43,7 +40,7 @@ module _ (r : Rules) (g : IsGame r) where
       let legal = after_legal r.initial ms g.initial_legal h in
       let own : IsCanonicalChild r q d = (g.canonical_children q d legal).0 (subst (λ (x : Position). IsCanonicalChild r x d) (sym e) k) in
       let (m, listed, f) = child_move r q d own in
-      (ms ++ m ∷ [], play_more r r.initial ms m h listed, ap r.canonical (after_more r r.initial ms m) ∙ f)
+      (ms ++ m ∷ [], play_more r r.initial ms m h listed, ap r.canonical (after_push r r.initial ms m) ∙ f)
 
   -- a set of keys that has the canonical position of the start and the canonical children of its positions has all that is reached
   reached_after : (ks : List (ℕ × ℕ)) (p : Position) (ms : List ℕ) → ((c d : Position) → Contains ks (key_of c) → IsCanonicalChild r c d → Contains ks

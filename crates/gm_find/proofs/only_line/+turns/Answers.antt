@@ -1,7 +1,7 @@
 use Rattle.gm_find.proofs.Lower.{◌<◌, ◌-◌, ℕ, List, get_or, refl, sym, ◌∙◌, subst, arith, Contains, take_all, Contains-get_or, Position, Win, HasValue}
 use Rattle.gm_find.proofs.Lower.{IsOnlyWin, IsOnlyAfter, IsOnlyDefence}
 use Rattle.gm_find.specs.Finding.{AfterDefence}
-use Rattle.gm_find.proofs.Onlies.{each_more, turn_parts, turn_from, same_answer, win_is, is_win}
+use Rattle.gm_find.proofs.Onlies.{each_more, turn_is, same_answer, win_is, is_win}
 use Rattle.gm_find.proofs.only_line.+turns.Goals as goal
 
 pub are_only_defences-loop-e-preserved : goal.are_only_defences-loop-e-preserved
@@ -59,7 +59,7 @@ is_only_win-returns-then-not-is_only_after g t c =
     let before : 2 < c.args.remoteness = omega arith in (
       λ x. absurd (cc),
       λ x. (
-          let one = c.is_only_after.ensures.1 ((turn_parts r c.args.distinct c.args.remoteness c.args.known.now.position before x).1 m listed) in
+          let one = c.is_only_after.ensures.1 (((turn_is r c.args.distinct c.args.remoteness c.args.known.now.position before).0 x).1 m listed) in
           let f = c.if-not-is_only_after.true in
           absurd (cc)),
     )
@@ -80,7 +80,7 @@ is_only_win-returns g t c =
     let more = c.if-remoteness-le-LAST_TURN.false in
     let before : 2 < c.args.remoteness = omega arith in
     let one = c.has_only.ensures.0 c.if-not-has_only.false in (
-      λ x. turn_from r c.args.distinct c.args.remoteness c.args.known.now.position before one
-          (λ m has. c.loop-m.invariant m (subst (λ (xs : List ℕ). Contains xs m) (sym all) has)),
+      λ x. (turn_is r c.args.distinct c.args.remoteness c.args.known.now.position before).1
+          (one, λ m has. c.loop-m.invariant m (subst (λ (xs : List ℕ). Contains xs m) (sym all) has)),
       λ x. refl,
     )
