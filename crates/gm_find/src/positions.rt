@@ -21,6 +21,15 @@ use gm_play::known_tiers::KnownTiers;
 use gm_table::tables::Tables;
 use std::alloc::{AllocError, Global};
 
+// What is searched for, in these tables.
+#[derive(Drop)]
+struct Search<'t, G: Game> {
+    tables: &'t Tables<G>,
+    sought: Sought,
+    reached: Option<&'t Reached<G>>,
+    limit: usize,
+}
+
 /// Returns the canonical positions that are sought, tier by tier in the order given and by ascending index: the first of them, at most `limit`. If a set of
 /// reached positions is given, only positions in it count.
 ///
@@ -34,9 +43,15 @@ pub fn find_positions<G: Game>(
 ) -> Result<Vec<Position>, AllocError>
     ensures { IfOk result (λ v. IsFirst (IsMatch G.rules sought (is_some reached.entry)) limit (all_positions G.rules known.now.tiers.now) v.items) }
 {
+    let search = Search {
+        tables: known.tables,
+        sought,
+        reached,
+        limit,
+    };
     let mut found = Vec::new(alloc);
     for tier in known.tiers {
-        add_tier(&mut found, known.tables, *tier, sought, reached, limit)?;
+        add_tier(&mut found, &search, *tier)?;
     }
     Ok(found)
 }
@@ -44,22 +59,19 @@ pub fn find_positions<G: Game>(
 // Adds the positions of a tier, up to the limit.
 fn add_tier<G: Game>(
     found: &mut Vec<Position>,
-    tables: &Tables<G>,
+    search: &Search<'_, G>,
     tier: u64,
-    sought: Sought,
-    reached: Option<&Reached<G>>,
-    limit: usize,
 ) -> Result<(), AllocError>
-    requires { AreAllHeld G.rules tables.now tier }
+    requires { AreAllHeld G.rules search.now.tables.now tier }
     ensures { OnOk result ((more : List Position) × (found.new.items ≡ found.old.items ++ more)
-        × IsFirst (IsMatch G.rules sought (is_some reached.entry)) (limit - length found.old.items) (positions_in G.rules tier) more) }
+        × IsFirst (IsMatch G.rules search.now.sought (is_some search.now.reached)) (search.now.limit - length found.old.items) (positions_in G.rules tier) more) }
 {
-    match place(sought) {
+    match place(search.sought) {
         Some((phase, level)) => {
-            let run = tables.run(tier, phase, level);
-            add_run(found, tables, tier, run, sought, reached, limit)
+            let run = search.tables.run(tier, phase, level);
+            add_run(found, search, tier, run)
         }
-        None => add_all(found, tables, tier, sought, reached, limit),
+        None => add_all(found, search, tier),
     }
 }
 
@@ -89,30 +101,20 @@ fn one_level(span: Span) -> Option<u32>
 // Adds those of some indexes of a tier, up to the limit.
 fn add_run<G: Game>(
     found: &mut Vec<Position>,
-    tables: &Tables<G>,
+    search: &Search<'_, G>,
     tier: u64,
     run: &[u32],
-    sought: Sought,
-    reached: Option<&Reached<G>>,
-    limit: usize,
 ) -> Result<(), AllocError>
-    requires { AreAllHeld G.rules tables.now tier }
+    requires { AreAllHeld G.rules search.now.tables.now tier }
     ensures { OnOk result ((more : List Position) × (found.new.items ≡ found.old.items ++ more)
-        × IsFirst (IsMatch G.rules sought (is_some reached.entry)) (limit - length found.old.items) (map (at tier) run.now) more) }
+        × IsFirst (IsMatch G.rules search.now.sought (is_some search.now.reached)) (search.now.limit - length found.old.items) (map (at tier) run.now) more) }
 {
     for i in run {
-        if limit <= found.len() {
+        if search.limit <= found.len() {
             return Ok(());
         }
         let index = u64::from(*i);
-        add_position(
-            found,
-            tables,
-            Position { tier, index },
-            sought,
-            reached,
-            limit,
-        )?;
+        add_position(found, search, Position { tier, index })?;
     }
     Ok(())
 }
@@ -120,29 +122,19 @@ fn add_run<G: Game>(
 // Adds those of all indexes of a tier, up to the limit.
 fn add_all<G: Game>(
     found: &mut Vec<Position>,
-    tables: &Tables<G>,
+    search: &Search<'_, G>,
     tier: u64,
-    sought: Sought,
-    reached: Option<&Reached<G>>,
-    limit: usize,
 ) -> Result<(), AllocError>
-    requires { AreAllHeld G.rules tables.now tier }
+    requires { AreAllHeld G.rules search.now.tables.now tier }
     ensures { OnOk result ((more : List Position) × (found.new.items ≡ found.old.items ++ more)
-        × IsFirst (IsMatch G.rules sought (is_some reached.entry)) (limit - length found.old.items) (positions_in G.rules tier) more) }
+        × IsFirst (IsMatch G.rules search.now.sought (is_some search.now.reached)) (search.now.limit - length found.old.items) (positions_in G.rules tier) more) }
 {
     let size = G::tier_size(tier);
     for index in 0..size {
-        if limit <= found.len() {
+        if search.limit <= found.len() {
             return Ok(());
         }
-        add_position(
-            found,
-            tables,
-            Position { tier, index },
-            sought,
-            reached,
-            limit,
-        )?;
+        add_position(found, search, Position { tier, index })?;
     }
     Ok(())
 }
@@ -150,56 +142,43 @@ fn add_all<G: Game>(
 // Adds a position, if it is sought, below the limit.
 fn add_position<G: Game>(
     found: &mut Vec<Position>,
-    tables: &Tables<G>,
+    search: &Search<'_, G>,
     p: Position,
-    sought: Sought,
-    reached: Option<&Reached<G>>,
-    limit: usize,
 ) -> Result<(), AllocError>
-    requires room { length found.old.items < limit }
-    requires held { AreAllHeld G.rules tables.now p.tier }
+    requires room { length found.old.items < search.now.limit }
+    requires held { AreAllHeld G.rules search.now.tables.now p.tier }
     ensures { OnOk result ((more : List Position) × (found.new.items ≡ found.old.items ++ more)
-        × IsFirst (IsMatch G.rules sought (is_some reached.entry)) (limit - length found.old.items) (p ∷ []) more) }
+        × IsFirst (IsMatch G.rules search.now.sought (is_some search.now.reached)) (search.now.limit - length found.old.items) (p ∷ []) more) }
 {
-    if is_sought(tables, p, sought, reached) {
+    if is_sought(search, p) {
         found.push(p)?;
     }
     Ok(())
 }
 
 // Returns whether a position is sought.
-fn is_sought<G: Game>(
-    tables: &Tables<G>,
-    p: Position,
-    sought: Sought,
-    reached: Option<&Reached<G>>,
-) -> bool
-    requires { AreAllHeld G.rules tables.now p.tier }
-    ensures { IsTrue result ↔ IsMatch G.rules sought (is_some reached.entry) p }
+fn is_sought<G: Game>(search: &Search<'_, G>, p: Position) -> bool
+    requires { AreAllHeld G.rules search.now.tables.now p.tier }
+    ensures { IsTrue result ↔ IsMatch G.rules search.now.sought (is_some search.now.reached) p }
 {
-    let Some(solved) = record(tables, p) else {
+    let Some(solved) = record(search.tables, p) else {
         return false;
     };
     let known = Known {
-        tables,
+        tables: search.tables,
         position: p,
     };
-    is_fitting(&known, solved, sought, reached) && has_fitting_line(&known, solved, sought)
+    is_fitting(&known, solved, search) && has_fitting_line(&known, solved, search.sought)
 }
 
 // Returns whether a position of this true value fits in everything but its line.
-fn is_fitting<G: Game>(
-    known: &Known<'_, G>,
-    solved: Solved,
-    sought: Sought,
-    reached: Option<&Reached<G>>,
-) -> bool
+fn is_fitting<G: Game>(known: &Known<'_, G>, solved: Solved, search: &Search<'_, G>) -> bool
     requires { IsTrueValue G.rules known.now.position solved }
-    ensures { IsTrue result ↔ IsFitting G.rules sought (is_some reached.entry) known.now.position solved }
+    ensures { IsTrue result ↔ IsFitting G.rules search.now.sought (is_some search.now.reached) known.now.position solved }
 {
-    is_value(sought, solved)
-        && has_fitting_moves(known, solved, sought)
-        && is_in(reached, known.position)
+    is_value(search.sought, solved)
+        && has_fitting_moves(known, solved, search.sought)
+        && is_in(search.reached, known.position)
 }
 
 // Returns whether a position has the moves that are sought.
