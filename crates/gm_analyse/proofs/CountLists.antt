@@ -61,6 +61,12 @@ module _ (Num : Value → ℕ → ℕ → Type 0) (num_once : (v : Value) (k a b
   pub no_counts : AreBefore Num 0 0 []
   no_counts = record { ordered = λ i j d a b. absurd (omega arith); exact = λ c. (λ h. absurd (contains_none c h), λ h. absurd (none_before c h.1)) }
 
+  -- a count of this value and remoteness has their number
+  number_is : (v : Value) (k n : ℕ) (c : Count) → IsOne c → rank c.value ≡ rank v → c.remoteness ≡ k → Num v k n → c.number ≡ n
+  number_is v k n c h p q is =
+      let here : Num v k c.number = subst (λ (x : Value). Num x k c.number) (rank_once c.value v p) (subst (λ (j : ℕ). Num c.value j c.number) q h.0) in
+      num_once v k c.number n here is
+
   module _ (v : Value) (k : ℕ) (cs : List Count) (old : AreBefore Num (rank v) k cs) where
     module _ (n : ℕ) (is : Num v k n) (some : 0 < n) where
       abbrev New : Count
@@ -73,11 +79,7 @@ module _ (Num : Value → ℕ → ℕ → Type 0) (num_once : (v : Value) (k a b
       ]
 
       new_only : (c : Count) → IsOne c → rank c.value ≡ rank v → c.remoteness ≡ k → New ≡ c
-      new_only c h p q =
-          let w : c.value ≡ v = rank_once c.value v p in
-          let here : Num v k c.number = subst (λ (x : Value). Num x k c.number) w (subst (λ (j : ℕ). Num c.value j c.number) q h.0) in
-          let m : c.number ≡ n = num_once v k c.number n here is in
-          count_same v c.value k c.remoteness n c.number (sym w) (sym q) (sym m)
+      new_only c h p q = count_same v c.value k c.remoteness n c.number (sym (rank_once c.value v p)) (sym q) (sym (number_is v k n c h p q is))
 
       there_new : (c : Count) → IsOne c × ComesBefore (rank v) (k + 1) c → Contains (cs ++ New ∷ []) c
       there_new c h = elim (before_more (rank v) k c h.1) [
@@ -93,20 +95,15 @@ module _ (Num : Value → ℕ → ℕ → Type 0) (num_once : (v : Value) (k a b
       }
 
     -- it has none
-    none_here : Num v k 0 → (c : Count) → IsOne c → rank c.value ≡ rank v → c.remoteness ≡ k → ⊥
-    none_here z c h p q =
-        let w : c.value ≡ v = rank_once c.value v p in
-        let here : Num v k c.number = subst (λ (x : Value). Num x k c.number) w (subst (λ (j : ℕ). Num c.value j c.number) q h.0) in
-        let m : c.number ≡ 0 = num_once v k c.number 0 here z in
-        let some = h.1 in
-        omega arith
-
     without_count : Num v k 0 → AreBefore Num (rank v) (k + 1) cs
     without_count z = record {
       ordered = old.ordered;
       exact = λ c. (
         λ i. (let t = (old.exact c).0 i in (t.0, more_before (rank v) k c t.1)),
-        λ h. elim (before_more (rank v) k c h.1) [ inl b ↦ (old.exact c).1 (h.0, b) | inr e ↦ absurd (none_here z c h.0 e.0 e.1) ],
+        λ h. elim (before_more (rank v) k c h.1) [
+          | inl b ↦ (old.exact c).1 (h.0, b)
+          | inr e ↦ absurd (let some = h.0.1 in let m = number_is v k 0 c h.0 e.0 e.1 z in omega arith)
+        ],
       );
     }
 
@@ -122,12 +119,7 @@ module _ (Num : Value → ℕ → ℕ → Type 0) (num_once : (v : Value) (k a b
           let e : rank c.value ≡ rank v = omega arith in
           elim (cases_lt c.remoteness k) [
             | inl j ↦ inr (e, j)
-            | inr j ↦ (
-                let w : c.value ≡ v = rank_once c.value v e in
-                let here : Num v c.remoteness c.number = subst (λ (x : Value). Num x c.remoteness c.number) w h.0 in
-                let m : c.number ≡ 0 = num_once v c.remoteness c.number 0 here (z c.remoteness j) in
-                let some = h.1 in
-                absurd (omega arith))
+            | inr j ↦ absurd (let some = h.1 in let m = number_is v c.remoteness 0 c h e refl (z c.remoteness j) in omega arith)
           ])
     ]
     next_down c z h (inr b) = let f = b.1 in absurd (omega arith)

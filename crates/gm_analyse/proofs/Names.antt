@@ -1,11 +1,11 @@
 -- The text of a padded name.
-use Rattle.gm_analyse.proofs.Lower.{◌≡◌, ℕ, suc, ◌+◌, ◌⊎◌, inl, inr, ◌==◌, Bool, true, false, List, [], ◌∷◌, length, take, Result, Ok, Err, refl, ap, arith}
+use Rattle.gm_analyse.proofs.Lower.{◌≡◌, ℕ, suc, ◌+◌, inl, inr, ◌==◌, Bool, true, false, List, [], ◌∷◌, length, take, Result, Ok, Err, refl, ap, arith}
 use Rattle.gm_analyse.proofs.Lower.{None, Some, position, unwrap_or, IsUtf8, name_text}
 use Rattle.std.proofs.Common.{◌&&◌, nat_lt, cond, not}
 use Rattle.std.specs.List.{position_or_len}
 use Rattle.std.specs.Result.{IsOk, MatchResult}
 use Rattle.std.specs.Str.{IsAscii}
-use Rattle.std.proofs.lemmas.Bool.{ltb-true, ltb-false}
+use Rattle.std.proofs.lemmas.Bool.{and_parts, cases_Bool, ltb-true, ltb-false}
 use Rattle.std.proofs.lemmas.List.Sums.{prefix_len-le-length}
 use Rattle.std.proofs.lemmas.Str.{IsUtf8-from_ascii}
 use Rattle.std.proofs.lemmas.Str.Ascii.{IsAscii-nil, IsAscii-cons}
@@ -20,20 +20,12 @@ take_first n b bs = let e : 1 + n ≡ suc n = omega arith in rw e refl
 first_more : (b : ℕ) (bs : List ℕ) → (b == 0) ≡ false → IsAscii (b ∷ name_text bs) → IsAscii (name_text (b ∷ bs))
 first_more b bs e h = rw e (rw (take_first (position_or_len (λ x. x == 0) bs) b bs) h)
 
-either : (x : Bool) → (x ≡ true) ⊎ (x ≡ false)
-either true = inl refl
-either false = inr refl
-
-both : (x y : Bool) → (x && y) ≡ true → (x ≡ true) × (y ≡ true)
-both true y h = (refl, h)
-both false y h = absurd (cc)
-
 name_ascii : (bs : List ℕ) → is_padded_text bs ≡ true → IsAscii (name_text bs)
 name_ascii [] h = IsAscii-nil
-name_ascii (b ∷ bs) h = elim (either (b == 0)) [
+name_ascii (b ∷ bs) h = elim (cases_Bool (b == 0)) [
   | inl e ↦ rw e IsAscii-nil
   | inr e ↦ (
-      let t = both (nat_lt b 128) (is_padded_text bs) (padded_more b bs e h) in
+      let t = and_parts (nat_lt b 128) (is_padded_text bs) (padded_more b bs e h) in
       first_more b bs e (IsAscii-cons b (name_text bs) (ltb-true b 128 t.0) (name_ascii bs t.1)))
 ]
 
