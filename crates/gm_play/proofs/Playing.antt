@@ -18,7 +18,7 @@ after_is : (r : Rules) (ms : List ℕ) (line : PlayLine) → ((after r line ms).
 after_is r [] line = (refl, refl, omega arith)
 after_is r (m ∷ ms) line = let t = after_is r ms (one_more r line m) in (t.0, t.1, (let e = t.2 in omega arith))
 
--- a line goes on with these replies to this end; or, where there is no end, one of the replies is no move
+-- a line goes on with these replies to this end; if there is no end, one of the replies is no move
 abbrev pub ComesTo : Rules → List ℕ → PlayLine → Option PlayLine → Type 0
 ComesTo r replies line None = (ms : List ℕ) → IsLine r line.position line.side replies ms → ⊥
 ComesTo r replies line (Some end) = (ms : List ℕ) × IsLine r line.position line.side replies ms × (end ≡ after r line ms)
