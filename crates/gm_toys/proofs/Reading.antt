@@ -1,21 +1,24 @@
 -- What reading a number says of positions.
-use Rattle.std.proofs.Common.{◌≡◌, ◌≤◌, ◌↔◌, ℕ, List, Option, Some, true, sym, subst, ap, arith}
+use Rattle.std.proofs.Common.{◌≡◌, ◌≤◌, ◌↔◌, ℕ, List, Option, Some, true, subst, ap, ◌∙◌}
 use Rattle.std.specs.Fmt.{decimal}
 use Rattle.gm_game.specs.declared.position.Position.{Position}
-use Rattle.gm_game.specs.Rules.{at}
-use Rattle.gm_game.proofs.SetLemmas.{same_position}
-use Rattle.gm_toys.specs.Subtraction.{subtraction, number_text}
-use Rattle.gm_toys.specs.laws.SubtractionLaws.{legal_in, legal_from}
+use Rattle.gm_game.specs.Rules.{Rules}
 
--- a number that was read is the position with that text
-pub position_read : (name : List ℕ) (most n last : ℕ) (text : List ℕ) (read : Option ℕ) (i : ℕ) → last ≡ n →
-    ((k : ℕ) → (read ≡ Some k) ↔ ((k ≤ last) × (decimal k ≡ text))) → read ≡ Some i
-    → (p : Position) → (Some (at 0 i) ≡ Some p) ↔ (((subtraction name most n).is_legal p ≡ true) × (number_text p ≡ text))
-position_read name most n last text read i same_last exact is p = (
-  λ e. (let s : at 0 i ≡ p = cc in subst (λ (q : Position). ((subtraction name most n).is_legal q ≡ true) × (number_text q ≡ text)) s
-      (let (le, same) = (exact i).0 is in (legal_from name most n 0 i (omega arith) (omega arith), same))),
-  λ (l, same). (let (t, le) = legal_in name most n p l in
-      let k : read ≡ Some p.index = (exact p.index).1 (omega arith, same) in
-      let e : i ≡ p.index = cc in
-      ap Some (same_position (at 0 i) p (sym t) e)),
-)
+-- the number up to the last with this text has been read
+abbrev pub IsReadTo : ℕ → List ℕ → Option ℕ → Type 0
+IsReadTo last text read = (n : ℕ) → (read ≡ Some n) ↔ ((n ≤ last) × (decimal n ≡ text))
+
+-- it is that of the position with this text, if each number up to the last is that of one legal position
+pub position_read : (r : Rules) (f : Position → ℕ) (at_number : ℕ → Position) (last : ℕ) (text : List ℕ) (read : Option ℕ) (i : ℕ) → IsReadTo last text read
+    → read ≡ Some i → ((k : ℕ) → k ≤ last → (r.is_legal (at_number k) ≡ true) × (f (at_number k) ≡ k))
+    → ((p : Position) → r.is_legal p ≡ true → (f p ≤ last) × (at_number (f p) ≡ p))
+    → (p : Position) → (Some (at_number i) ≡ Some p) ↔ ((r.is_legal p ≡ true) × (decimal (f p) ≡ text))
+position_read r f at_number last text read i exact is into from p =
+    let (le, same) = (exact i).0 is in
+    let (legal, own) = into i le in (
+      λ e. (let s : at_number i ≡ p = cc in subst (λ (q : Position). (r.is_legal q ≡ true) × (decimal (f q) ≡ text)) s (legal, ap decimal own ∙ same)),
+      λ (l, t). (let (within, back) = from p l in
+          let k : read ≡ Some (f p) = (exact (f p)).1 (within, t) in
+          let e : i ≡ f p = cc in
+          ap Some (ap at_number e ∙ back)),
+    )

@@ -5,105 +5,38 @@ ghost use Rattle.gm_toys.specs.Subtraction.{number_text, step_text};
 ghost use Rattle.gm_toys.specs.laws.SubtractionLaws.{subtraction_lawful, subtraction_readable};
 ghost use Rattle.gm_toys.specs.Countdown.{countdown, countdown_name};
 
-use crate::subtraction::{moves_down, numbers_above, read_number, read_step, show_number};
-use arrayvec::ArrayVec;
+use crate::subtraction::{Subtraction, SubtractionRules};
 use gm_game::game::Game;
-use gm_game::limits::{CHILD_TIERS, MOVES, NAME, PARENTS};
-use gm_game::position::{End, Position};
-use gm_game::shown::{Line, Shown};
+use gm_game::limits::NAME;
+use gm_game::shown::Shown;
 
-/// How many may be taken at a time.
-const MOST: u32 = 2;
+/// The rules of Countdown from `N`.
+#[derive(Drop)]
+pub struct CountdownRules<const N: u32>;
 
 /// Counts down from `N` by one or two; the player to move at zero has lost. The rules are in docs/GAMES.md.
-#[derive(Drop)]
-pub struct Countdown<const N: u32>;
+pub type Countdown<const N: u32> = Subtraction<CountdownRules<N>>;
 
-impl<const N: u32> Game for Countdown<N> {
-    ghost rules = { countdown N };
+impl<const N: u32> SubtractionRules for CountdownRules<N> {
+    ghost title = { countdown_name };
 
-    ghost lawful = { subtraction_lawful countdown_name 2 N refl refl (Prim.search rules) (Prim.search rules) (Prim.search rules) };
+    ghost START = { N };
+
+    ghost MOST = { 2 };
+
+    const START: u32 = N;
+
+    const MOST: u32 = 2;
 
     fn name() -> [u8; NAME] {
         *b"countdown\0\0\0\0\0\0\0"
     }
 
-    fn initial() -> Position {
-        Position {
-            tier: 0,
-            index: u64::from(N),
-        }
-    }
+    ghost few = { Prim.search rules };
 
-    fn tier_size(tier: u64) -> u64 {
-        if tier == 0 { u64::from(N) + 1 } else { 0 }
-    }
-
-    fn is_legal(p: Position) -> bool {
-        p.tier == 0 && p.index <= u64::from(N)
-    }
-
-    fn primitive(p: Position) -> Option<End> {
-        if p.index == 0 { Some(End::Lose) } else { None }
-    }
-
-    fn moves(p: Position) -> ArrayVec<u32, MOVES> {
-        moves_down(MOST, p.index)
-    }
-
-    fn play(p: Position, m: u32) -> Position {
-        Position {
-            tier: p.tier,
-            index: p.index - u64::from(m),
-        }
-    }
-
-    fn canonical(p: Position) -> Position {
-        p
-    }
-
-    fn parents(c: Position, tier: u64) -> ArrayVec<u64, PARENTS> {
-        if tier == 0 {
-            numbers_above(MOST, u64::from(N), c.index)
-        } else {
-            ArrayVec::new()
-        }
-    }
-
-    fn child_tiers(_tier: u64) -> ArrayVec<u64, CHILD_TIERS> {
-        ArrayVec::new()
-    }
-
-    fn tier_rank(_tier: u64) -> u64 {
-        0
-    }
-}
-
-impl<const N: u32> Shown for Countdown<N> {
-    ghost shown = { number_text };
-
-    ghost move_shown = { step_text };
+    ghost lawful = { subtraction_lawful countdown_name 2 N refl refl (Prim.search rules) (Prim.search rules) (Prim.search rules) };
 
     ghost readable = { subtraction_readable countdown_name 2 N (Prim.search rules) };
-
-    fn show(p: Position) -> Line {
-        show_number(p.index)
-    }
-
-    fn read(text: &[u8]) -> Option<Position> {
-        match read_number(u64::from(N), text) {
-            Some(index) => Some(Position { tier: 0, index }),
-            None => None,
-        }
-    }
-
-    fn move_text(_p: Position, m: u32) -> Line {
-        show_number(u64::from(m))
-    }
-
-    fn read_move(p: Position, text: &[u8]) -> Option<u32> {
-        read_step(MOST, p.index, text)
-    }
 }
 
 /// Countdown's rules and texts are those that `specs/` states.

@@ -2,7 +2,6 @@
 use Rattle.std.proofs.Common.{◌≡◌, ℕ, ◌+◌, ◌-◌, ◌<◌, ◌≤◌, ◌^◌, inl, inr, min, Bool, true, false, [], ◌&&◌, eqb, length, refl, None, arith, sym, ap, subst, ◌∙◌}
 use Rattle.std.specs.Prelude.{nat_le, nat_lt}
 use Rattle.std.proofs.lemmas.Bool.Decides.{nat_tests}
-use Rattle.std.proofs.lemmas.Fmt.{length-decimal-le, decimal_injective}
 use Rattle.std.proofs.lemmas.List.FromFn.{length-range_with_len}
 use Rattle.std.specs.List.{Contains}
 use Rattle.gm_game.specs.declared.position.Position.{Position}
@@ -10,10 +9,9 @@ use Rattle.gm_game.specs.Laws.{IsGame}
 use Rattle.gm_game.specs.Shown.{IsShown}
 use Rattle.gm_game.specs.Rules.{at, children, IsAscending, IsCanonical, IsCanonicalChild, IsParent}
 use Rattle.gm_game.proofs.Lists.{contains_none, contains_first, contains_cases, map_in, map_from}
-use Rattle.gm_game.proofs.PlainTexts.{plain_decimal}
 use Rattle.gm_game.proofs.SetLemmas.{same_position}
 use Rattle.gm_toys.specs.Subtraction.{moves_down, step_text}
-use Rattle.gm_toys.specs.laws.SubtractionLaws.{range_in, range_from, range_ascending, no_moves, some_moves}
+use Rattle.gm_toys.specs.laws.SubtractionLaws.{range_in, range_from, range_ascending, no_moves, some_moves, decimals_readable}
 use Rattle.gm_toys.specs.Stairs.{stairs, only_if, tier_below, position_above, tier_text}
 
 -- what is in a list of at most one number
@@ -136,18 +134,8 @@ stairs_lawful n h = record {
 
 -- the laws of texts hold
 pub stairs_readable : (n : ℕ) → n < 2 ^ 32 → IsShown (stairs n) tier_text step_text
-stairs_readable n h = record {
-  shown_plain = λ p l. let (t, i) = stairs_legal_in n p l in plain_decimal p.tier (omega arith);
-  shown_fits = λ p l. let (t, i) = stairs_legal_in n p l in let d = length-decimal-le 10 p.tier (omega arith) (omega arith) (omega arith) in omega arith;
-  shown_once = λ p q l k e.
-      let (t, i) = stairs_legal_in n p l in
-      let (u, j) = stairs_legal_in n q k in
-      same_position p q (decimal_injective p.tier q.tier (omega arith) (omega arith) e) (i ∙ sym j);
-  move_shown_plain = λ p m l c. let (one, t) = step_in p.tier m c in plain_decimal m (omega arith);
-  move_shown_fits = λ p m l c.
-      let (one, t) = step_in p.tier m c in
-      let d = length-decimal-le 10 m (omega arith) (omega arith) (omega arith) in omega arith;
-  move_shown_once = λ p m k l c d e.
-      let (one, t) = step_in p.tier m c in
-      let (other, u) = step_in p.tier k d in one ∙ sym other;
-}
+stairs_readable n h =
+    decimals_readable (stairs n) (λ p. p.tier)
+    (λ p l. let (t, i) = stairs_legal_in n p l in omega arith)
+    (λ p q l k e. same_position p q e ((stairs_legal_in n p l).1 ∙ sym (stairs_legal_in n q k).1))
+    (λ p m l c. let (one, t) = step_in p.tier m c in omega arith)

@@ -6,12 +6,13 @@ use Rattle.std.proofs.lemmas.Grind.{common_steps}
 use Rattle.std.proofs.lemmas.Fmt.{length-decimal-le, decimal_injective}
 use Rattle.std.proofs.lemmas.List.FromFn.{length-range_with_len, get_or-range_with_len}
 use Rattle.std.specs.List.{Contains, range_with_len}
+use Rattle.std.specs.Fmt.{decimal}
 use Rattle.gm_game.specs.declared.position.Position.{Position}
 use Rattle.gm_game.specs.declared.limits.TheConstants.{MOVES, NAME}
 use Rattle.gm_game.specs.Laws.{IsGame}
 use Rattle.gm_game.specs.Shown.{IsShown}
 use Rattle.gm_game.specs.Texts.{IsPaddedText}
-use Rattle.gm_game.specs.Rules.{at, children, IsAscending, IsCanonical, IsCanonicalChild, IsParent}
+use Rattle.gm_game.specs.Rules.{Rules, at, children, IsAscending, IsCanonical, IsCanonicalChild, IsParent}
 use Rattle.gm_game.proofs.Lists.{map_in, map_from}
 use Rattle.gm_game.proofs.PlainTexts.{plain_decimal}
 use Rattle.gm_game.proofs.SetLemmas.{same_position}
@@ -140,25 +141,22 @@ subtraction_lawful name most n long text some few h = record {
   child_tiers_few = λ t. omega arith;
 }
 
-pub subtraction_readable : (name : List ℕ) (most n : ℕ) → n < 2 ^ 32 → IsShown (subtraction name most n) number_text step_text
-subtraction_readable name most n h = record {
-  shown_plain = λ p l. let (t, le) = legal_in name most n p l in plain_decimal p.index (omega arith);
-  shown_fits = λ p l. let (t, le) = legal_in name most n p l in let d = length-decimal-le 10 p.index (omega arith) (omega arith) (omega arith) in omega arith;
-  shown_once = λ p q l k e.
-      let (t, le) = legal_in name most n p l in
-      let (u, me) = legal_in name most n q k in
-      same_position p q (t ∙ sym u) (decimal_injective p.index q.index (omega arith) (omega arith) e);
-  move_shown_plain = λ p m l c.
-      let (t, le) = legal_in name most n p l in
-      let (low, high) = range_in 1 (min most p.index) m c in
-      plain_decimal m (omega arith);
-  move_shown_fits = λ p m l c.
-      let (t, le) = legal_in name most n p l in
-      let (low, high) = range_in 1 (min most p.index) m c in
-      let d = length-decimal-le 10 m (omega arith) (omega arith) (omega arith) in omega arith;
-  move_shown_once = λ p m k l c d e.
-      let (t, le) = legal_in name most n p l in
-      let (low, high) = range_in 1 (min most p.index) m c in
-      let (least, most) = range_in 1 (min most p.index) k d in
-      decimal_injective m k (omega arith) (omega arith) e;
+-- texts that are the decimals of numbers are readable where the number of a position tells the position
+pub decimals_readable : (r : Rules) (f : Position → ℕ) → ((p : Position) → r.is_legal p ≡ true → f p < 2 ^ 32)
+    → ((p q : Position) → r.is_legal p ≡ true → r.is_legal q ≡ true → f p ≡ f q → p ≡ q)
+    → ((p : Position) (m : ℕ) → r.is_legal p ≡ true → Contains (r.moves p) m → m < 2 ^ 32) → IsShown r (λ p. decimal (f p)) (λ p m. decimal m)
+decimals_readable r f small once few = record {
+  shown_plain = λ p l. let h = small p l in plain_decimal (f p) (omega arith);
+  shown_fits = λ p l. let h = small p l in let d = length-decimal-le 10 (f p) (omega arith) (omega arith) (omega arith) in omega arith;
+  shown_once = λ p q l k e. let h = small p l in let i = small q k in once p q l k (decimal_injective (f p) (f q) (omega arith) (omega arith) e);
+  move_shown_plain = λ p m l c. let h = few p m l c in plain_decimal m (omega arith);
+  move_shown_fits = λ p m l c. let h = few p m l c in let d = length-decimal-le 10 m (omega arith) (omega arith) (omega arith) in omega arith;
+  move_shown_once = λ p m k l c d e. let h = few p m l c in let i = few p k l d in decimal_injective m k (omega arith) (omega arith) e;
 }
+
+pub subtraction_readable : (name : List ℕ) (most n : ℕ) → n < 2 ^ 32 → IsShown (subtraction name most n) number_text step_text
+subtraction_readable name most n h =
+    decimals_readable (subtraction name most n) (λ p. p.index)
+    (λ p l. let (t, le) = legal_in name most n p l in omega arith)
+    (λ p q l k e. same_position p q ((legal_in name most n p l).0 ∙ sym (legal_in name most n q k).0) e)
+    (λ p m l c. let (t, le) = legal_in name most n p l in let (low, high) = range_in 1 (min most p.index) m c in omega arith)

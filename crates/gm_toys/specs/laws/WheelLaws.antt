@@ -3,7 +3,6 @@ use Rattle.std.proofs.Common.{◌≡◌, ◌≢◌, ℕ, zero, suc, ◌<◌, ◌
 use Rattle.std.proofs.lemmas.Bool.{and_parts}
 use Rattle.std.proofs.lemmas.Bool.Decides.{nat_tests}
 use Rattle.std.proofs.lemmas.Grind.{common_steps}
-use Rattle.std.proofs.lemmas.Fmt.{length-decimal-le, decimal_injective}
 use Rattle.std.specs.Prelude.{nat_lt, if◌then◌else◌}
 use Rattle.std.specs.List.{Contains, list_all, list_any}
 use Rattle.gm_game.specs.declared.position.Position.{Position}
@@ -11,9 +10,9 @@ use Rattle.gm_game.specs.Laws.{IsGame}
 use Rattle.gm_game.specs.Shown.{IsShown}
 use Rattle.gm_game.specs.Rules.{at, children, IsAscending, IsCanonical, IsCanonicalChild, IsParent}
 use Rattle.gm_game.proofs.Lists.{contains_none, map_in, map_from, all_in, any_in}
-use Rattle.gm_game.proofs.PlainTexts.{plain_decimal}
 use Rattle.gm_game.proofs.SetLemmas.{same_position}
 use Rattle.gm_toys.specs.Subtraction.{number_text}
+use Rattle.gm_toys.specs.laws.SubtractionLaws.{decimals_readable}
 use Rattle.gm_toys.specs.Wheel.{wheel, wheel_targets, wheel_sources, wheel_end, target_text}
 
 -- what holds of each of the ten numbers
@@ -158,21 +157,8 @@ wheel_lawful = record {
 
 -- the laws of texts hold
 pub wheel_readable : IsShown wheel number_text target_text
-wheel_readable = record {
-  shown_plain = λ p l. let (t, i) = wheel_legal_in p l in plain_decimal p.index (omega arith);
-  shown_fits = λ p l. let (t, i) = wheel_legal_in p l in let d = length-decimal-le 10 p.index (omega arith) (omega arith) (omega arith) in omega arith;
-  shown_once = λ p q l k e.
-      let (t, i) = wheel_legal_in p l in
-      let (u, j) = wheel_legal_in q k in
-      same_position p q (t ∙ sym u) (decimal_injective p.index q.index (omega arith) (omega arith) e);
-  move_shown_plain = λ p m l c.
-      let (low, back) = target_in p.index (wheel_legal_in p l).1 m c in
-      plain_decimal m (omega arith);
-  move_shown_fits = λ p m l c.
-      let (low, back) = target_in p.index (wheel_legal_in p l).1 m c in
-      let d = length-decimal-le 10 m (omega arith) (omega arith) (omega arith) in omega arith;
-  move_shown_once = λ p m n l c d e.
-      let (low, back) = target_in p.index (wheel_legal_in p l).1 m c in
-      let (under, there) = target_in p.index (wheel_legal_in p l).1 n d in
-      decimal_injective m n (omega arith) (omega arith) e;
-}
+wheel_readable =
+    decimals_readable wheel (λ p. p.index)
+    (λ p l. let (t, i) = wheel_legal_in p l in omega arith)
+    (λ p q l k e. same_position p q ((wheel_legal_in p l).0 ∙ sym (wheel_legal_in q k).0) e)
+    (λ p m l c. let (low, back) = target_in p.index (wheel_legal_in p l).1 m c in omega arith)

@@ -1,52 +1,41 @@
-use Rattle.std.proofs.Common.{◌≡◌, ◌≤◌, ◌^◌, ◌<◌, ◌↔◌, ℕ, List, min, Option, Some, None, sym, subst, ◌∙◌, arith}
+use Rattle.std.proofs.Common.{◌≡◌, ◌<◌, ◌↔◌, ◌∙◌, ℕ, List, Option, Some, sym, ap, min, arith}
 use Rattle.std.specs.List.{Contains}
 use Rattle.std.specs.Fmt.{decimal}
 use Rattle.gm_toys.specs.Subtraction.{moves_down}
 use Rattle.gm_toys.specs.laws.SubtractionLaws.{range_in, range_from}
+use Rattle.gm_toys.proofs.Reading.{IsReadTo}
 use Rattle.gm_toys.proofs.subtraction.read_step.Goals as goal
 
--- what is read is the number that a text is written for
-abbrev Reads : List ℕ → Option ℕ → Type 0
-Reads text read = (n : ℕ) → (read ≡ Some n) ↔ ((n < 2 ^ 64) × (decimal n ≡ text))
-
--- a step's text is read as that step
-read_of_step : (text : List ℕ) (read : Option ℕ) (most i m : ℕ) → Reads text read → i < 2 ^ 64 → Contains (moves_down most i) m × (decimal m ≡ text) →
-    (read ≡ Some m) × (1 ≤ m) × (m ≤ i) × (m ≤ most)
-read_of_step text read most i m exact fits (k, e) =
-    let (low, high) = range_in 1 (min most i) m k in
-    ((exact m).1 (omega arith, e), omega arith, omega arith, omega arith)
-
-step_when_read : (text : List ℕ) (read : Option ℕ) (most i t m : ℕ) → Reads text read → i < 2 ^ 64 → read ≡ Some t → (1 ≤ t) × (t ≤ i) × (t ≤ most)
-    → (Some t ≡ Some m) ↔ (Contains (moves_down most i) m × (decimal m ≡ text))
-step_when_read text read most i t m exact fits is (low, under, few) = (
-  λ e. (let s : t ≡ m = cc in subst (λ (x : ℕ). Contains (moves_down most i) x × (decimal x ≡ text)) s
-      (range_from 1 (min most i) t low (omega arith), ((exact t).0 is).1)),
-  λ h. sym is ∙ (read_of_step text read most i m exact fits h).0,
+-- the move with a text is the number with that text, if this is not 0
+step_read : (text : List ℕ) (read : Option ℕ) (last most i m : ℕ) → IsReadTo last text read → last ≡ min i most
+    → (Contains (moves_down most i) m × (decimal m ≡ text)) ↔ ((read ≡ Some m) × (0 < m))
+step_read text read last most i m exact e = (
+  λ (k, s). (let (low, high) = range_in 1 (min most i) m k in ((exact m).1 (omega arith, s), omega arith)),
+  λ (is, some). (let (le, same) = (exact m).0 is in (range_from 1 (min most i) m (omega arith) (omega arith), same)),
 )
 
-no_step_when_read : (text : List ℕ) (read : Option ℕ) (most i t m : ℕ) → Reads text read → i < 2 ^ 64 → read ≡ Some t → ((1 ≤ t) × (t ≤ i) × (t ≤ most) → ⊥)
-    → (None ≡ Some m) ↔ (Contains (moves_down most i) m × (decimal m ≡ text))
-no_step_when_read text read most i t m exact fits is not = (
-  λ e. absurd (cc),
-  λ h. (let (r, low, under, few) = read_of_step text read most i m exact fits h in let s : t ≡ m = cc in absurd (not (omega arith, omega arith, omega arith))),
-)
+pub overflow_cast-result : goal.overflow_cast-result
+overflow_cast-result c =
+    let (le, same) = (c.read_number.ensures c.in-Some.taken).0 c.in-Some.is in
+    let most = c.from.ensures in
+    let last = c.min.ensures in omega arith
 
-no_step_unread : (text : List ℕ) (read : Option ℕ) (most i m : ℕ) → Reads text read → i < 2 ^ 64 → read ≡ None → (None ≡ Some m) ↔
-    (Contains (moves_down most i) m × (decimal m ≡ text))
-no_step_unread text read most i m exact fits is = (
-  λ e. absurd (cc),
-  λ h. (let (r, low, under, few) = read_of_step text read most i m exact fits h in absurd (cc)),
-)
+pub returns-in-Some : goal.returns-in-Some
+returns-in-Some c m =
+    let h = step_read _ _ _ _ _ m c.read_number.ensures (c.min.ensures ∙ ap (min c.args.index) c.from.ensures) in
+    let is = c.in-Some.is in
+    let some = c.if-taken-gt0.true in (λ e. h.1 (is ∙ e, (let same : c.in-Some.taken ≡ m = cc in omega arith)), λ k. sym is ∙ (h.0 k).0)
 
-pub returns-then-is_step : goal.returns-then-is_step
-returns-then-is_step c m =
-    step_when_read c.args.text.now c.read_decimal.result c.args.most c.args.index c.in-Some.taken m c.read_decimal.ensures (omega arith) c.in-Some.is
-    (c.is_step.ensures.0 c.if-is_step.true)
+pub returns-in_default : goal.returns-in_default
+returns-in_default c m =
+    let h = step_read _ _ _ _ _ m c.read_number.ensures (c.min.ensures ∙ ap (min c.args.index) c.from.ensures) in
+    let is = c.in-Some.is in
+    let none = c.if-taken-gt0.false in (
+      λ e. absurd (cc),
+      λ k. (let (read, some) = h.0 k in let same : c.in-Some.taken ≡ m = cc in absurd (omega arith)),
+    )
 
-pub returns-else-is_step : goal.returns-else-is_step
-returns-else-is_step c m =
-    no_step_when_read c.args.text.now c.read_decimal.result c.args.most c.args.index c.in-Some.taken m c.read_decimal.ensures (omega arith) c.in-Some.is
-    (λ h. let yes = c.is_step.ensures.1 h in absurd (cc))
-
-pub returns-in-None : goal.returns-in-None
-returns-in-None c m = no_step_unread c.args.text.now c.read_decimal.result c.args.most c.args.index m c.read_decimal.ensures (omega arith) c.in-None.is
+pub returns-in_default-2 : goal.returns-in_default-2
+returns-in_default-2 c m =
+    let h = step_read _ _ _ _ _ m c.read_number.ensures (c.min.ensures ∙ ap (min c.args.index) c.from.ensures) in
+    let none = c.in_default.is in (λ e. absurd (cc), λ k. (let (read, some) = h.0 k in absurd (cc)))

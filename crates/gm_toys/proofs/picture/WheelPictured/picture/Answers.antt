@@ -1,4 +1,4 @@
-use Rattle.std.proofs.Common.{refl}
+use Rattle.std.proofs.Common.{rules}
 use Rattle.std.specs.Fmt.{digits}
 use Rattle.gm_toys.specs.Pictures.{wheel_picture}
 use Rattle.gm_draw.specs.Points.{number_points}
@@ -6,12 +6,4 @@ use Rattle.gm_toys.proofs.picture.WheelPictured.picture.Goals as goal
 
 pub returns : goal.returns
 unfolding wheel_picture number_points digits
-returns c = record {
-  title = refl;
-  style = refl;
-  board = refl;
-  rows = refl;
-  points = refl;
-  mover = λ p. refl;
-  naming = refl;
-}
+returns c = search rules
