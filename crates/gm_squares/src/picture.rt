@@ -40,6 +40,7 @@ impl<const QUEEN: bool> PicturedMoves for ChessRules<QUEEN> {
 
     ghost pictured = { chess_pictured QUEEN };
 
+    #[tactic(auto, using(crate::specs::laws::MenPictured::chess_named), unfolding(crate::specs::Pictures::chess_picture))]
     fn picture() -> Picture {
         Picture {
             title: title(QUEEN),
@@ -62,6 +63,7 @@ impl PicturedMoves for FoxRules {
 
     ghost pictured = { foxhounds_pictured };
 
+    #[tactic(auto, using(crate::specs::laws::ChasePictured::foxhounds_named), unfolding(crate::specs::Pictures::foxhounds_picture))]
     fn picture() -> Picture {
         Picture {
             title: b"Fox and Hounds",

@@ -38,16 +38,16 @@ beside_table = refl
 beside_at : (x d s : ℕ) → x < 8 → d < 9 → s < 65 → keeps_beside x d s ≡ true
 beside_at x d s l k h = at_each 9 65 (keeps_beside x) (at_below 8 (λ x. at_all 9 65 (keeps_beside x)) beside_table x l) d s k h
 
--- a symmetry keeps squares on the board
-abbrev stays : ℕ → ℕ → Bool
-stays x s = ltb (image_square x s) 64
-
-stays_table : at_all 8 64 stays ≡ true
+-- an image is on the board if and only if the square is
+board_table : at_all 8 65 (λ x s. agree (ltb (image_square x s) 64) (ltb s 64)) ≡ true
 unfolding image_square
-stays_table = refl
+board_table = refl
+
+pub image_on_board : (x s : ℕ) → x < 8 → s ≤ 64 → ltb (image_square x s) 64 ≡ ltb s 64
+image_on_board x s l b = agree_same _ _ (at_each 8 65 (λ x s. agree (ltb (image_square x s) 64) (ltb s 64)) board_table x s l (omega (arith, b)))
 
 pub image_below : (x s : ℕ) → x < 8 → s < 64 → image_square x s < 64
-image_below x s l h = ltb-true _ _ (at_each 8 64 stays stays_table x s l h)
+image_below x s l h = ltb-true _ _ (image_on_board x s l (omega (arith, h)) ∙ lt-ltb s 64 h)
 
 -- each symmetry has an inverse, and the product of two symmetries is a symmetry
 abbrev same_after : ℕ → ℕ → ℕ → Bool
@@ -95,12 +95,6 @@ pub image_taken : (x : ℕ) → image_square x 64 ≡ 64
 unfolding image_square
 image_taken x = refl
 
-pub image_small : (x s : ℕ) → x < 8 → s ≤ 64 → image_square x s ≤ 64
-image_small x s l b = elim (cases_Bool (eqb s 64)) [
-  | inl e ↦ (let t = ap (image_square x) (eqb-true s 64 e) ∙ image_taken x in omega (arith, t))
-  | inr e ↦ (let t = image_below x s l (grind (arith, e, b)) in omega (arith, t))
-]
-
 -- images are equal if and only if the squares are
 pub image_same : (x a c : ℕ) → x < 8 → a ≤ 64 → c ≤ 64 → eqb (image_square x a) (image_square x c) ≡ eqb a c
 image_same x a c l h k =
@@ -108,13 +102,6 @@ image_same x a c l h k =
     same_tests _ _
     (λ e. eq-eqb a c (sym (y.2 a h) ∙ ap (image_square y.0) (eqb-true _ _ e) ∙ y.2 c k))
     (λ e. eq-eqb _ _ (ap (image_square x) (eqb-true a c e)))
-
--- an image is on the board if and only if the square is
-pub image_on_board : (x s : ℕ) → x < 8 → s ≤ 64 → ltb (image_square x s) 64 ≡ ltb s 64
-image_on_board x s l b = elim (cases_Bool (eqb s 64)) [
-  | inl e ↦ (let i = eqb-true s 64 e in rw i (ap (λ (t : ℕ). ltb t 64) (image_taken x)))
-  | inr e ↦ (let h : s < 64 = grind (arith, e, b) in lt-ltb _ _ (image_below x s l h) ∙ sym (lt-ltb s 64 h))
-]
 
 -- ---- ways
 abbrev is_way_kept : List ℕ → ℕ → ℕ → Bool

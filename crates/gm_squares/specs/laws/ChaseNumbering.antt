@@ -1,19 +1,18 @@
 -- The indexes of boards are one to one.
 use Rattle.std.specs.Prelude.{◌≡◌, ◌/◌, ◌%◌, ◌^◌, ◌<◌, ◌≤◌, if◌then◌else◌}
-use Rattle.gm_pieces.specs.Common.{ℕ, Bool, true, false, eqb, refl, sym, ap, ◌∙◌, subst, arith, nat_tests, inl, inr, cases_Bool, cases_eq, true≢false, pow-lt, w32}
-use Rattle.gm_pieces.specs.Common.{count_ones, bit_and, has_cell, trailing_zeros, HasPieces, arrangement_pieces, index_of_masks, mine_again, theirs_again}
-use Rattle.gm_pieces.specs.Common.{mine_mask, their_mask, IsNumbered, board_game, bit_at-pow_same, bit_at-pow_other, bit_at-zero}
+use Rattle.gm_pieces.specs.Common.{ℕ, Bool, true, false, eqb, refl, sym, ap, ◌∙◌, subst, arith, nat_tests, inl, inr, cases_Bool, cases_eq, pow-lt, w32}
+use Rattle.gm_pieces.specs.Common.{count_ones, bit_and, trailing_zeros, HasPieces, arrangement_pieces, index_of_masks, mine_again, theirs_again}
+use Rattle.gm_pieces.specs.Common.{mine_mask, their_mask, IsNumbered, board_game, bit_at-pow_other, bit_at-zero}
 unfoldable use Rattle.gm_pieces.specs.Common.{arrangement_index, arrangements, binomial}
 use Rattle.std.specs.Int.Count.{ones}
 use Rattle.std.proofs.lemmas.Nat.{and_comm, one_shl, zero_from_ones}
 use Rattle.gm_board.specs.Pieces.{cells_of}
 use Rattle.gm_board.specs.laws.MaskChanges.{with_apart}
-use Rattle.gm_board.specs.laws.NextCells.{cell_one}
-use Rattle.gm_board.specs.laws.Pieces.{apart_below, pieces_index_below}
+use Rattle.gm_board.specs.laws.Pieces.{pieces_index_below}
 use Rattle.gm_squares.specs.declared.chase.Chase.{Chase}
 use Rattle.gm_squares.specs.FoxHounds.{fox_and_hounds, start, legal, index, board, toggled}
 use Rattle.gm_squares.specs.laws.MaskFacts.{added, toggled_twice, lowest}
-use Rattle.gm_squares.specs.laws.ChaseFacts.{legal_in, legal_from, same_chase}
+use Rattle.gm_squares.specs.laws.ChaseFacts.{legal_in, same_chase}
 
 -- ---- the mask of the fox's square
 one_counted : (f : ℕ) → f < 32 → count_ones (2 ^ f) ≡ 1
@@ -100,20 +99,6 @@ module _ (i : ℕ) (l : i < 2013760) where
 
   fox_square : (trailing_zeros w32 fox < 32) × (2 ^ trailing_zeros w32 fox ≡ fox)
   fox_square = one_mask fox pieces.theirs_within pieces.their_number
-
-  pub board_legal : legal (board i) ≡ true
-  unfolding board
-  board_legal = legal_from (board i) (record {
-    within = pieces.mine_within;
-    four = pieces.mine_number;
-    fox = fox_square.0;
-    apart = elim (cases_Bool (has_cell hounds (trailing_zeros w32 fox))) [
-      | inl e ↦ absurd (true≢false (sym (ap (λ (m : ℕ). has_cell m (trailing_zeros w32 fox)) (sym fox_square.1)
-          ∙ cell_one (2 ^ trailing_zeros w32 fox) (trailing_zeros w32 fox) (bit_at-pow_same (trailing_zeros w32 fox)))
-          ∙ apart_below 32 hounds fox pieces.apart (trailing_zeros w32 fox) fox_square.0 e))
-      | inr e ↦ e
-    ];
-  })
 
   index_back : index (board i) ≡ i
   unfolding board index

@@ -103,21 +103,15 @@ any_square (suc n) m a j =
 any_hound : (b : Chase) → IsLegal b → (j : ℕ) → any_on (dark j) (squares_of 4 b.hounds) ≡ has_cell b.hounds j
 any_hound b h j = any_square 4 b.hounds (hounds_of b h) j
 
-fox_on : (x y z : Bool) → man_by x y ≡ man_by true z → x ≡ true
-fox_on true y z e = refl
-fox_on false true z e = absurd (omega (arith, e))
-fox_on false false z e = absurd (omega (arith, e))
+fox_told : (x y : Bool) → eqb (man_by x y) 102 ≡ x
+fox_told true y = refl
+fox_told false true = refl
+fox_told false false = refl
 
-hound_on : (x y z w : Bool) → man_by x y ≡ man_by z w → (x ≡ true → y ≡ false) → (z ≡ true → w ≡ false) → y ≡ w
-hound_on true y true w e h i = h refl ∙ sym (i refl)
-hound_on true y false true e h i = absurd (omega (arith, e))
-hound_on true y false false e h i = absurd (omega (arith, e))
-hound_on false true true w e h i = absurd (omega (arith, e))
-hound_on false false true w e h i = absurd (omega (arith, e))
-hound_on false true false true e h i = refl
-hound_on false true false false e h i = absurd (omega (arith, e))
-hound_on false false false true e h i = absurd (omega (arith, e))
-hound_on false false false false e h i = refl
+hound_told : (x y : Bool) → (x ≡ true → y ≡ false) → eqb (man_by x y) 104 ≡ y
+hound_told true y h = sym (h refl)
+hound_told false true h = refl
+hound_told false false h = refl
 
 abbrev AreSame : Chase → Chase → Type 0
 AreSame b c = (s : ℕ) → s < 64 → man_of_board b s ≡ man_of_board c s
@@ -125,21 +119,15 @@ AreSame b c = (s : ℕ) → s < 64 → man_of_board b s ≡ man_of_board c s
 same_fox : (b c : Chase) → IsLegal b → AreSame b c → b.fox ≡ c.fox
 same_fox b c h same =
     let s = dark b.fox in
-    let e = same s (dark_below b.fox h.fox) in
-    let own : eqb s (dark b.fox) ≡ true = eq-eqb s s refl in
-    let f = subst (λ (x : Bool). man_by x (any_on s (squares_of 4 b.hounds)) ≡ man_of_board c s) own e in
-    dark_once b.fox c.fox (eqb-true _ _ (fox_on (eqb s (dark c.fox)) (any_on s (squares_of 4 c.hounds)) (any_on s (squares_of 4 b.hounds)) (sym f)))
+    dark_once b.fox c.fox (eqb-true _ _ (sym (fox_told _ _) ∙ ap (λ (m : ℕ). eqb m 102) (sym (same s (dark_below b.fox h.fox))) ∙ fox_told _ _ ∙ eq-eqb s s refl))
 
--- no hound is on the fox's square
-no_hound : (b : Chase) → IsLegal b → (j : ℕ) → j < 32 → eqb (dark j) (dark b.fox) ≡ true → any_on (dark j) (squares_of 4 b.hounds) ≡ false
-no_hound b h j l e = any_hound b h j ∙ ap (has_cell b.hounds) (dark_once j b.fox (eqb-true _ _ e)) ∙ h.apart
+-- a square of the board with a hound's byte has a hound, since none is on the fox's square
+hound_at : (b : Chase) → IsLegal b → (j : ℕ) → eqb (man_of_board b (dark j)) 104 ≡ has_cell b.hounds j
+hound_at b h j =
+    hound_told _ _ (λ e. any_hound b h j ∙ ap (has_cell b.hounds) (dark_once j b.fox (eqb-true _ _ e)) ∙ h.apart) ∙ any_hound b h j
 
 same_hound : (b c : Chase) → IsLegal b → IsLegal c → AreSame b c → (j : ℕ) → j < 32 → has_cell b.hounds j ≡ has_cell c.hounds j
-same_hound b c h i same j l =
-    sym (any_hound b h j)
-    ∙ hound_on (eqb (dark j) (dark b.fox)) (any_on (dark j) (squares_of 4 b.hounds)) (eqb (dark j) (dark c.fox)) (any_on (dark j) (squares_of 4 c.hounds))
-    (same (dark j) (dark_below j l)) (no_hound b h j l) (no_hound c i j l)
-    ∙ any_hound c i j
+same_hound b c h i same j l = sym (hound_at b h j) ∙ ap (λ (m : ℕ). eqb m 104) (same (dark j) (dark_below j l)) ∙ hound_at c i j
 
 same_bit : (m n k : ℕ) → has_cell m k ≡ has_cell n k → bit_at m k ≡ bit_at n k
 same_bit m n k e =
