@@ -1,8 +1,11 @@
 -- What reading a number says of positions.
-use Rattle.std.proofs.Common.{◌≡◌, ◌≤◌, ◌↔◌, ℕ, List, Option, Some, true, subst, ap, ◌∙◌}
+use Rattle.std.proofs.Common.{◌≡◌, ◌≤◌, ◌↔◌, ℕ, List, Option, Some, true, refl, sym, subst, ap, ◌∙◌, arith}
 use Rattle.std.specs.Fmt.{decimal}
 use Rattle.gm_game.specs.declared.position.Position.{Position}
-use Rattle.gm_game.specs.Rules.{Rules}
+use Rattle.gm_game.specs.Rules.{Rules, at}
+use Rattle.gm_game.proofs.SetLemmas.{same_position}
+use Rattle.gm_toys.specs.Subtraction.{subtraction}
+use Rattle.gm_toys.specs.laws.SubtractionLaws.{legal_in, legal_from}
 
 -- the number up to the last with this text has been read
 abbrev pub IsReadTo : ℕ → List ℕ → Option ℕ → Type 0
@@ -22,3 +25,11 @@ position_read r f at_number last text read i exact is into from p =
           let e : i ≡ f p = cc in
           ap Some (ap at_number e ∙ back)),
     )
+
+-- in a subtraction game, that of its one tier
+pub number_read : (name : List ℕ) (most n last : ℕ) (text : List ℕ) (read : Option ℕ) (i : ℕ) → last ≡ n → IsReadTo last text read → read ≡ Some i
+    → (p : Position) → (Some (at 0 i) ≡ Some p) ↔ (((subtraction name most n).is_legal p ≡ true) × (decimal p.index ≡ text))
+number_read name most n last text read i same exact is =
+    position_read (subtraction name most n) (λ p. p.index) (at 0) last text read i exact is
+    (λ k l. (legal_from name most n 0 k refl (omega arith), refl))
+    (λ q l. let (t, le) = legal_in name most n q l in (omega arith, same_position (at 0 q.index) q (sym t) refl))

@@ -1,42 +1,122 @@
-//! Countdown: a number that goes down by one or two.
-ghost use Rattle.std.specs.Prelude.{◌≡◌, refl};
+//! Countdown and Chain: a number that goes down by one or two, or by one.
+ghost use Rattle.std.specs.Prelude.{◌≡◌, ◌≤◌};
 ghost use Rattle.std.proofs.Common.{rules};
 ghost use Rattle.gm_toys.specs.Subtraction.{number_text, step_text};
-ghost use Rattle.gm_toys.specs.laws.SubtractionLaws.{subtraction_lawful, subtraction_readable};
-ghost use Rattle.gm_toys.specs.Countdown.{countdown, countdown_name};
+ghost use Rattle.gm_toys.specs.laws.SubtractionLaws.{subtraction_readable};
+ghost use Rattle.gm_toys.specs.Countdown.{countdown};
+ghost use Rattle.gm_toys.specs.laws.DownLaws.{name_of, most_of, counts_down, down_lawful};
 
-use crate::subtraction::{Subtraction, SubtractionRules};
+use crate::subtraction::{moves_down, numbers_above, read_number, read_step, show_number};
+use arrayvec::ArrayVec;
 use gm_game::game::Game;
-use gm_game::limits::NAME;
-use gm_game::shown::Shown;
+use gm_game::limits::{CHILD_TIERS, MOVES, NAME, PARENTS};
+use gm_game::position::{End, Position};
+use gm_game::shown::{Line, Shown};
 
-/// The rules of Countdown from `N`.
+/// Counts down from `N` by one or two, or by one without `TWO`; the player to move at zero has lost. The rules are in docs/GAMES.md.
 #[derive(Drop)]
-pub struct CountdownRules<const N: u32>;
+pub struct CountsDown<const TWO: bool, const N: u32>;
 
-/// Counts down from `N` by one or two; the player to move at zero has lost. The rules are in docs/GAMES.md.
-pub type Countdown<const N: u32> = Subtraction<CountdownRules<N>>;
+/// Counts down from `N` by one or two.
+pub type Countdown<const N: u32> = CountsDown<true, N>;
 
-impl<const N: u32> SubtractionRules for CountdownRules<N> {
-    ghost title = { countdown_name };
+// Returns how many may be taken at a time.
+fn most(two: bool) -> u32
+    ensures value { result ≡ most_of two }
+    ensures few { result ≤ 2 }
+{
+    if two { 2 } else { 1 }
+}
 
-    ghost START = { N };
+impl<const TWO: bool, const N: u32> Game for CountsDown<TWO, N> {
+    ghost rules = { counts_down TWO N };
 
-    ghost MOST = { 2 };
-
-    const START: u32 = N;
-
-    const MOST: u32 = 2;
+    ghost lawful = { down_lawful TWO N (Prim.search rules) };
 
     fn name() -> [u8; NAME] {
-        *b"countdown\0\0\0\0\0\0\0"
+        if TWO {
+            *b"countdown\0\0\0\0\0\0\0"
+        } else {
+            *b"chain\0\0\0\0\0\0\0\0\0\0\0"
+        }
     }
 
-    ghost few = { Prim.search rules };
+    fn initial() -> Position {
+        Position {
+            tier: 0,
+            index: u64::from(N),
+        }
+    }
 
-    ghost lawful = { subtraction_lawful countdown_name 2 N refl refl (Prim.search rules) (Prim.search rules) (Prim.search rules) };
+    fn tier_size(tier: u64) -> u64 {
+        if tier == 0 { u64::from(N) + 1 } else { 0 }
+    }
 
-    ghost readable = { subtraction_readable countdown_name 2 N (Prim.search rules) };
+    fn is_legal(p: Position) -> bool {
+        p.tier == 0 && p.index <= u64::from(N)
+    }
+
+    fn primitive(p: Position) -> Option<End> {
+        if p.index == 0 { Some(End::Lose) } else { None }
+    }
+
+    fn moves(p: Position) -> ArrayVec<u32, MOVES> {
+        moves_down(most(TWO), p.index)
+    }
+
+    fn play(p: Position, m: u32) -> Position {
+        Position {
+            tier: p.tier,
+            index: p.index - u64::from(m),
+        }
+    }
+
+    fn canonical(p: Position) -> Position {
+        p
+    }
+
+    fn parents(c: Position, tier: u64) -> ArrayVec<u64, PARENTS> {
+        if tier == 0 {
+            numbers_above(most(TWO), u64::from(N), c.index)
+        } else {
+            ArrayVec::new()
+        }
+    }
+
+    fn child_tiers(_tier: u64) -> ArrayVec<u64, CHILD_TIERS> {
+        ArrayVec::new()
+    }
+
+    fn tier_rank(_tier: u64) -> u64 {
+        0
+    }
+}
+
+impl<const TWO: bool, const N: u32> Shown for CountsDown<TWO, N> {
+    ghost shown = { number_text };
+
+    ghost move_shown = { step_text };
+
+    ghost readable = { subtraction_readable (name_of TWO) (most_of TWO) N (Prim.search rules) };
+
+    fn show(p: Position) -> Line {
+        show_number(p.index)
+    }
+
+    fn read(text: &[u8]) -> Option<Position> {
+        match read_number(u64::from(N), text) {
+            Some(index) => Some(Position { tier: 0, index }),
+            None => None,
+        }
+    }
+
+    fn move_text(_p: Position, m: u32) -> Line {
+        show_number(u64::from(m))
+    }
+
+    fn read_move(p: Position, text: &[u8]) -> Option<u32> {
+        read_step(most(TWO), p.index, text)
+    }
 }
 
 /// Countdown's rules and texts are those that `specs/` states.

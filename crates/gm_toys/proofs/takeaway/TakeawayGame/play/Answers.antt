@@ -1,0 +1,6 @@
+use Rattle.std.proofs.Common.{arith}
+use Rattle.gm_toys.specs.laws.SubtractionLaws.{range_in}
+use Rattle.gm_toys.proofs.takeaway.TakeawayGame.play.Goals as goal
+
+pub overflow_sub-result : goal.overflow_sub-result
+overflow_sub-result c = let (low, high) = range_in 1 _ c.args.m c.requires.listed in omega arith
