@@ -12,10 +12,6 @@ cell_text Mine = 120
 cell_text Theirs = 111
 cell_text Empty = 46
 
--- the cell that a byte stands for
-abbrev pub read_cell : ℕ → Cell
-read_cell t = if t == 120 then Mine else (if t == 111 then Theirs else Empty)
-
 -- the text of a board: its points in order
 unfoldable pub board_text : List Cell → List ℕ
 board_text b = map cell_text b

@@ -7,6 +7,7 @@ pub mod least;
 pub mod moves;
 pub mod on_ways;
 pub mod picture;
+pub mod ring;
 pub mod rules;
 pub mod shisima;
 pub mod tapatan;
