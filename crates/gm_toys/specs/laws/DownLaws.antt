@@ -7,9 +7,11 @@ use Rattle.gm_toys.specs.Countdown.{countdown_name}
 use Rattle.gm_toys.specs.Chain.{chain_name}
 use Rattle.gm_toys.specs.laws.SubtractionLaws.{subtraction_lawful}
 
+-- the name of Countdown, or of Chain
 abbrev pub name_of : Bool → List ℕ
 name_of two = if two then countdown_name else chain_name
 
+-- the most that may be taken at a time
 abbrev pub most_of : Bool → ℕ
 most_of two = if two then 2 else 1
 
