@@ -1,11 +1,7 @@
 -- A property of each element of a list that a loop visits.
 use Rattle.gm_page.proofs.Lower.{ℕ, ◌+◌, ◌<◌, ◌≤◌, List, length, take, get_or, sym, subst, inl, inr, Contains, take_more, take_all, Contains-push_cases}
-use Rattle.gm_page.proofs.Lower.{contains_none}
 
 module _ {X : Type 0} (P : X → Type 0) where
-  pub each_none : (xs : List X) (x : X) → Contains (take 0 xs) x → P x
-  each_none xs x c = absurd (contains_none x c)
-
   pub each_next : (xs : List X) (i : ℕ) (d : X) → i < length xs → ((x : X) → Contains (take i xs) x → P x) → P (get_or xs i d) → (x : X) → Contains
       (take (i + 1) xs) x → P x
   each_next xs i d l h here x c = elim (Contains-push_cases (take i xs) (get_or xs i d) x (subst (λ (ys : List X). Contains ys x) (take_more xs i d l) c)) [

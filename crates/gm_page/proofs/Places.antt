@@ -34,9 +34,6 @@ place_out n (q ∷ qs) p e c = elim (cases_Bool (is_same p q)) [
   ]
 ]
 
-pub no_place : (ps : List Position) (p : Position) → place_of ps p ≡ None → Contains ps p → ⊥
-no_place ps p e c = place_out 0 ps p e c
-
 option_cases : (o : Option ℕ) → ((k : ℕ) × (o ≡ Some k)) ⊎ (o ≡ None)
 option_cases None = inr refl
 option_cases (Some k) = inl (k, refl)

@@ -227,11 +227,6 @@ abbrev pub IsGoneThrough : Rules → Position → ℕ → ℕ → List Position 
 IsGoneThrough r start limit k all = (line : BestLine) × IsBestLine r start (limit - 1) line × IsListedAfter r limit line.positions.items k all
 
 module _ (r : Rules) (start : Position) (limit : ℕ) where
-  -- at first no position has been processed
-  pub none_through : (all : List Position) → ((line : BestLine) × IsBestLine r start (limit - 1) line × (all ≡ with_all limit [] line.positions.items)) →
-      IsGoneThrough r start limit 0 all
-  none_through all h = h
-
   -- one more position has been processed
   pub more_through : (k : ℕ) (old new : List Position) (p : Position) → IsGoneThrough r start limit k old → slice_get old k ≡ Some p
       → ((xs : List MoveValue) × AreMoveValues r p xs × (new ≡ with_all limit old (map result_of xs))) → IsGoneThrough r start limit (k + 1) new

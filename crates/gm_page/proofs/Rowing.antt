@@ -19,9 +19,6 @@ pub record IsGrouped (tree : Group → Data) (moves rest : List MoveValue) (old 
   pub goes : (gs : List Group) → AreGroups rest gs → AreGroups moves (done ++ gs)
 
 module _ (tree : Group → Data) (moves : List MoveValue) (old : List Data) where
-  pub none_grouped : IsGrouped tree moves moves old old
-  none_grouped = record { done = []; cells = sym (append-nil old); goes = λ gs h. h }
-
   -- one more group
   pub more_grouped : (g : Group) (rest others : List MoveValue) (now new : List Data) → IsGrouped tree moves rest old now → rest ≡ g.moves ++ others → IsRun
       g others → new ≡ now ++ tree g ∷ []
@@ -112,16 +109,7 @@ pub head_without : (name : List ℕ) (picture : PictureSpec) (start : List ℕ) 
 head_without name picture start whole = rw (texts_without picture.points) refl
 
 -- ---- lists that grow by one element
--- the trees of some things, and of one more
-pub trees_more : {X : Type 0} (cells : X → List Data) (xs : List X) (i : ℕ) (d : X) (base old new : List Data) → i < length xs → old ≡ base ++ flat_map
-    cells (take i xs)
-    → new ≡ old ++ cells (get_or xs i d) → new ≡ base ++ flat_map cells (take (i + 1) xs)
-trees_more {X} cells xs i d base old new l o n =
-    let x = get_or xs i d in
-    let more : flat_map cells (take (i + 1) xs) ≡ flat_map cells (take i xs) ++ cells x = ap (flat_map cells) (take_more xs i d l) ∙ flat_map-append cells
-    (take i xs) (x ∷ []) ∙ ap (λ (t : List Data). flat_map cells (take i xs) ++ t) (append-nil (cells x)) in
-    n ∙ ap (λ (t : List Data). t ++ cells x) o ∙ append_assoc base (flat_map cells (take i xs)) (cells x) ∙ ap (λ (t : List Data). base ++ t) (sym more)
-
+-- the trees of all of some things
 pub trees_all : {X : Type 0} (cells : X → List Data) (xs : List X) (i : ℕ) (base old : List Data) → length xs ≤ i → old ≡ base ++ flat_map cells (take i xs)
     → old ≡ base ++ flat_map cells xs
 trees_all cells xs i base old l o = o ∙ ap (λ t. base ++ flat_map cells t) (take_all i xs l)
@@ -156,9 +144,6 @@ module _ (r : Rules) (shown : Position → List ℕ) (move_shown : Position → 
     pub are_rows : AreRows r shown move_shown all ps rows
     pub lines : now ≡ old ++ flat_map line rows
 
-  pub no_rows : (line : Data → List ℕ) (old : List ℕ) → HasRows line [] old old
-  no_rows line old = record { rows = []; are_rows = tt; lines = sym (append-nil old) }
-
   pub more_rows : (line : Data → List ℕ) (ps : List Position) (i : ℕ) (d : Position) (old now new : List ℕ) → i < length ps → HasRows line (take i ps) old now
       → ((tree : Data) × IsRow r shown move_shown all (get_or ps i d) tree × (new ≡ now ++ line tree)) → HasRows line (take (i + 1) ps) old new
   more_rows line ps i d old now new l h (tree, is, n) = record {
@@ -169,7 +154,3 @@ module _ (r : Rules) (shown : Position → List ℕ) (move_shown : Position → 
         ∙ ap (λ (t : List ℕ). old ++ t) (ap (λ (t : List ℕ). flat_map line h.rows ++ t) (sym (append-nil (line tree))) ∙ sym
         (flat_map-append line h.rows (tree ∷ [])));
   }
-
-  pub all_rows : (line : Data → List ℕ) (ps : List Position) (i : ℕ) (old now : List ℕ) → length ps ≤ i → HasRows line (take i ps) old now
-      → (rows : List Data) × AreRows r shown move_shown all ps rows × (now ≡ old ++ flat_map line rows)
-  all_rows line ps i old now l h = (h.rows, subst (λ (qs : List Position). AreRows r shown move_shown all qs h.rows) (take_all i ps l) h.are_rows, h.lines)

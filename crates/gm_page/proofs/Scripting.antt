@@ -1,6 +1,6 @@
 -- Texts that open no tag.
-use Rattle.gm_page.proofs.Lower.{◌≡◌, ℕ, ◌+◌, ◌<◌, ◌≤◌, true, eqb, not, List, [], ◌∷◌, ◌++◌, length, take, get_or, refl, ap, sym, ◌∙◌, inl, inr, flat_map}
-use Rattle.gm_page.proofs.Lower.{list_all, cases_Bool, cond-true, cond-false, and_from, flat_map-append, append_assoc, append-nil, take_more, take_all}
+use Rattle.gm_page.proofs.Lower.{◌≡◌, ℕ, true, eqb, not, List, [], ◌∷◌, refl, ap, ◌∙◌, inl, inr, flat_map}
+use Rattle.gm_page.proofs.Lower.{list_all, cases_Bool, cond-true, cond-false, and_from}
 use Rattle.gm_page.proofs.Lower.{list_all-append, Data, opens_none, script_byte, script_line}
 use Rattle.gm_json.specs.Words.{line_of}
 use Rattle.gm_page.specs.Pages.{script_lines}
@@ -20,22 +20,6 @@ bytes_open_none (x ∷ xs) = list_all-append opens_none (script_byte x) (flat_ma
 pub text_opens_none : (xs : List ℕ) → list_all opens_none (script_text xs) ≡ true
 unfolding script_text
 text_opens_none xs = bytes_open_none xs
-
--- one more byte of a text, and all of them
-pub script_next : (xs : List ℕ) (i : ℕ) (base cur new : List ℕ) → i < length xs → cur ≡ base ++ flat_map script_byte (take i xs) → new ≡ cur ++ script_byte
-    (get_or xs i 0)
-    → new ≡ base ++ flat_map script_byte (take (i + 1) xs)
-script_next xs i base cur new l e n =
-    let x = get_or xs i 0 in
-    let f : ℕ → List ℕ = script_byte in
-    let one : flat_map f (x ∷ []) ≡ f x = append-nil (f x) in
-    let more : flat_map f (take (i + 1) xs) ≡ flat_map f (take i xs) ++ f x = ap (flat_map f) (take_more xs i 0 l) ∙ flat_map-append f (take i xs) (x ∷ [])
-    ∙ ap (λ (t : List ℕ). flat_map f (take i xs) ++ t) one in
-    n ∙ ap (λ (t : List ℕ). t ++ f x) e ∙ append_assoc base (flat_map f (take i xs)) (f x) ∙ ap (λ (t : List ℕ). base ++ t) (sym more)
-
-pub script_all : (xs : List ℕ) (i : ℕ) (base cur : List ℕ) → length xs ≤ i → cur ≡ base ++ flat_map script_byte (take i xs) → cur ≡ base ++ script_text xs
-unfolding script_text
-script_all xs i base cur l e = e ∙ ap (λ (t : List ℕ). base ++ flat_map script_byte t) (take_all i xs l)
 
 -- no byte of the lines of a page opens a tag
 pub lines_open_none : (head : Data) (rows : List Data) → list_all opens_none (script_lines head rows) ≡ true

@@ -1,6 +1,6 @@
 -- Sheets: entries one by one, and solutions move by move.
-use Rattle.gm_page.proofs.Lower.{◌≡◌, ℕ, ◌+◌, ◌<◌, ◌≤◌, true, false, List, [], ◌∷◌, ◌++◌, length, take, get_or, refl, sym, ap, subst, ◌∙◌, arith, codes}
-use Rattle.gm_page.proofs.Lower.{flat_map, flat_map-append, append_assoc, append-nil, take_more, take_all, Position, Rules, Found, PictureSpec, Entry, entry_text}
+use Rattle.gm_page.proofs.Lower.{◌≡◌, ℕ, ◌+◌, ◌<◌, List, [], ◌∷◌, ◌++◌, length, take, get_or, sym, ap, subst, ◌∙◌, codes}
+use Rattle.gm_page.proofs.Lower.{flat_map, flat_map-append, append_assoc, append-nil, take_more, Position, Rules, Found, PictureSpec, Entry, entry_text}
 use Rattle.gm_page.proofs.Lower.{answer_text, IsEntry, AreEntries, steps_text}
 use Rattle.std.proofs.Common.{Result, Ok, Err}
 use Rattle.std.specs.Prelude.{OnOk}
@@ -46,9 +46,6 @@ module _ (r : Rules) (shown : Position → List ℕ) (move_shown : Position → 
     pub entries : now ≡ old ++ flat_map entry_text list
     pub answers_are : answers ≡ old_answers ++ flat_map answer_text list
 
-  pub no_entries : (old old_answers : List ℕ) → HasEntries [] old old old_answers old_answers
-  no_entries old old_answers = record { list = []; are_entries = tt; entries = sym (append-nil old); answers_are = sym (append-nil old_answers) }
-
   one_more : (f : Entry → List ℕ) (es : List Entry) (e : Entry) (old now new : List ℕ) → now ≡ old ++ flat_map f es → new ≡ now ++ f e → new ≡ old ++
       flat_map f (es ++ e ∷ [])
   one_more f es e old now new h n =
@@ -67,12 +64,3 @@ module _ (r : Rules) (shown : Position → List ℕ) (move_shown : Position → 
     entries = one_more entry_text h.list e old now new h.entries n;
     answers_are = one_more answer_text h.list e old_answers answers more h.answers_are m;
   }
-
-  pub all_entries : (xs : List Found) (i : ℕ) (old now old_answers answers : List ℕ) → length xs ≤ i → HasEntries (take i xs) old now old_answers answers
-      → (es : List Entry) × All xs es × (now ≡ old ++ flat_map entry_text es) × (answers ≡ old_answers ++ flat_map answer_text es)
-  all_entries xs i old now old_answers answers l h = (
-    h.list,
-    subst (λ (ys : List Found). All ys h.list) (take_all i xs l) h.are_entries,
-    h.entries,
-    h.answers_are,
-  )

@@ -1,6 +1,6 @@
 -- Sheets: diagrams of found positions, with their solutions.
 use Rattle.std.specs.Prelude.{◌≡◌, ◌==◌, ℕ, Bool, true, List, [], ◌∷◌, ◌++◌, codes, if◌then◌else◌, Option, None, Some}
-use Rattle.gm_page.specs.Lower.{Contains, flat_map, Position, Rules, BestLine, IsBestLine, IsFound, PictureSpec, escaped}
+use Rattle.gm_page.specs.Lower.{flat_map, Position, Rules, BestLine, IsBestLine, IsFound, PictureSpec, escaped}
 use Rattle.std.specs.Fmt.{decimal}
 use Rattle.gm_table.specs.Tables.{TableData}
 use Rattle.gm_play.specs.declared.best_line.LineEnd.{LineEnd}

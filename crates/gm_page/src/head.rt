@@ -104,8 +104,9 @@ fn sides_value(alloc: Global, style: Style) -> Result<Json, AllocError>
     ensures { IfOk result (λ v. view v ≡ sides_tree style) }
 {
     let mut cells = Vec::new(alloc);
-    push(&mut cells, word_value(alloc, first(style))?)?;
-    push(&mut cells, word_value(alloc, second(style))?)?;
+    let (first, second) = sides(style);
+    push(&mut cells, word_value(alloc, first)?)?;
+    push(&mut cells, word_value(alloc, second)?)?;
     Ok(Json::Array(cells))
 }
 
@@ -123,31 +124,18 @@ fn men(style: Style) -> &'static str
     }
 }
 
-// Returns the name of the side that begins.
-fn first(style: Style) -> &'static str
-    ensures { result.now ≡ first_side style }
+// Returns the name of the side that begins, and that of the other side.
+fn sides(style: Style) -> (&'static str, &'static str)
+    ensures first { result.0.now ≡ first_side style }
+    ensures second { result.1.now ≡ second_side style }
 {
     match style {
-        Style::Row | Style::Counters => "First",
-        Style::Crosses => "X",
-        Style::Stones | Style::Discs => "Black",
-        Style::Letters => "Hounds",
-        Style::Chess => "White",
-        Style::Hounds => "Fox",
-    }
-}
-
-// Returns the name of the other side.
-fn second(style: Style) -> &'static str
-    ensures { result.now ≡ second_side style }
-{
-    match style {
-        Style::Row | Style::Counters => "Second",
-        Style::Crosses => "O",
-        Style::Stones | Style::Discs => "White",
-        Style::Letters => "Hare",
-        Style::Chess => "Black",
-        Style::Hounds => "Hounds",
+        Style::Row | Style::Counters => ("First", "Second"),
+        Style::Crosses => ("X", "O"),
+        Style::Stones | Style::Discs => ("Black", "White"),
+        Style::Letters => ("Hounds", "Hare"),
+        Style::Chess => ("White", "Black"),
+        Style::Hounds => ("Fox", "Hounds"),
     }
 }
 

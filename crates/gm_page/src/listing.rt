@@ -53,7 +53,7 @@ impl Listing {
     pub fn place(&self, p: Position) -> Option<usize>
         ensures { result ≡ place_of self.now p }
     {
-        place_in(&self.places, p)
+        self.places.get(&(p.tier, p.index)).copied()
     }
 
     /// Tests whether a position is listed. Allocates no memory.
@@ -61,6 +61,52 @@ impl Listing {
         ensures { IsTrue result ↔ Contains self.now p }
     {
         self.place(p).is_some()
+    }
+
+    // Lists each of these positions that is not yet listed, up to the limit.
+    fn list_all(&mut self, these: &[Position], limit: usize) -> Result<(), AllocError>
+        ensures { OnOk result (self.new ≡ with_all limit self.old these.now) }
+    {
+        for p in these {
+            self.list_new(*p, limit)?;
+        }
+        Ok(())
+    }
+
+    // Lists each result of these moves that is not yet listed, up to the limit.
+    fn list_moves(&mut self, moves: &[MoveValue], limit: usize) -> Result<(), AllocError>
+        ensures { OnOk result (self.new ≡ with_all limit self.old (map result_of moves.now)) }
+    {
+        for x in moves {
+            self.list_new(x.position, limit)?;
+        }
+        Ok(())
+    }
+
+    // Lists a position unless it is already listed, up to the limit.
+    fn list_new(&mut self, p: Position, limit: usize) -> Result<(), AllocError>
+        ensures { OnOk result (self.new ≡ with_new limit self.old p) }
+    {
+        if self.place(p).is_some() || self.positions().len() >= limit {
+            return Ok(());
+        }
+        self.add(p)
+    }
+
+    // Adds a position that is not yet listed.
+    fn add(&mut self, p: Position) -> Result<(), AllocError>
+        requires { place_of self.old p ≡ None }
+        ensures { OnOk result (self.new ≡ self.old ++ p ∷ []) }
+    {
+        let place = self.positions.len();
+        self.positions.push(p)?;
+        match self.places.insert((p.tier, p.index), place) {
+            Ok(_) => Ok(()),
+            Err(_) => {
+                self.positions.truncate(place);
+                Err(AllocError)
+            }
+        }
     }
 }
 
@@ -76,174 +122,64 @@ pub fn listing_of<G: Game>(
     requires { 1 ≤ limit }
     ensures { IfOk result (IsListing G.rules start.now.position limit) }
 {
-    let mut positions = Vec::new(alloc);
-    let mut places = HashMap::new(alloc);
-    match fill(alloc, start, limit, &mut positions, &mut places) {
-        Ok(()) => Ok(Listing { positions, places }),
-        Err(error) => {
-            drop(positions);
-            drop(places);
-            Err(error)
-        }
-    }
+    let mut list = Listing {
+        positions: Vec::new(alloc),
+        places: HashMap::new(alloc),
+    };
+    fill(alloc, start, limit, &mut list)?;
+    Ok(list)
 }
 
-// Fills the empty lists of a listing.
+// Fills an empty listing.
 fn fill<G: Game>(
     alloc: Global,
     start: &Known<'_, G>,
     limit: usize,
-    positions: &mut Vec<Position>,
-    places: &mut HashMap<(u64, u64), usize>,
+    list: &mut Listing,
 ) -> Result<(), AllocError>
     requires some { 1 ≤ limit }
-    requires empty { positions.old.items ≡ [] }
-    requires places { Tells places.old positions.old.items }
-    ensures listing { OnOk result (IsListing G.rules start.now.position limit positions.new.items) }
-    ensures places { OnOk result (Tells places.new positions.new.items) }
+    requires empty { list.old ≡ [] }
+    ensures { OnOk result (IsListing G.rules start.now.position limit list.new) }
 {
     laws::<G>();
-    list_line(alloc, start, limit, positions, places)?;
+    list_line(alloc, start, limit, list)?;
     let mut next = 0;
-    while next < positions.len() {
-        let p = positions[next];
-        list_results(&start.at(p), limit, positions, places)?;
+    while next < list.positions().len() {
+        let p = list.positions()[next];
+        list_results(&start.at(p), limit, list)?;
         next += 1;
     }
     Ok(())
 }
 
-// Lists the positions of the line of best play, in empty lists.
+// Lists the positions of the line of best play in an empty listing.
 fn list_line<G: Game>(
     alloc: Global,
     start: &Known<'_, G>,
     limit: usize,
-    positions: &mut Vec<Position>,
-    places: &mut HashMap<(u64, u64), usize>,
+    list: &mut Listing,
 ) -> Result<(), AllocError>
     requires some { 1 ≤ limit }
-    requires empty { positions.old.items ≡ [] }
-    requires places { Tells places.old positions.old.items }
-    ensures line { OnOk result ((line : BestLine) × IsBestLine G.rules start.now.position (limit - 1) line
-        × (positions.new.items ≡ with_all limit [] line.positions.items)) }
-    ensures places { OnOk result (Tells places.new positions.new.items) }
+    requires empty { list.old ≡ [] }
+    ensures { OnOk result ((line : BestLine) × IsBestLine G.rules start.now.position (limit - 1) line
+        × (list.new ≡ with_all limit [] line.positions.items)) }
 {
     let line = best_line(alloc, start, limit - 1)?;
-    let listed = list_all(line.positions.as_slice(), limit, positions, places);
+    let listed = list.list_all(line.positions.as_slice(), limit);
     drop(line);
     listed
-}
-
-// Lists each of these positions that is not yet listed, up to the limit.
-fn list_all(
-    these: &[Position],
-    limit: usize,
-    positions: &mut Vec<Position>,
-    places: &mut HashMap<(u64, u64), usize>,
-) -> Result<(), AllocError>
-    requires { Tells places.old positions.old.items }
-    ensures listed { OnOk result (positions.new.items ≡ with_all limit positions.old.items these.now) }
-    ensures places { OnOk result (Tells places.new positions.new.items) }
-{
-    for p in these {
-        list_new(*p, limit, positions, places)?;
-    }
-    Ok(())
 }
 
 // Lists the results of the moves of a position.
 fn list_results<G: Game>(
     known: &Known<'_, G>,
     limit: usize,
-    positions: &mut Vec<Position>,
-    places: &mut HashMap<(u64, u64), usize>,
+    list: &mut Listing,
 ) -> Result<(), AllocError>
-    requires { Tells places.old positions.old.items }
-    ensures listed { OnOk result ((xs : List MoveValue) × AreMoveValues G.rules known.now.position xs
-        × (positions.new.items ≡ with_all limit positions.old.items (map result_of xs))) }
-    ensures places { OnOk result (Tells places.new positions.new.items) }
+    ensures { OnOk result ((xs : List MoveValue) × AreMoveValues G.rules known.now.position xs
+        × (list.new ≡ with_all limit list.old (map result_of xs))) }
 {
-    let list = move_values(known);
-    list_moves(list.as_slice(), limit, positions, places)
-}
-
-// Lists each result of these moves that is not yet listed, up to the limit.
-fn list_moves(
-    list: &[MoveValue],
-    limit: usize,
-    positions: &mut Vec<Position>,
-    places: &mut HashMap<(u64, u64), usize>,
-) -> Result<(), AllocError>
-    requires { Tells places.old positions.old.items }
-    ensures listed { OnOk result (positions.new.items ≡ with_all limit positions.old.items (map result_of list.now)) }
-    ensures places { OnOk result (Tells places.new positions.new.items) }
-{
-    for x in list {
-        list_new(x.position, limit, positions, places)?;
-    }
-    Ok(())
-}
-
-// Lists a position unless it is already listed, up to the limit.
-fn list_new(
-    p: Position,
-    limit: usize,
-    positions: &mut Vec<Position>,
-    places: &mut HashMap<(u64, u64), usize>,
-) -> Result<(), AllocError>
-    requires { Tells places.old positions.old.items }
-    ensures listed { OnOk result (positions.new.items ≡ with_new limit positions.old.items p) }
-    ensures places { OnOk result (Tells places.new positions.new.items) }
-{
-    match place_in(places, p) {
-        Some(_) => Ok(()),
-        None => list_missing(p, limit, positions, places),
-    }
-}
-
-// Returns the place of a position in a map.
-fn place_in(places: &HashMap<(u64, u64), usize>, p: Position) -> Option<usize>
-    ensures { result ≡ get is_key places.now (p.tier, p.index) }
-{
-    places.get(&(p.tier, p.index)).copied()
-}
-
-// Lists a position that is not yet listed, up to the limit.
-fn list_missing(
-    p: Position,
-    limit: usize,
-    positions: &mut Vec<Position>,
-    places: &mut HashMap<(u64, u64), usize>,
-) -> Result<(), AllocError>
-    requires places { Tells places.old positions.old.items }
-    requires new { place_of positions.old.items p ≡ None }
-    ensures listed { OnOk result (positions.new.items ≡ with_new limit positions.old.items p) }
-    ensures places { OnOk result (Tells places.new positions.new.items) }
-{
-    if positions.len() < limit {
-        add(p, positions, places)
-    } else {
-        Ok(())
-    }
-}
-
-// Adds a position that is not yet listed.
-fn add(
-    p: Position,
-    positions: &mut Vec<Position>,
-    places: &mut HashMap<(u64, u64), usize>,
-) -> Result<(), AllocError>
-    requires places { Tells places.old positions.old.items }
-    requires new { place_of positions.old.items p ≡ None }
-    ensures added { OnOk result (positions.new.items ≡ positions.old.items ++ p ∷ []) }
-    ensures places { OnOk result (Tells places.new positions.new.items) }
-{
-    let place = positions.len();
-    positions.push(p)?;
-    match places.insert((p.tier, p.index), place) {
-        Ok(_) => Ok(()),
-        Err(_) => Err(AllocError),
-    }
+    list.list_moves(move_values(known).as_slice(), limit)
 }
 
 /// Tests whether each result of a move of a listed position is listed. Allocates no memory.

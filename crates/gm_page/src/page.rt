@@ -86,13 +86,13 @@ fn push_page<G: Pictured>(
 }
 
 /// Appends the first part of a page, up to its lines.
+#[tactic(auto, unfolding(crate::specs::Pages::page_front))]
 pub fn push_front(page: &mut Vec<u8>) -> Result<(), AllocError>
     ensures { OnOk result (page.new.items ≡ page.old.items ++ page_front) }
 {
     page.extend_from_slice(OPENING)?;
     page.extend_from_slice(STYLE)?;
-    page.extend_from_slice(PARTS)?;
-    Ok(())
+    page.extend_from_slice(PARTS)
 }
 
 /// Appends the line of a game in the page of all games.

@@ -1,5 +1,5 @@
 //! The rows of a page, each of which describes one position.
-ghost use Rattle.std.specs.Prelude.{◌≡◌, ◌≤◌, ◌++◌, [], true, List, length, map, take, slice_get, IfOk, OnOk, IfSome};
+ghost use Rattle.std.specs.Prelude.{◌≡◌, ◌≤◌, ◌++◌, [], List, length, map, take, slice_get, IfOk, OnOk, IfSome};
 ghost use Rattle.gm_page.specs.Lower.{All, flat_map, Data, view, IsReached, MoveValue};
 ghost use Rattle.gm_play.specs.PlayTexts.{IsMoveOf};
 ghost use Rattle.gm_page.specs.Rows.{Group, AreGroups, AreRows, IsRow, move_cells, group_tree, row_tree};
@@ -7,7 +7,7 @@ ghost use Rattle.gm_page.specs.Scripts.{script_line};
 
 use crate::listing::Listing;
 use crate::words::{push_script_line, text_value};
-use gm_game::position::{Position, Solved};
+use gm_game::position::Solved;
 use gm_game::shown::Shown;
 use gm_game::text::value_text;
 use gm_play::known::Known;
@@ -44,42 +44,29 @@ fn push_row<G: Shown>(
 {
     let value = known.value();
     let moves = move_values(known);
-    push_known::<G>(alloc, list, known.position, value, moves.as_slice(), page)
-}
-
-// Appends the row of a legal position of this value, with these moves.
-fn push_known<G: Shown>(
-    alloc: Global,
-    list: &Listing,
-    p: Position,
-    value: Solved,
-    moves: &[MoveValue],
-    page: &mut Vec<u8>,
-) -> Result<(), AllocError>
-    requires legal { G.Game.rules.is_legal p ≡ true }
-    requires each { All (IsMoveOf G.Game.rules p) moves.now }
-    ensures { OnOk result ((groups : List Group) × AreGroups moves.now groups
-        × (page.new.items ≡ page.old.items ++ script_line (row_tree G.shown G.move_shown list.now p value groups))) }
-{
-    let tree = row_value::<G>(alloc, list, p, value, moves)?;
+    let tree = row_value(alloc, list, known, value, moves.as_slice())?;
     push_script_line(alloc, page, tree)
 }
 
+// Returns the row of a position of this value, with these moves.
 fn row_value<G: Shown>(
     alloc: Global,
     list: &Listing,
-    p: Position,
+    known: &Known<'_, G>,
     value: Solved,
     moves: &[MoveValue],
 ) -> Result<Json, AllocError>
-    requires legal { G.Game.rules.is_legal p ≡ true }
-    requires each { All (IsMoveOf G.Game.rules p) moves.now }
-    ensures { IfOk result (λ v. (groups : List Group) × AreGroups moves.now groups × (view v ≡ row_tree G.shown G.move_shown list.now p value groups)) }
+    requires { All (IsMoveOf G.Game.rules known.now.position) moves.now }
+    ensures { IfOk result (λ v. (groups : List Group) × AreGroups moves.now groups
+        × (view v ≡ row_tree G.shown G.move_shown list.now known.now.position value groups)) }
 {
     let mut cells = Vec::new(alloc);
-    push(&mut cells, text_value(alloc, G::show(p).as_slice())?)?;
+    push(
+        &mut cells,
+        text_value(alloc, G::show(known.position).as_slice())?,
+    )?;
     push(&mut cells, text_value(alloc, value_text(value).as_slice())?)?;
-    push_groups::<G>(alloc, list, p, moves, &mut cells)?;
+    push_groups(alloc, list, known, moves, &mut cells)?;
     Ok(Json::Array(cells))
 }
 
@@ -87,20 +74,19 @@ fn row_value<G: Shown>(
 fn push_groups<G: Shown>(
     alloc: Global,
     list: &Listing,
-    p: Position,
+    known: &Known<'_, G>,
     moves: &[MoveValue],
     cells: &mut Vec<Json>,
 ) -> Result<(), AllocError>
-    requires legal { G.Game.rules.is_legal p ≡ true }
-    requires each { All (IsMoveOf G.Game.rules p) moves.now }
+    requires { All (IsMoveOf G.Game.rules known.now.position) moves.now }
     ensures { OnOk result ((groups : List Group) × AreGroups moves.now groups
-        × (map view cells.new.items ≡ map view cells.old.items ++ map (group_tree G.shown G.move_shown list.now p) groups)) }
+        × (map view cells.new.items ≡ map view cells.old.items ++ map (group_tree G.shown G.move_shown list.now known.now.position) groups)) }
 {
     let mut rest = moves;
     while let Some(x) = rest.first() {
         let worth = x.worth;
         let (run, others) = rest.split_at(run_length(rest, worth));
-        push(cells, group_value::<G>(alloc, list, p, worth, run)?)?;
+        push(cells, group_value(alloc, list, known, worth, run)?)?;
         rest = others;
     }
     Ok(())
@@ -123,18 +109,17 @@ fn run_length(moves: &[MoveValue], worth: Solved) -> usize
 fn group_value<G: Shown>(
     alloc: Global,
     list: &Listing,
-    p: Position,
+    known: &Known<'_, G>,
     worth: Solved,
     run: &[MoveValue],
 ) -> Result<Json, AllocError>
-    requires legal { G.Game.rules.is_legal p ≡ true }
-    requires each { All (IsMoveOf G.Game.rules p) run.now }
-    ensures { IfOk result (λ v. view v ≡ group_tree G.shown G.move_shown list.now p (record { worth = worth; moves = run.now })) }
+    requires { All (IsMoveOf G.Game.rules known.now.position) run.now }
+    ensures { IfOk result (λ v. view v ≡ group_tree G.shown G.move_shown list.now known.now.position (record { worth = worth; moves = run.now })) }
 {
     let mut cells = Vec::new(alloc);
     push(&mut cells, text_value(alloc, value_text(worth).as_slice())?)?;
     for x in run {
-        push_move::<G>(alloc, list, p, x, &mut cells)?;
+        push_move(alloc, list, known, x, &mut cells)?;
     }
     Ok(Json::Array(cells))
 }
@@ -143,17 +128,16 @@ fn group_value<G: Shown>(
 fn push_move<G: Shown>(
     alloc: Global,
     list: &Listing,
-    p: Position,
+    known: &Known<'_, G>,
     x: &MoveValue,
     cells: &mut Vec<Json>,
 ) -> Result<(), AllocError>
-    requires legal { G.Game.rules.is_legal p ≡ true }
-    requires each { IsMoveOf G.Game.rules p x.now }
-    ensures { OnOk result (map view cells.new.items ≡ map view cells.old.items ++ move_cells G.shown G.move_shown list.now p x.now) }
+    requires { IsMoveOf G.Game.rules known.now.position x.now }
+    ensures { OnOk result (map view cells.new.items ≡ map view cells.old.items ++ move_cells G.shown G.move_shown list.now known.now.position x.now) }
 {
     push(
         cells,
-        text_value(alloc, G::move_text(p, x.number).as_slice())?,
+        text_value(alloc, G::move_text(known.position, x.number).as_slice())?,
     )?;
     if let Some(place) = list.place(x.position) {
         push(cells, Json::from(place as u64))?;

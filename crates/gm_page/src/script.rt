@@ -7,6 +7,7 @@ use std::alloc::AllocError;
 
 /// Appends a text in which each `<` is written as `\u003c`. In JSON the two are equal, and in a page the escape can neither end the
 /// element nor begin a comment.
+#[tactic(auto, unfolding(crate::specs::Scripts::script_text))]
 pub fn push_script(page: &mut Vec<u8>, text: &[u8]) -> Result<(), AllocError>
     ensures { OnOk result (page.new.items ≡ page.old.items ++ script_text text.now) }
 {

@@ -1,12 +1,9 @@
-use Rattle.gm_page.proofs.Lower.{◌-◌, Tells}
+use Rattle.gm_page.proofs.Lower.{◌-◌}
 use Rattle.gm_page.proofs.Reaching.{IsGoneThrough}
 use Rattle.gm_page.proofs.listing.fill.Given as goal
 
 abbrev pub invariant-loop-next : goal.invariant-loop-next
-invariant-loop-next g l = record {
-  through : IsGoneThrough g.G.Game.rules l.start.position l.limit l.next l.positions.items;
-  places : Tells l.places l.positions.items;
-}
+invariant-loop-next g l = IsGoneThrough g.G.Game.rules l.start.position l.limit l.next l.list
 
 abbrev pub decreases-loop-next : goal.decreases-loop-next
 decreases-loop-next g l = l.limit - l.next

@@ -1,4 +1,4 @@
-use Rattle.gm_page.proofs.Lower.{◌≡◌, ◌++◌, ℕ, List, true, refl, sym, subst, ◌∙◌, Entry, IsEntry}
+use Rattle.gm_page.proofs.Lower.{ℕ, List, true, sym, subst, ◌∙◌, Entry, IsEntry}
 use Rattle.gm_page.specs.ShowTexts.{IsDiagram}
 use Rattle.gm_page.specs.Sheets.{IsSolution}
 use Rattle.gm_page.proofs.Sheeting.{both_parts}
