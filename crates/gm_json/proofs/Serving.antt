@@ -255,6 +255,14 @@ module _ (Says : List ℕ → ℕ → List ℕ → Type 0) where
     line_broken w2 WriteFailed e broken = cut w2 e broken
     line_broken w2 OutputClosed e broken = cut w2 e broken
 
+  -- the output fails, of whatever kind the failure is
+  pub broken_output : (e : AskError) (r0 r1 w0 w1 : Option (List ℕ)) → IsOfOutput e → IsUnwritten Says r0 r1 w0 w1 → IsBroken Says e r0 r1 w0 w1
+  broken_output OutOfMemory r0 r1 w0 w1 k h = absurd k
+  broken_output NotHeld r0 r1 w0 w1 k h = absurd k
+  broken_output ReadFailed r0 r1 w0 w1 k h = absurd k
+  broken_output WriteFailed r0 r1 w0 w1 k h = h
+  broken_output OutputClosed r0 r1 w0 w1 k h = h
+
   -- ---- the end of the input
   module _ (number : ℕ) (kept : List ℕ) (r0 r1 r2 w0 w1 : Option (List ℕ)) (h : GoesOn Says number kept r0 r1 w0 w1) (same : Keeps r1 r2) where
     whole : lines_of h.bytes ≡ h.lines ++ lines_from h.line []
@@ -355,11 +363,7 @@ module _ (Says : List ℕ → ℕ → List ℕ → Type 0) where
       last_refused OutputClosed k kept_out = absurd k
 
       pub last_cut : (e : AskError) → IsOfOutput e → (out : List ℕ) → Says kept number out → AppendsPart w1 w2 (out ++ codes "\n") → IsBroken Says e r0 r2 w0 w2
-      last_cut OutOfMemory k out is part = absurd k
-      last_cut NotHeld k out is part = absurd k
-      last_cut ReadFailed k out is part = absurd k
-      last_cut WriteFailed k out is part = last_unwritten out is part
-      last_cut OutputClosed k out is part = last_unwritten out is part
+      last_cut e k out is part = broken_output e r0 r2 w0 w2 k (last_unwritten out is part)
 
       -- with what is answered and written in one
       pub last_done : (none all : List ℕ) → none ≡ [] → (out : List ℕ) × Says kept number out × (all ≡ none ++ (out ++ codes "\n")) → IsAtEnd r2 → Appends
@@ -381,14 +385,6 @@ module _ (Says : List ℕ → ℕ → List ℕ → Type 0) where
       (all ≡ answers ++ (out ++ codes "\n"))
       → AppendsPart w1 w2 all → IsCut Says line n answers w1 w2
   line_unsaid line n answers all w1 w2 (out, is, a) part = inr (out, is, subst (AppendsPart w1 w2) a part)
-
-  -- the output fails, of whatever kind the failure is
-  pub broken_output : (e : AskError) (r0 r1 w0 w1 : Option (List ℕ)) → IsOfOutput e → IsUnwritten Says r0 r1 w0 w1 → IsBroken Says e r0 r1 w0 w1
-  broken_output OutOfMemory r0 r1 w0 w1 k h = absurd k
-  broken_output NotHeld r0 r1 w0 w1 k h = absurd k
-  broken_output ReadFailed r0 r1 w0 w1 k h = absurd k
-  broken_output WriteFailed r0 r1 w0 w1 k h = h
-  broken_output OutputClosed r0 r1 w0 w1 k h = h
 
   -- the answers are cut, of whatever kind the failure is
   pub line_cut : (e : AskError) (line : List ℕ) (n : ℕ) (answers : List ℕ) (w1 w2 : Option (List ℕ)) → IsOfOutput e → IsCut Says line n answers w1 w2 →

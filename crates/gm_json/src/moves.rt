@@ -1,7 +1,7 @@
 //! What the moves of a position are worth, in JSON.
 ghost use Rattle.std.specs.Prelude.{◌≡◌, ◌++◌, true, false, codes, IfOk, OnOk};
 ghost use Rattle.gm_json.specs.Lower.{All, Members, compact_text, members_text, IsMoveOf};
-ghost use Rattle.gm_json.specs.Parts.{item_text, member_text};
+ghost use Rattle.gm_json.specs.Parts.{member_text};
 ghost use Rattle.gm_json.specs.Moves.{move_tree, move_trees, moves_tree, position_members, IsMovesJson};
 
 use crate::parts::{
@@ -99,25 +99,11 @@ fn push_list<G: Shown>(
     push_bytes(out, b"[")?;
     let mut later = false;
     for x in list {
-        push_item::<G>(alloc, out, later, p, *x)?;
+        push_comma(out, later)?;
+        push_move::<G>(alloc, out, p, *x)?;
         later = true;
     }
     push_bytes(out, b"]")
-}
-
-fn push_item<G: Shown>(
-    alloc: Global,
-    out: &mut Vec<u8>,
-    later: bool,
-    p: Position,
-    x: MoveValue,
-) -> Result<(), AllocError>
-    requires legal { G.Game.rules.is_legal p ≡ true }
-    requires each { IsMoveOf G.Game.rules p x }
-    ensures { OnOk result (out.new.items ≡ out.old.items ++ item_text later (move_tree G.Game.rules G.shown G.move_shown p x)) }
-{
-    push_comma(out, later)?;
-    push_move::<G>(alloc, out, p, x)
 }
 
 // Appends a move as an object.

@@ -22,12 +22,7 @@ fn is_clear(byte: u8) -> bool
 fn are_clear(text: &[u8]) -> bool
     ensures { result ≡ list_all is_clear_spec text.now }
 {
-    for byte in text {
-        if !is_clear(*byte) {
-            return false;
-        }
-    }
-    true
+    text.iter().all(|byte| is_clear(*byte))
 }
 
 /// Appends bytes as they are.

@@ -1,10 +1,10 @@
 use Rattle.gm_json.proofs.Lower.{◌++◌, ◌+◌, List, ℕ, false, map, drop, get_or, sym, ap, ◌∙◌, drop_more, drop_all, on_ok_weaker, items_of, items_text, MoveValue}
-use Rattle.gm_json.proofs.Lower.{move_tree}
+use Rattle.gm_json.proofs.Lower.{move_tree, append_assoc, comma_if, compact_text}
 use Rattle.gm_json.proofs.Writing.{opened, item_next}
 use Rattle.gm_json.proofs.moves.push_list.Goals as goal
 
-pub push_item-requires-clause-each : goal.push_item-requires-clause-each
-push_item-requires-clause-each g c = c.requires.each c.loop-x.x-index _ c.loop-x-test.true
+pub push_move-requires-clause-each : goal.push_move-requires-clause-each
+push_move-requires-clause-each g c = c.requires.each c.loop-x.x-index _ c.loop-x-test.true
 
 pub loop-x-init : goal.loop-x-init
 loop-x-init g c =
@@ -18,7 +18,9 @@ loop-x-preserved g c =
     let k = c.loop-x.x-index in
     let old = c.loop-x.out.items in
     let text : List MoveValue → List ℕ = λ (ys : List MoveValue). items_text c.loop-x.later (items_of (map tree ys)) in
-    item_next old c.push_item.new.out.items c.loop-x.later (tree (get_or xs k _)) (items_of (map tree (drop (k + 1) xs))) c.in_ok-push_item.ensures
+    let x = tree (get_or xs k _) in
+    item_next old c.push_move.new.out.items c.loop-x.later x (items_of (map tree (drop (k + 1) xs)))
+    (c.in_ok-push_move.ensures ∙ ap (λ (l : List ℕ). l ++ compact_text x) c.in_ok-push_comma.ensures ∙ append_assoc old (comma_if c.loop-x.later) (compact_text x))
     ∙ ap (λ (ys : List MoveValue). old ++ text ys) (sym (drop_more xs k _ c.loop-x-test.true)) ∙ c.loop-x.invariant
 
 pub returns : goal.returns
