@@ -1,7 +1,7 @@
 -- Strings in texts that open no tag are read back unchanged.
 use Rattle.gm_page.proofs.Lower.{◌≡◌, ℕ, zero, suc, ◌<◌, ◌≤◌, Bool, true, false, cond, List, [], ◌∷◌, ◌++◌, Some, inl, inr, ◌⊎◌, refl, sym, ap, ◌∙◌, subst}
 use Rattle.gm_page.proofs.Lower.{arith, flat_map, cases_lt, ne_eqb, flat_map-append, Lexeme, between, escape, script_byte}
-use Rattle.std.proofs.Common.{append_assoc}
+use Rattle.std.proofs.Common.{append_assoc, rules}
 use Rattle.std.proofs.lemmas.Bool.{cases_eq, le-ltb}
 use lib.Utf8.{encode}
 use Rattle.json.specs.Text.{content, plain, prepend, code_unit, short_escape}
@@ -33,40 +33,7 @@ each_sound P (suc n) h x lt = go (each_sound P n h.1 x) (cases_eq x n)
 
 controls : Each Passes 32
 unfolding escape_byte content lex code_unit short_escape encode
-controls =
-    let below0 : Each Passes 0 = tt in
-    let below1 : Each Passes 1 = (record { read = λ r. refl; lexed = λ r. refl }, below0) in
-    let below2 : Each Passes 2 = (record { read = λ r. refl; lexed = λ r. refl }, below1) in
-    let below3 : Each Passes 3 = (record { read = λ r. refl; lexed = λ r. refl }, below2) in
-    let below4 : Each Passes 4 = (record { read = λ r. refl; lexed = λ r. refl }, below3) in
-    let below5 : Each Passes 5 = (record { read = λ r. refl; lexed = λ r. refl }, below4) in
-    let below6 : Each Passes 6 = (record { read = λ r. refl; lexed = λ r. refl }, below5) in
-    let below7 : Each Passes 7 = (record { read = λ r. refl; lexed = λ r. refl }, below6) in
-    let below8 : Each Passes 8 = (record { read = λ r. refl; lexed = λ r. refl }, below7) in
-    let below9 : Each Passes 9 = (record { read = λ r. refl; lexed = λ r. refl }, below8) in
-    let below10 : Each Passes 10 = (record { read = λ r. refl; lexed = λ r. refl }, below9) in
-    let below11 : Each Passes 11 = (record { read = λ r. refl; lexed = λ r. refl }, below10) in
-    let below12 : Each Passes 12 = (record { read = λ r. refl; lexed = λ r. refl }, below11) in
-    let below13 : Each Passes 13 = (record { read = λ r. refl; lexed = λ r. refl }, below12) in
-    let below14 : Each Passes 14 = (record { read = λ r. refl; lexed = λ r. refl }, below13) in
-    let below15 : Each Passes 15 = (record { read = λ r. refl; lexed = λ r. refl }, below14) in
-    let below16 : Each Passes 16 = (record { read = λ r. refl; lexed = λ r. refl }, below15) in
-    let below17 : Each Passes 17 = (record { read = λ r. refl; lexed = λ r. refl }, below16) in
-    let below18 : Each Passes 18 = (record { read = λ r. refl; lexed = λ r. refl }, below17) in
-    let below19 : Each Passes 19 = (record { read = λ r. refl; lexed = λ r. refl }, below18) in
-    let below20 : Each Passes 20 = (record { read = λ r. refl; lexed = λ r. refl }, below19) in
-    let below21 : Each Passes 21 = (record { read = λ r. refl; lexed = λ r. refl }, below20) in
-    let below22 : Each Passes 22 = (record { read = λ r. refl; lexed = λ r. refl }, below21) in
-    let below23 : Each Passes 23 = (record { read = λ r. refl; lexed = λ r. refl }, below22) in
-    let below24 : Each Passes 24 = (record { read = λ r. refl; lexed = λ r. refl }, below23) in
-    let below25 : Each Passes 25 = (record { read = λ r. refl; lexed = λ r. refl }, below24) in
-    let below26 : Each Passes 26 = (record { read = λ r. refl; lexed = λ r. refl }, below25) in
-    let below27 : Each Passes 27 = (record { read = λ r. refl; lexed = λ r. refl }, below26) in
-    let below28 : Each Passes 28 = (record { read = λ r. refl; lexed = λ r. refl }, below27) in
-    let below29 : Each Passes 29 = (record { read = λ r. refl; lexed = λ r. refl }, below28) in
-    let below30 : Each Passes 30 = (record { read = λ r. refl; lexed = λ r. refl }, below29) in
-    let below31 : Each Passes 31 = (record { read = λ r. refl; lexed = λ r. refl }, below30) in
-    (record { read = λ r. refl; lexed = λ r. refl }, below31)
+controls = search rules
 
 quote_passes : Passes 34
 unfolding escape_byte content lex short_escape
