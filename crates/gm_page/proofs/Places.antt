@@ -76,10 +76,6 @@ key_same : (p : Position) (k : ℕ × ℕ) → is_key (p.tier, p.index) k ≡ tr
 key_same p k e = let (a, b) = and_parts (nat_eq p.tier k.0) (nat_eq p.index k.1) e in same_position (at k.0 k.1) p (sym (eqb-true _ _ a)) (sym (eqb-true _ _ b))
 
 module _ {S : Type 0} where
-  -- a map without entries has no position
-  pub tells_none : (places : HashMap (ℕ × ℕ) ℕ S) (ps : List Position) → places.entries ≡ [] → ps ≡ [] → Tells places ps
-  tells_none places ps e f k = rw (e, f) refl
-
   -- a map with one more position
   pub tells_more : (old new : HashMap (ℕ × ℕ) ℕ S) (ps : List Position) (p : Position) → Tells old ps → place_of ps p ≡ None
       → ((k : ℕ × ℕ) → get is_key new k ≡ cond (is_key (p.tier, p.index) k) (Some (length ps)) (get is_key old k)) → Tells new (ps ++ p ∷ [])
