@@ -1,15 +1,9 @@
 -- The output of a check so far.
 use Rattle.gamesman.proofs.Lower.{◌≡◌, ℕ, suc, ◌<◌, inl, inr, List, [], ◌∷◌, ◌++◌, length, take, drop, get_or, Option, Some, Ok, refl, sym, ap, subst, ◌∙◌}
 use Rattle.gamesman.proofs.Lower.{append_assoc, append-nil, take-append-drop, Contains, Appends, Appends-nil, Appends-trans, Appends-kept, Rules, contains_none}
-use Rattle.gamesman.proofs.Lower.{contains_cases, TableData, HoldsExactly, part_after, Fault, NoFile, IsMemoryFault}
-use Rattle.std.proofs.Common.{drop-cons}
-use Rattle.gm_game.proofs.Lists.{contains_first, contains_later}
-use Rattle.gm_table.specs.Tables.{AreTables, Inserts}
-use Rattle.gm_build.proofs.StoreLemmas.{holds_too}
-use Rattle.gamesman.specs.declared.finding.Finding.{Finding}
-use Rattle.gamesman.specs.declared.finding.Finding.TheVariants.{Right, Missing, NotChecked, NoTable}
-use Rattle.gamesman.specs.Checking.{finding_line, right_with, status_with, IsFinding, IsFoundAfter, IsTableFor, AreLines, IsUnread, IsTierCut}
-use Rattle.gamesman.specs.Checking.{IsCheckCut, IsCheckOf}
+use Rattle.gamesman.proofs.Lower.{contains_cases, TableData, HoldsExactly, part_after, Fault, NoFile, IsMemoryFault, drop-cons, contains_first, contains_later}
+use Rattle.gamesman.proofs.Lower.{AreTables, Inserts, holds_too, Finding, Right, Missing, NotChecked, NoTable, finding_line, right_with, status_with, IsFinding}
+use Rattle.gamesman.proofs.Lower.{IsFoundAfter, IsTableFor, AreLines, IsUnread, IsTierCut, IsCheckCut, IsCheckOf}
 
 -- no tier is right before the first
 pub none_held : HoldsExactly [] []

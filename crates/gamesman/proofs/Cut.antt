@@ -2,15 +2,10 @@
 use Rattle.gamesman.proofs.Lower.{◌≡◌, ℕ, Bool, true, false, List, Option, None, Some, Result, Ok, Err, IfSome, refl, sym, ap, subst, ◌∙◌, Bor, Keeps, Position}
 use Rattle.gamesman.proofs.Lower.{Rules, AppendsPart, IsReadAs, Fault, NoSuchGame, NoSuchPosition, NoSuchPositionInLine, NoSuchTier, NoSuchIndex, NotLegal}
 use Rattle.gamesman.proofs.Lower.{NotCanonical, NotBuilt, AnotherGames, InputFailed, OutputFailed, OutputClosed, TooMuchInput, EngineNotRead, NotAnEngine}
-use Rattle.gamesman.proofs.Lower.{IsOutputFault, IsCutOff, IsPlaceText, IsAnsweredBy, IsUnbuilt}
-use Rattle.std.proofs.Common.{IfErr}
-use Rattle.std.specs.Result.{IsErrAnd}
-use Rattle.gm_build.specs.declared.build_error.BuildError.{BuildError}
+use Rattle.gamesman.proofs.Lower.{IsOutputFault, IsCutOff, IsPlaceText, IsAnsweredBy, IsUnbuilt, IfErr, IsErrAnd, BuildError, IsBuildError, IsUnlocatedFor}
+use Rattle.gamesman.proofs.Lower.{IsLocatedBy, reason_of, IsRefused}
 use Rattle.gm_build.specs.declared.build_error.BuildError.TheVariants.{OutOfMemory, TooFar, StoreFailed, TooManyTiers, TierTooLarge}
-use Rattle.gm_build.specs.Outcomes.{IsBuildError}
 use Rattle.gamesman.specs.declared.fault.Fault.TheVariants.{OutOfMemory as NoMemory}
-use Rattle.gamesman.specs.Answers.{IsUnlocatedFor, IsLocatedBy}
-use Rattle.gamesman.specs.Refusals.{reason_of, IsRefused}
 
 -- an error that is passed on keeps its properties
 pub passed : {T E : Type 0} → (m : Result T E) (Q : E → Type 0) (e : E) → IsErrAnd m (λ y. y ≡ e) → Q e → IfErr m Q
@@ -30,63 +25,57 @@ pub kept : (o : Option (List ℕ)) → Keeps o o
 kept None = tt
 kept (Some xs) = refl
 
+-- a property of each fault of a write
+each_output : (Q : Fault → Type 0) → Q OutputFailed → Q OutputClosed → (fault : Fault) → IsOutputFault fault → Q fault
+each_output Q failed closed OutputFailed out = failed
+each_output Q failed closed OutputClosed out = closed
+each_output Q failed closed NoSuchGame out = absurd out
+each_output Q failed closed NoSuchPosition out = absurd out
+each_output Q failed closed (NoSuchPositionInLine line) out = absurd out
+each_output Q failed closed (NoSuchTier tier) out = absurd out
+each_output Q failed closed (NoSuchIndex tier index) out = absurd out
+each_output Q failed closed (NotLegal tier index) out = absurd out
+each_output Q failed closed (NotCanonical tier index) out = absurd out
+each_output Q failed closed (NoMemory error) out = absurd out
+each_output Q failed closed (NotBuilt error) out = absurd out
+each_output Q failed closed (AnotherGames tier) out = absurd out
+each_output Q failed closed InputFailed out = absurd out
+each_output Q failed closed TooMuchInput out = absurd out
+each_output Q failed closed EngineNotRead out = absurd out
+each_output Q failed closed NotAnEngine out = absurd out
+
+-- nothing is written before a fault that no write has
+pub kept_cut : (IsText : List ℕ → Type 0) (o : Option (List ℕ)) (P : Fault → Type 0) → (P OutputFailed → ⊥) → (P OutputClosed → ⊥) → (fault : Fault) → P fault
+    → IsCutOff IsText o o fault
+kept_cut IsText o P failed closed OutputFailed is = absurd (failed is)
+kept_cut IsText o P failed closed OutputClosed is = absurd (closed is)
+kept_cut IsText o P failed closed NoSuchGame is = kept o
+kept_cut IsText o P failed closed NoSuchPosition is = kept o
+kept_cut IsText o P failed closed (NoSuchPositionInLine line) is = kept o
+kept_cut IsText o P failed closed (NoSuchTier tier) is = kept o
+kept_cut IsText o P failed closed (NoSuchIndex tier index) is = kept o
+kept_cut IsText o P failed closed (NotLegal tier index) is = kept o
+kept_cut IsText o P failed closed (NotCanonical tier index) is = kept o
+kept_cut IsText o P failed closed (NoMemory error) is = kept o
+kept_cut IsText o P failed closed (NotBuilt error) is = kept o
+kept_cut IsText o P failed closed (AnotherGames tier) is = kept o
+kept_cut IsText o P failed closed InputFailed is = kept o
+kept_cut IsText o P failed closed TooMuchInput is = kept o
+kept_cut IsText o P failed closed EngineNotRead is = kept o
+kept_cut IsText o P failed closed NotAnEngine is = kept o
+
 -- a write failed
 pub cut_off : (IsText : List ℕ → Type 0) (before after : Option (List ℕ)) (fault : Fault) (text : List ℕ) → IsOutputFault fault → IsText text → AppendsPart
     before after text → IsCutOff IsText before after fault
-cut_off IsText before after OutputFailed text out is part = (text, is, part)
-cut_off IsText before after OutputClosed text out is part = (text, is, part)
-cut_off IsText before after NoSuchGame text out is part = absurd out
-cut_off IsText before after NoSuchPosition text out is part = absurd out
-cut_off IsText before after (NoSuchPositionInLine line) text out is part = absurd out
-cut_off IsText before after (NoSuchTier tier) text out is part = absurd out
-cut_off IsText before after (NoSuchIndex tier index) text out is part = absurd out
-cut_off IsText before after (NotLegal tier index) text out is part = absurd out
-cut_off IsText before after (NotCanonical tier index) text out is part = absurd out
-cut_off IsText before after (NoMemory error) text out is part = absurd out
-cut_off IsText before after (NotBuilt error) text out is part = absurd out
-cut_off IsText before after (AnotherGames tier) text out is part = absurd out
-cut_off IsText before after InputFailed text out is part = absurd out
-cut_off IsText before after TooMuchInput text out is part = absurd out
-cut_off IsText before after EngineNotRead text out is part = absurd out
-cut_off IsText before after NotAnEngine text out is part = absurd out
+cut_off IsText before after fault text out is part = each_output (IsCutOff IsText before after) (text, is, part) (text, is, part) fault out
 
 -- nothing is built, so nothing is written
 pub unbuilt_cut : (IsText : List ℕ → Type 0) (o : Option (List ℕ)) (r : Rules) (first : ℕ) (fault : Fault) → IsUnbuilt r first fault → IsCutOff IsText o o fault
-unbuilt_cut IsText o r first OutputFailed is = absurd is
-unbuilt_cut IsText o r first OutputClosed is = absurd is
-unbuilt_cut IsText o r first NoSuchGame is = kept o
-unbuilt_cut IsText o r first NoSuchPosition is = kept o
-unbuilt_cut IsText o r first (NoSuchPositionInLine line) is = kept o
-unbuilt_cut IsText o r first (NoSuchTier tier) is = kept o
-unbuilt_cut IsText o r first (NoSuchIndex tier index) is = kept o
-unbuilt_cut IsText o r first (NotLegal tier index) is = kept o
-unbuilt_cut IsText o r first (NotCanonical tier index) is = kept o
-unbuilt_cut IsText o r first (NoMemory error) is = kept o
-unbuilt_cut IsText o r first (NotBuilt error) is = kept o
-unbuilt_cut IsText o r first (AnotherGames tier) is = kept o
-unbuilt_cut IsText o r first InputFailed is = kept o
-unbuilt_cut IsText o r first TooMuchInput is = kept o
-unbuilt_cut IsText o r first EngineNotRead is = kept o
-unbuilt_cut IsText o r first NotAnEngine is = kept o
+unbuilt_cut IsText o r first fault is = kept_cut IsText o (IsUnbuilt r first) (λ n. n) (λ n. n) fault is
 
 module _ (r : Rules) (shown : Position → List ℕ) (move_shown : Position → ℕ → List ℕ) (text : List ℕ) where
   pub write_refused : (fault : Fault) → IsOutputFault fault → IsRefused r shown move_shown text fault
-  write_refused OutputFailed out = tt
-  write_refused OutputClosed out = tt
-  write_refused NoSuchGame out = absurd out
-  write_refused NoSuchPosition out = absurd out
-  write_refused (NoSuchPositionInLine line) out = absurd out
-  write_refused (NoSuchTier tier) out = absurd out
-  write_refused (NoSuchIndex tier index) out = absurd out
-  write_refused (NotLegal tier index) out = absurd out
-  write_refused (NotCanonical tier index) out = absurd out
-  write_refused (NoMemory error) out = absurd out
-  write_refused (NotBuilt error) out = absurd out
-  write_refused (AnotherGames tier) out = absurd out
-  write_refused InputFailed out = absurd out
-  write_refused TooMuchInput out = absurd out
-  write_refused EngineNotRead out = absurd out
-  write_refused NotAnEngine out = absurd out
+  write_refused fault out = each_output (IsRefused r shown move_shown text) tt tt fault out
 
   pub unbuilt_refused : (p : Position) → IsReadAs r shown move_shown text p → (fault : Fault) → IsUnbuilt r p.tier fault → IsRefused r shown move_shown text
       fault
@@ -127,31 +116,13 @@ module _ (r : Rules) (shown : Position → List ℕ) (move_shown : Position → 
   }
 
 module _ (r : Rules) (shown : Position → List ℕ) (text : List ℕ) where
-  write_unlocated : (fault : Fault) → IsOutputFault fault → IsUnlocatedFor r shown text fault
-  write_unlocated OutputFailed out = tt
-  write_unlocated OutputClosed out = tt
-  write_unlocated NoSuchGame out = absurd out
-  write_unlocated NoSuchPosition out = absurd out
-  write_unlocated (NoSuchPositionInLine line) out = absurd out
-  write_unlocated (NoSuchTier tier) out = absurd out
-  write_unlocated (NoSuchIndex tier index) out = absurd out
-  write_unlocated (NotLegal tier index) out = absurd out
-  write_unlocated (NotCanonical tier index) out = absurd out
-  write_unlocated (NoMemory error) out = absurd out
-  write_unlocated (NotBuilt error) out = absurd out
-  write_unlocated (AnotherGames tier) out = absurd out
-  write_unlocated InputFailed out = absurd out
-  write_unlocated TooMuchInput out = absurd out
-  write_unlocated EngineNotRead out = absurd out
-  write_unlocated NotAnEngine out = absurd out
-
   -- the write of a position's tier and index failed
   pub unlocated_answer : (fault : Fault) (before after : Option (List ℕ)) (out : List ℕ) → IsOutputFault fault → IsPlaceText r shown text out → AppendsPart
       before after out
       → IsLocatedBy r shown text before after (Err fault)
   unlocated_answer fault before after out failed is part = record {
     written = cut_off (IsPlaceText r shown text) before after fault out failed is part;
-    refused = write_unlocated fault failed;
+    refused = each_output (IsUnlocatedFor r shown text) tt tt fault failed;
     unread = λ none. absurd (none is.0.position is.1.legal is.1.reads);
   }
 

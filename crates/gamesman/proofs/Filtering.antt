@@ -3,18 +3,12 @@ use Rattle.gamesman.proofs.Lower.{◌≡◌, ℕ, ◌+◌, ◌≤◌, ◌<◌, t
 use Rattle.gamesman.proofs.Lower.{append_assoc, append-nil, arith, ◌==◌, if◌then◌else◌, length-take, length-append, Appends, Keeps, Appends-trans, Appends-nil}
 use Rattle.gamesman.proofs.Lower.{Appends-kept, Position, Rules, TableData, IsTierOrder, HoldsExactly, without_return, kept_bytes, Fault, NoSuchGame}
 use Rattle.gamesman.proofs.Lower.{NoSuchPosition, NoSuchPositionInLine, NoSuchTier, NoSuchIndex, NotLegal, NotCanonical, OutOfMemory, NotBuilt, AnotherGames}
-use Rattle.gamesman.proofs.Lower.{InputFailed, OutputFailed, OutputClosed, TooMuchInput, EngineNotRead, NotAnEngine, IsLineFault, IsOfNone}
-use Rattle.std.proofs.Common.{IfOk}
-use Rattle.std.specs.Prelude.{min, None, Some, ◌↔◌}
-use Rattle.std.specs.Io.KnownBytes.{Consumes, IsAtEnd, prepend_known}
+use Rattle.gamesman.proofs.Lower.{InputFailed, OutputFailed, OutputClosed, TooMuchInput, EngineNotRead, NotAnEngine, IsLineFault, IsOfNone, IfOk, min, ◌↔◌}
+use Rattle.gamesman.proofs.Lower.{Consumes, IsAtEnd, prepend_known, BufReader, Consumes-trans, Consumes-nil, Keeps-refl, prepend_known-nil, IsHeld, IsReached}
+use Rattle.gamesman.proofs.Lower.{lines_from, lines_of, last_number, AreTexts, AreAnswered, AreBefore, AreAllAnswered, IsStopped, IsLeftOff}
+use Rattle.std.specs.Prelude.{None, Some}
 use Rattle.std.specs.Io.Buffered.{reader_remaining, reader_capacity, reader_buffer, reader_inner}
-use Rattle.std.specs.declared.io.buffered.BufReader.{BufReader}
-use Rattle.std.proofs.KnownBytes.{Consumes-trans, Consumes-nil, Keeps-refl, prepend_known-nil}
-use Rattle.gm_table.specs.Tables.{IsHeld}
-use Rattle.gm_tiers.specs.Reach.{IsReached}
-use Rattle.gm_json.specs.Asking.{lines_from, lines_of}
 use Rattle.gm_json.proofs.Splitting.{lines_more, lines_next, lines_end, lines_none, none_kept, kept_push, kept_full}
-use Rattle.gamesman.specs.Filters.{last_number, AreTexts, AreAnswered, AreBefore, AreAllAnswered, IsStopped, IsLeftOff}
 
 module _ (IsText : List ℕ → List ℕ → Type 0) where
   -- the texts of some lines and of one more

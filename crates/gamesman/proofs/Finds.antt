@@ -5,23 +5,10 @@ use Rattle.gamesman.proofs.Lower.{Appends-kept, flat_map-append, Position, Rules
 use Rattle.gamesman.proofs.Lower.{Found, IsFound, AreFound, AreChosen, Form, PositionSearch, Fault, NoSuchGame, NoSuchPosition, NoSuchPositionInLine}
 use Rattle.gamesman.proofs.Lower.{NoSuchTier, NoSuchIndex, NotLegal, NotCanonical, OutOfMemory, NotBuilt, AnotherGames, InputFailed, OutputFailed, OutputClosed}
 use Rattle.gamesman.proofs.Lower.{TooMuchInput, EngineNotRead, NotAnEngine, GameSpec, IsOutputFault, IsCutOff, IsMemoryFault, board_row, IsTextOf, IsFoundAt}
-use Rattle.gamesman.proofs.Lower.{AreTiersFor, IsFoundSoFar, IsLeft, limit_by_tier, AreFoundWith}
-use Rattle.std.proofs.Common.{◌⊎◌, map}
-use Rattle.std.proofs.Common.{ap₂, length-append}
-use Rattle.std.proofs.lemmas.List.{map-append, length-map}
-use Rattle.std.proofs.lemmas.List.Elements.{All-append}
-use Rattle.std.proofs.lemmas.Option.{same_Some}
-use Rattle.gm_find.specs.declared.sought.Choice.{Choice}
-use Rattle.gm_find.specs.declared.sought.Choice.TheVariants.{First, Random}
-use Rattle.gm_find.specs.declared.sought.Sought.{Sought}
-use Rattle.gm_find.specs.Lists.{IsFirst}
-use Rattle.gm_find.specs.Finding.{IsMatch, all_positions, positions_in}
-use Rattle.gm_find.specs.Founds.{position_of}
-use Rattle.gm_find.specs.Rows.{found_row}
-use Rattle.gm_find.proofs.ListLemmas.{first_append}
-use Rattle.gm_json.specs.Founds.{found_line}
-use Rattle.gm_command.specs.declared.requests.Form.TheVariants.{Rows, Json, Sheet, Boards}
-use Rattle.gamesman.specs.Finds.{IsToldByTier, IsTierTold}
+use Rattle.gamesman.proofs.Lower.{AreTiersFor, IsFoundSoFar, IsLeft, limit_by_tier, AreFoundWith, ◌⊎◌, map, ap₂, map-append, length-map, All-append, same_Some}
+use Rattle.gamesman.proofs.Lower.{Choice, First, Random, Sought, IsFirst, IsMatch, all_positions, positions_in, position_of, found_row, first_append}
+use Rattle.gamesman.proofs.Lower.{found_line, Rows, Json, Sheet, Boards, IsToldByTier, IsTierTold}
+use Rattle.std.proofs.Common.{length-append}
 
 -- ---- the tables
 -- a list of one tier

@@ -1,10 +1,8 @@
 -- First parts of texts that are written.
 use Rattle.gamesman.proofs.Lower.{◌≡◌, ℕ, ◌+◌, ◌-◌, ◌≤◌, Bool, true, false, List, ◌++◌, length, take, drop, Option, Result, Ok, Err, sym, ap, subst, ◌∙◌, arith}
 use Rattle.gamesman.proofs.Lower.{take-append-drop, Appends, Keeps, Appends-trans, Appends-kept, AppendsPart, part_after, part_longer, Fault, IsPut, listed}
-use Rattle.gamesman.proofs.Lower.{listed_later}
-use Rattle.std.proofs.Common.{OnErr}
-use Rattle.std.proofs.Common.{take-add, length-take}
-use Rattle.std.proofs.lemmas.List.{take-take}
+use Rattle.gamesman.proofs.Lower.{listed_later, OnErr, take-add, take-take}
+use Rattle.std.proofs.Common.{length-take}
 
 module _ (a b c : Option (List ℕ)) (done : ℕ) (xs : List ℕ) (within : done ≤ length xs) (before : Appends a b (take done xs)) where
   -- a write took some more bytes

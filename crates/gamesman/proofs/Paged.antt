@@ -1,30 +1,11 @@
 -- Pages with an engine, and why there are none.
-use Rattle.gamesman.proofs.Lower.{◌≡◌, ℕ, List, Option, Result, Ok, Err, inl, inr, Position, IsReadAs, Fault, NoSuchGame, NoSuchPosition, NoSuchPositionInLine}
-use Rattle.gamesman.proofs.Lower.{NoSuchTier, NoSuchIndex, NotLegal, NotCanonical, OutOfMemory, NotBuilt, AnotherGames, InputFailed, OutputFailed, OutputClosed}
-use Rattle.gamesman.proofs.Lower.{TooMuchInput, EngineNotRead, NotAnEngine, GameSpec, IsCutOff, IsPaged, IsGamesPage}
-use Rattle.std.proofs.lemmas.Result.{IfErr-weaker}
-use Rattle.gamesman.specs.Answers.{IsEnginePagedBy}
-use Rattle.gamesman.specs.Engines.{IsEngineFault, IsEnginePagedAt, IsEveryGame}
-use Rattle.gamesman.proofs.Cut.{kept}
+use Rattle.gamesman.proofs.Lower.{ℕ, List, Option, Result, Err, inl, inr, Position, IsReadAs, Fault, GameSpec, IsCutOff, IsPaged, IsGamesPage, IfErr-weaker}
+use Rattle.gamesman.proofs.Lower.{IsEnginePagedBy, IsEngineFault, IsEnginePagedAt, IsEveryGame}
+use Rattle.gamesman.proofs.Cut.{kept_cut}
 
 -- no engine is there, so nothing is written
 pub engine_cut : (IsText : List ℕ → Type 0) (o : Option (List ℕ)) (fault : Fault) → IsEngineFault fault → IsCutOff IsText o o fault
-engine_cut IsText o (OutOfMemory error) is = kept o
-engine_cut IsText o EngineNotRead is = kept o
-engine_cut IsText o NotAnEngine is = kept o
-engine_cut IsText o NoSuchGame is = absurd is
-engine_cut IsText o NoSuchPosition is = absurd is
-engine_cut IsText o (NoSuchPositionInLine line) is = absurd is
-engine_cut IsText o (NoSuchTier tier) is = absurd is
-engine_cut IsText o (NoSuchIndex tier index) is = absurd is
-engine_cut IsText o (NotLegal tier index) is = absurd is
-engine_cut IsText o (NotCanonical tier index) is = absurd is
-engine_cut IsText o (NotBuilt error) is = absurd is
-engine_cut IsText o (AnotherGames tier) is = absurd is
-engine_cut IsText o InputFailed is = absurd is
-engine_cut IsText o OutputFailed is = absurd is
-engine_cut IsText o OutputClosed is = absurd is
-engine_cut IsText o TooMuchInput is = absurd is
+engine_cut IsText o fault is = kept_cut IsText o IsEngineFault (λ n. n) (λ n. n) fault is
 
 module _ (g : GameSpec) (position : List ℕ) (limit : ℕ) where
   -- a page with an engine that was read

@@ -1,7 +1,5 @@
 -- All tiers that a tier reaches are held, also those below one of them.
-use Rattle.gamesman.proofs.Lower.{ℕ, zero, suc, List, refl, Contains, Rules, TableData, IsOrderFrom, HoldsExactly, AreAllHeld}
-use Rattle.gm_tiers.specs.Reach.{IsReachedFrom}
-use Rattle.gm_play.specs.Reached.{AreClosed}
+use Rattle.gamesman.proofs.Lower.{ℕ, zero, suc, List, refl, Contains, Rules, TableData, IsOrderFrom, HoldsExactly, AreAllHeld, IsReachedFrom, AreClosed}
 use Rattle.gm_play.proofs.Held.{all_held}
 
 -- the tiers that are reached from one of them

@@ -2,72 +2,17 @@
 use Rattle.gamesman.proofs.Lower.{◌≡◌, ℕ, true, false, inl, inr, List, Option, None, Some, Result, Ok, Err, refl, sym, subst, ◌∙◌, Contains, Rules}
 use Rattle.gamesman.proofs.Lower.{PositionSearch, Fault, NoSuchGame, NoSuchPosition, NoSuchPositionInLine, NoSuchTier, NoSuchIndex, NotLegal, NotCanonical}
 use Rattle.gamesman.proofs.Lower.{OutOfMemory, NotBuilt, AnotherGames, InputFailed, OutputFailed, OutputClosed, TooMuchInput, EngineNotRead, NotAnEngine}
-use Rattle.gamesman.proofs.Lower.{IsCutOff, IsUnbuilt, IsMemoryFault, IsPut, GameSpec, IsFoundOf, IsFoundSoFar, IsLeft, limit_by_tier, AreFoundWith}
-use Rattle.gamesman.proofs.Lower.{IsUnsearched, first_of}
-use Rattle.std.proofs.Common.{nat_eq, eqb-true, eq-eqb}
-use Rattle.std.specs.List.{list_any}
-use Rattle.gm_game.proofs.Lists.{any_in, any_from}
-use Rattle.gamesman.specs.Told.{IsNoTier, IsNoPlace, IsUnknown, IsTold}
-use Rattle.gamesman.proofs.Cut.{kept, cut_off, unbuilt_cut}
+use Rattle.gamesman.proofs.Lower.{IsCutOff, IsUnbuilt, IsMemoryFault, IsPut, GameSpec, IsFoundOf, IsFoundSoFar, IsLeft, AreFoundWith, IsUnsearched, first_of}
+use Rattle.gamesman.proofs.Lower.{nat_eq, eqb-true, eq-eqb, list_any, any_in, any_from, IsNoTier, IsNoPlace, IsUnknown, IsTold}
+use Rattle.gamesman.proofs.Cut.{kept_cut, cut_off, unbuilt_cut}
 
 module _ (IsText : List ℕ → Type 0) (o : Option (List ℕ)) where
   pub memory_cut : (fault : Fault) → IsMemoryFault fault → IsCutOff IsText o o fault
-  memory_cut NoSuchGame is = absurd is
-  memory_cut NoSuchPosition is = absurd is
-  memory_cut (NoSuchPositionInLine line) is = absurd is
-  memory_cut (NoSuchTier t) is = absurd is
-  memory_cut (NoSuchIndex t i) is = absurd is
-  memory_cut (NotLegal t i) is = absurd is
-  memory_cut (NotCanonical t i) is = absurd is
-  memory_cut (OutOfMemory error) is = kept o
-  memory_cut (NotBuilt error) is = absurd is
-  memory_cut (AnotherGames t) is = absurd is
-  memory_cut InputFailed is = absurd is
-  memory_cut OutputFailed is = absurd is
-  memory_cut OutputClosed is = absurd is
-  memory_cut TooMuchInput is = absurd is
-  memory_cut EngineNotRead is = absurd is
-  memory_cut NotAnEngine is = absurd is
-
-  no_tier_cut : (r : Rules) (tier : ℕ) (fault : Fault) → IsNoTier r tier fault → IsCutOff IsText o o fault
-  no_tier_cut r tier NoSuchGame is = absurd is
-  no_tier_cut r tier NoSuchPosition is = absurd is
-  no_tier_cut r tier (NoSuchPositionInLine line) is = absurd is
-  no_tier_cut r tier (NoSuchTier t) is = kept o
-  no_tier_cut r tier (NoSuchIndex t i) is = absurd is
-  no_tier_cut r tier (NotLegal t i) is = absurd is
-  no_tier_cut r tier (NotCanonical t i) is = absurd is
-  no_tier_cut r tier (OutOfMemory error) is = absurd is
-  no_tier_cut r tier (NotBuilt error) is = absurd is
-  no_tier_cut r tier (AnotherGames t) is = absurd is
-  no_tier_cut r tier InputFailed is = absurd is
-  no_tier_cut r tier OutputFailed is = absurd is
-  no_tier_cut r tier OutputClosed is = absurd is
-  no_tier_cut r tier TooMuchInput is = absurd is
-  no_tier_cut r tier EngineNotRead is = absurd is
-  no_tier_cut r tier NotAnEngine is = absurd is
-
-  no_place_cut : (r : Rules) (tier index : ℕ) (fault : Fault) → IsNoPlace r tier index fault → IsCutOff IsText o o fault
-  no_place_cut r tier index NoSuchGame is = absurd is
-  no_place_cut r tier index NoSuchPosition is = absurd is
-  no_place_cut r tier index (NoSuchPositionInLine line) is = absurd is
-  no_place_cut r tier index (NoSuchTier t) is = kept o
-  no_place_cut r tier index (NoSuchIndex t i) is = kept o
-  no_place_cut r tier index (NotLegal t i) is = kept o
-  no_place_cut r tier index (NotCanonical t i) is = kept o
-  no_place_cut r tier index (OutOfMemory error) is = absurd is
-  no_place_cut r tier index (NotBuilt error) is = absurd is
-  no_place_cut r tier index (AnotherGames t) is = absurd is
-  no_place_cut r tier index InputFailed is = absurd is
-  no_place_cut r tier index OutputFailed is = absurd is
-  no_place_cut r tier index OutputClosed is = absurd is
-  no_place_cut r tier index TooMuchInput is = absurd is
-  no_place_cut r tier index EngineNotRead is = absurd is
-  no_place_cut r tier index NotAnEngine is = absurd is
+  memory_cut fault is = kept_cut IsText o IsMemoryFault (λ n. n) (λ n. n) fault is
 
   unknown_cut : (r : Rules) (tier : ℕ) (fault : Fault) → IsUnknown r tier fault → IsCutOff IsText o o fault
   unknown_cut r tier fault (inl is) = unbuilt_cut IsText o r r.initial.tier fault is
-  unknown_cut r tier fault (inr is) = no_tier_cut r tier fault is
+  unknown_cut r tier fault (inr is) = kept_cut IsText o (IsNoTier r tier) (λ n. n) (λ n. n) fault is
 
   unsearched_cut : (r : Rules) (tier : Option ℕ) (fault : Fault) → IsUnsearched r tier fault → IsCutOff IsText o o fault
   unsearched_cut r None fault (inl is) = absurd is
@@ -89,7 +34,7 @@ module _ (IsText : List ℕ → Type 0) (o : Option (List ℕ)) where
 
     -- nothing is written if a place has no canonical position
     pub no_place_told : (r : Rules) (tier index : ℕ) → IsNoPlace r tier index fault → IsTold IsText IsWhy o o (Err fault)
-    no_place_told r tier index is = record { written = no_place_cut r tier index fault is; refused = inr why }
+    no_place_told r tier index is = record { written = kept_cut IsText o (IsNoPlace r tier index) (λ n. n) (λ n. n) fault is; refused = inr why }
 
   -- nothing is written if there is no table
   pub unsearched_told : (r : Rules) (tier : Option ℕ) (fault : Fault) → IsUnsearched r tier fault → IsTold IsText (IsUnsearched r tier) o o (Err fault)

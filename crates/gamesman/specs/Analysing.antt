@@ -1,14 +1,7 @@
 -- The output of `analyse`.
 use Rattle.std.specs.Prelude.{◌≡◌, ℕ, List, [], ◌∷◌, ◌++◌, codes, length, Option, None, Result}
-use Rattle.serde_json.specs.Written.{compact_text}
-use Rattle.gm_game.specs.Rules.{Rules}
-use Rattle.gm_table.specs.Tables.{TableData, IsTable}
-use Rattle.gm_tiers.specs.Orders.{IsTierOrder}
-use Rattle.gm_analyse.specs.declared.analysis.Analysis.{Analysis}
-use Rattle.gm_analyse.specs.Listing.{AreCounts}
-use Rattle.gm_analyse.specs.LongestWins.{IsLongestWin}
-use Rattle.gm_analyse.specs.Numbers.{count_where, is_legal_at, has_record}
-use Rattle.gm_analyse.specs.Tree.{name_text, analysis_tree}
+use Rattle.gamesman.specs.Lower.{compact_text, Rules, TableData, IsTable, IsTierOrder, Analysis, AreCounts, IsLongestWin, count_where, is_legal_at, has_record}
+use Rattle.gamesman.specs.Lower.{name_text, analysis_tree}
 use Rattle.gamesman.specs.declared.fault.Fault.{Fault}
 use Rattle.gamesman.specs.Searches.{IsUnsearched}
 use Rattle.gamesman.specs.Told.{IsTold}

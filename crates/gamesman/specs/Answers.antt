@@ -1,19 +1,9 @@
 -- The answer of each command.
 use Rattle.std.specs.Prelude.{◌≡◌, ℕ, List, Option, None, Some, Result, Ok, Err, IfErr}
-use Rattle.std.specs.Borrow.{Bor}
-use Rattle.std.specs.Io.KnownBytes.{Keeps}
-use Rattle.std.specs.Option.{option_map}
-use Rattle.gm_game.specs.declared.position.Position.{Position}
-use Rattle.gm_game.specs.Rules.{Rules}
-use Rattle.gm_play.specs.PlayTexts.{IsNoPosition}
-use Rattle.gm_play.specs.PlaceTexts.{IsPlaceText}
-use Rattle.gm_play.specs.Places.{IsUnlocated}
-use Rattle.gm_command.specs.Names.{game_of_name}
-use Rattle.gm_command.specs.declared.requests.Question.{Question}
-use Rattle.gm_command.specs.declared.requests.Request.{Request}
+use Rattle.gamesman.specs.Lower.{Bor, Keeps, option_map, Position, Rules, IsNoPosition, IsPlaceText, IsUnlocated, game_of_name, Question, Request, GameCommand}
 use Rattle.gm_command.specs.declared.requests.Request.TheVariants.{List as Names, Game, AllGames}
-use Rattle.gm_command.specs.declared.requests.GameCommand.{GameCommand}
-use Rattle.gm_command.specs.declared.requests.GameCommand.TheVariants.{Solve, Explore, Filter, EnginePage, At, Locate, Find, Counts, Longest, Ask, Analyse, Check, Play}
+use Rattle.gm_command.specs.declared.requests.GameCommand.TheVariants.{Solve, Explore, Filter, EnginePage, At, Locate, Find, Counts, Longest, Ask, Analyse}
+use Rattle.gm_command.specs.declared.requests.GameCommand.TheVariants.{Check, Play}
 use Rattle.gamesman.specs.declared.fault.Fault.{Fault}
 use Rattle.gamesman.specs.declared.fault.Fault.TheVariants.{NoSuchGame, NoSuchPosition, OutOfMemory, OutputFailed, OutputClosed}
 use Rattle.gamesman.specs.Games.{GameSpec, spec_of}

@@ -1,15 +1,8 @@
 -- The output of the service that answers positions, when it ends.
 use Rattle.std.specs.Prelude.{◌≡◌, ℕ, ◌⊎◌, Bool, true, false, List, [], codes, Option, Result, Ok, Err}
-use Rattle.std.specs.Io.KnownBytes.{Appends, Keeps}
-use Rattle.gm_game.specs.declared.position.Position.{Position}
-use Rattle.gm_game.specs.Rules.{Rules}
-use Rattle.gm_tiers.specs.Orders.{IsTierOrder}
-use Rattle.gm_play.specs.Sessions.{AppendsPart}
-use Rattle.gm_json.specs.declared.ask_error.AskError.{AskError}
+use Rattle.gamesman.specs.Lower.{Appends, Keeps, Position, Rules, IsTierOrder, AppendsPart, AskError, IsAnswer, IsServed, AskRequest}
 use Rattle.gm_json.specs.declared.ask_error.AskError.TheVariants.{OutOfMemory as NoMemory, NotHeld, ReadFailed, WriteFailed, OutputClosed as Closed}
-use Rattle.gm_json.specs.Answers.{IsAnswer}
-use Rattle.gm_json.specs.Asking.{IsServed, IsBroken}
-use Rattle.gm_command.specs.declared.requests.AskRequest.{AskRequest}
+use Rattle.gm_json.specs.Asking.{IsBroken}
 use Rattle.gamesman.specs.declared.fault.Fault.{Fault}
 use Rattle.gamesman.specs.declared.fault.Fault.TheVariants.{NoSuchPosition, OutOfMemory, InputFailed, OutputFailed, OutputClosed}
 use Rattle.gamesman.specs.Outputs.{IsOutputFault}

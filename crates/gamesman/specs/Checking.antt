@@ -1,21 +1,10 @@
 -- The output of `check` on the files of a game.
 use Rattle.std.specs.Prelude.{◌≡◌, ℕ, ◌⊎◌, List, [], ◌∷◌, ◌++◌, codes, Option, None, Some, Result, Ok, Err}
-use Rattle.std.specs.Result.{IsErrAnd}
-use Rattle.std.specs.Fmt.{decimal}
-use Rattle.std.specs.Io.KnownBytes.{Keeps, Appends}
-use Rattle.gm_game.specs.Rules.{Rules}
+use Rattle.gamesman.specs.Lower.{IsErrAnd, decimal, Keeps, Appends, Rules, TableData, AreTables, AreHeld, IsTierOrder, FileError, Refuses, IsTrueText}
+use Rattle.gamesman.specs.Lower.{IsUntrueText, StoreFailed, HoldsExactly, AppendsPart}
 use Rattle.gm_table.specs.declared.checker.CheckError.TheVariants.{OutOfMemory as NoRoom, WrongSize, WrongRecord}
-use Rattle.gm_table.specs.Tables.{TableData, AreTables, AreHeld}
-use Rattle.gm_tiers.specs.Orders.{IsTierOrder}
-use Rattle.gm_tierdb.specs.declared.file_error.FileError.{FileError}
 use Rattle.gm_tierdb.specs.declared.file_error.FileError.TheVariants.{OutOfMemory, Truncated, BadMagic, WrongGame, WrongTier, WrongSize as OtherSize, BadRecord}
 use Rattle.gm_tierdb.specs.declared.file_error.FileError.TheVariants.{Trailing, BadDigest, OldVersion}
-use Rattle.gm_tierdb.specs.Refusals.{Refuses}
-use Rattle.gm_build.specs.TrueTexts.{IsTrueText}
-use Rattle.gm_build.specs.Inspections.{IsUntrueText}
-use Rattle.gm_build.specs.declared.build_error.BuildError.TheVariants.{StoreFailed}
-use Rattle.gm_build.specs.Work.{HoldsExactly}
-use Rattle.gm_play.specs.Sessions.{AppendsPart}
 use Rattle.gamesman.specs.declared.fault.Fault.{Fault}
 use Rattle.gamesman.specs.declared.fault.Fault.TheVariants.{NotBuilt}
 use Rattle.gamesman.specs.declared.finding.Finding.{Finding}

@@ -1,11 +1,6 @@
 -- Pages with the engine.
 use Rattle.std.specs.Prelude.{◌≡◌, ◌⊎◌, ◌++◌, ℕ, max, true, false, List, [], ◌∷◌, Option, None, Some, Result, Err, IfErr}
-use Rattle.std.specs.List.{flat_map}
-use Rattle.gm_play.specs.PlayTexts.{IsNoPosition}
-use Rattle.gm_page.specs.Engines.{AreDigits}
-use Rattle.gm_page.specs.Pages.{IsPage, game_tree, with_viewer}
-use Rattle.gm_page.specs.Scripts.{script_line}
-use Rattle.gm_command.specs.declared.requests.EnginePageRequest.{EnginePageRequest}
+use Rattle.gamesman.specs.Lower.{flat_map, IsNoPosition, AreDigits, IsPage, game_tree, with_viewer, script_line, EnginePageRequest}
 use Rattle.gamesman.specs.declared.fault.Fault.{Fault}
 use Rattle.gamesman.specs.declared.fault.Fault.TheVariants.{NoSuchPosition, OutOfMemory, EngineNotRead, NotAnEngine}
 use Rattle.gamesman.specs.Games.{GameSpec, countdown_spec, takeaway_spec, wheel_spec, nine_spec, mutorere_spec, dao_spec, hare_spec, pong_spec, shisima_spec}

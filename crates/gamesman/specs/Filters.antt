@@ -1,14 +1,7 @@
 -- The answers to the positions of the input, one in each line.
 use Rattle.std.specs.Prelude.{◌≡◌, ℕ, ◌+◌, ◌-◌, ◌^◌, min, ◌⊎◌, List, [], ◌∷◌, ◌++◌, length, take, Option, Result, Ok, Err}
-use Rattle.std.specs.Io.KnownBytes.{Appends, Consumes, Keeps, IsAtEnd}
-use Rattle.gm_game.specs.declared.position.Position.{Position}
-use Rattle.gm_game.specs.Rules.{Rules}
-use Rattle.gm_tiers.specs.Reach.{IsReached}
-use Rattle.gm_play.specs.Dialogue.{without_return}
-use Rattle.gm_play.specs.PlayTexts.{IsReadAs}
-use Rattle.gm_play.specs.Sessions.{AppendsPart}
-use Rattle.gm_json.specs.Asking.{kept_bytes, lines_of, AreEnded}
-use Rattle.gm_command.specs.declared.requests.Question.{Question}
+use Rattle.gamesman.specs.Lower.{Appends, Consumes, Keeps, IsAtEnd, Position, Rules, IsReached, without_return, IsReadAs, AppendsPart, kept_bytes, lines_of}
+use Rattle.gamesman.specs.Lower.{AreEnded, Question}
 use Rattle.gamesman.specs.declared.fault.Fault.{Fault}
 use Rattle.gamesman.specs.declared.fault.Fault.TheVariants.{NoSuchPositionInLine, OutOfMemory, InputFailed, OutputFailed, OutputClosed}
 use Rattle.gamesman.specs.Refusals.{IsUnbuilt}

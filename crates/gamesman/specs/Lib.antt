@@ -15,3 +15,4 @@ pub mod Listing
 pub mod Plays
 pub mod Engines
 pub mod Answers
+pub mod Lower

@@ -1,7 +1,6 @@
 -- The output of `list`.
 use Rattle.std.specs.Prelude.{ℕ, Bool, true, false, List, ◌++◌, codes}
-use Rattle.std.specs.List.{flat_map}
-use Rattle.gm_command.specs.declared.names.TheConstants.{GAMES, LATER_GAMES}
+use Rattle.gamesman.specs.Lower.{flat_map, GAMES, LATER_GAMES}
 
 -- the names of the games that were added later, one in each line
 abbrev pub listed_later : List ℕ

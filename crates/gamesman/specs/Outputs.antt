@@ -1,7 +1,6 @@
 -- The output of a command when it ends.
 use Rattle.std.specs.Prelude.{◌≡◌, ℕ, List, ◌++◌, codes, Option, Result, Ok, Err}
-use Rattle.std.specs.Io.KnownBytes.{Keeps, Appends}
-use Rattle.gm_play.specs.Sessions.{AppendsPart}
+use Rattle.gamesman.specs.Lower.{Keeps, Appends, AppendsPart}
 use Rattle.gamesman.specs.declared.fault.Fault.{Fault}
 use Rattle.gamesman.specs.declared.fault.Fault.TheVariants.{OutputFailed, OutputClosed}
 

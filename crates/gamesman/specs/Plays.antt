@@ -1,27 +1,13 @@
 -- The input that a session of play has read and its output, when it ends.
 use Rattle.std.specs.Prelude.{◌≡◌, ℕ, ◌⊎◌, Bool, true, false, List, [], ◌++◌, codes, Option, None, Some, Result, Ok, Err, if◌then◌else◌}
-use Rattle.std.specs.Borrow.{Bor}
-use Rattle.std.specs.Str.{bytes_eq}
-use Rattle.std.specs.Io.KnownBytes.{Appends, Keeps}
-use Rattle.gm_game.specs.declared.position.Position.{Position}
-use Rattle.gm_game.specs.Rules.{Rules}
-use Rattle.gm_play.specs.declared.sides.Side.{Side}
-use Rattle.gm_play.specs.declared.sides.Side.TheVariants.{You, Computer}
-use Rattle.gm_play.specs.Sides.{IsWonIn, IsEven}
+use Rattle.gamesman.specs.Lower.{Bor, bytes_eq, Appends, Keeps, Position, Rules, Side, You, Computer, IsWonIn, IsEven, SessionError, Advice, IsKnown, unseen}
+use Rattle.gamesman.specs.Lower.{EndsWon, EndsUnlost, WritesOne, IsReadAs, IsNoPosition, IsSession, IsBroken, AppendsPart, sight, PlayRequest, PictureSpec}
 use Rattle.gm_play.specs.declared.view.Question.{Question}
-use Rattle.gm_play.specs.declared.session_error.SessionError.{SessionError}
 use Rattle.gm_play.specs.declared.session_error.SessionError.TheVariants.{ReadFailed, WriteFailed, TooMuchInput as TooMuch, OutputClosed as Closed}
-use Rattle.gm_play.specs.Dialogue.{Advice, IsKnown, unseen}
-use Rattle.gm_play.specs.LastLines.{EndsWon, EndsUnlost, WritesOne}
-use Rattle.gm_play.specs.PlayTexts.{IsReadAs, IsNoPosition}
-use Rattle.gm_play.specs.Sessions.{IsSession, IsBroken, AppendsPart}
-use Rattle.gm_page.specs.Sights.{sight}
-use Rattle.gm_command.specs.declared.requests.PlayRequest.{PlayRequest}
 use Rattle.gamesman.specs.declared.fault.Fault.{Fault}
 use Rattle.gamesman.specs.declared.fault.Fault.TheVariants.{NoSuchPosition, InputFailed, OutputFailed, OutputClosed, TooMuchInput}
 use Rattle.gamesman.specs.Outputs.{IsOutputFault}
 use Rattle.gamesman.specs.Refusals.{IsUnbuilt}
-use Rattle.gm_draw.specs.Pictures.{PictureSpec}
 
 -- the fault for an error of a session
 abbrev pub IsSessionFault : SessionError → Fault → Type 0

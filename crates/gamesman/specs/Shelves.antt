@@ -1,7 +1,6 @@
 -- The store that the program builds over.
 use Rattle.std.specs.Prelude.{◌≡◌, ℕ, ◌+◌, List, Option, Some, None, Bool, true, false, Result, IsOk, IsErrOf, string_bytes}
-use Rattle.gm_tierdb.specs.declared.store_error.StoreError.{StoreError}
-use Rattle.gm_tierdb.specs.declared.store_error.StoreError.TheVariants.{OutOfMemory, Failed}
+use Rattle.gamesman.specs.Lower.{StoreError, OutOfMemory, Failed}
 use Rattle.gm_command.specs.declared.requests.TableLocation.{TableLocation}
 use Rattle.gm_command.specs.declared.requests.TableLocation.TheVariants.{Memory as AtMemory, Folder as AtFolder, ReadOnly as AtReadOnly}
 use Rattle.gamesman.specs.declared.shelf.Shelf.{Shelf}

@@ -1,15 +1,7 @@
 -- The texts about a position: the answers to questions about it.
 use Rattle.std.specs.Prelude.{ℕ, max, Bool, true, false, List, []}
-use Rattle.gm_game.specs.declared.position.Position.{Position}
-use Rattle.gm_game.specs.Rules.{Rules}
-use Rattle.gm_play.specs.PlayTexts.{IsAnswerText, AreMoveRows, IsLineText}
-use Rattle.gm_play.specs.Why.{IsWhyText}
-use Rattle.gm_json.specs.Lines.{IsLineJson}
-use Rattle.gm_json.specs.Moves.{IsMovesJson}
-use Rattle.gm_page.specs.ShowTexts.{IsShowText, IsDiagram}
-use Rattle.gm_page.specs.Pages.{IsPage}
-use Rattle.gm_command.specs.declared.requests.Question.{Question}
-use Rattle.gm_command.specs.declared.requests.Question.TheVariants.{Value, Moves, Why, Line, Show, Diagram, Page}
+use Rattle.gamesman.specs.Lower.{Position, Rules, IsAnswerText, AreMoveRows, IsLineText, IsWhyText, IsLineJson, IsMovesJson, IsShowText, IsDiagram, IsPage}
+use Rattle.gamesman.specs.Lower.{Question, Value, Moves, Why, Line, Show, Diagram, Page}
 use Rattle.gamesman.specs.Games.{GameSpec}
 use Rattle.gamesman.specs.Outputs.{IsLine}
 

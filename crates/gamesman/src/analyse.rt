@@ -1,10 +1,10 @@
 //! The counts of a game, tier by tier.
 ghost use Rattle.std.specs.Prelude.{◌≡◌, ◌++◌, ℕ, List, IfOk, OnOk, string_bytes};
-ghost use Rattle.gm_table.specs.Tables.{IsHeld};
-ghost use Rattle.gm_build.specs.Work.{HoldsExactly};
+ghost use Rattle.gamesman.specs.Lower.{IsHeld, HoldsExactly};
 ghost use Rattle.gamesman.specs.Analysing.{IsAnalysisLine, AreAnalysisLines, IsAnalysedBy};
 
 use crate::fault::Fault;
+use crate::host::Host;
 use crate::output::put_all;
 use crate::tables::BuildOptions;
 use gm_analyse::analysis::analyse as count;
@@ -14,20 +14,16 @@ use gm_game::shown::Shown;
 use gm_table::table::Table;
 use gm_table::tables::Tables;
 use std::alloc::{AllocError, Global};
-use std::fs::Files;
 use std::io::Write;
 use std::string::String;
-use std::sync::Wait;
-use std::thread::Threads;
-use std::time::Clock;
 
 /// Prints the counts of each tier, in the order of tiers.
-pub fn analyse<
-    G: Shown + Send + Sync,
-    R: Threads + Wait + Clock + Files + Sync + AllocGlobal,
-    O: Write,
-    E: Write + Send,
->(rt: &R, options: BuildOptions<'_>, output: &mut O, errors: &mut E) -> Result<u8, Fault>
+pub fn analyse<G: Shown + Send + Sync, R: Host, O: Write, E: Write + Send>(
+    rt: &R,
+    options: BuildOptions<'_>,
+    output: &mut O,
+    errors: &mut E,
+) -> Result<u8, Fault>
     ensures { IsAnalysedBy G.Game.rules (O.contents output.old) (O.contents output.new) result }
 {
     let built = options.build::<G, R, E>(rt, errors)?;

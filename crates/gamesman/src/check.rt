@@ -1,16 +1,12 @@
 //! The check of a folder, tier by tier.
 ghost use Rattle.std.specs.Prelude.{◌≡◌, ◌≤◌, ℕ, List, [], IfOk, OnOk, IfErr};
-ghost use Rattle.std.specs.Option.{option_map};
-ghost use Rattle.std.specs.List.{Contains};
-ghost use Rattle.std.specs.Io.KnownBytes.{Appends};
-ghost use Rattle.gm_table.specs.Tables.{AreTables, AreHeld};
-ghost use Rattle.gm_build.specs.Work.{HoldsExactly};
-ghost use Rattle.gm_tiers.specs.Orders.{IsTierOrder};
+ghost use Rattle.gamesman.specs.Lower.{option_map, Contains, Appends, AreTables, AreHeld, HoldsExactly, IsTierOrder};
 ghost use Rattle.gamesman.specs.Refusals.{IsUnbuilt};
 ghost use Rattle.gamesman.specs.Checking.{finding_line, IsFoundOf, IsFinding, IsTableFor, right_with, IsUnreadAt, IsTierCut, IsCheckOf, IsCheckedBy};
 
 use crate::fault::Fault;
 use crate::finding::Finding;
+use crate::host::Host;
 use crate::output::put;
 use crate::run::DONE;
 use crate::teller::Teller;
@@ -29,9 +25,7 @@ use gm_tiers::order::TierOrder;
 use std::alloc::{AllocError, Global};
 use std::fs::Files;
 use std::io::Write;
-use std::sync::Wait;
 use std::thread::Threads;
-use std::time::Clock;
 
 // Reads a tier's file in a folder.
 fn read_file<R: Files>(
@@ -116,12 +110,7 @@ fn hold<G: Game>(
 }
 
 // Prints the finding on a tier's file, and holds the table if it is right.
-fn check_tier<
-    G: Game + Send + Sync,
-    R: Threads + Wait + Clock + Files + Sync + AllocGlobal,
-    O: Write,
-    E: Write + Send,
->(
+fn check_tier<G: Game + Send + Sync, R: Host, O: Write, E: Write + Send>(
     rt: &R,
     folder: &str,
     tier: u64,
@@ -145,12 +134,7 @@ fn check_tier<
 }
 
 // Prints the findings on the files of these tiers, and returns the exit status.
-fn check_tiers<
-    G: Game + Send + Sync,
-    R: Threads + Wait + Clock + Files + Sync + AllocGlobal,
-    O: Write,
-    E: Write + Send,
->(
+fn check_tiers<G: Game + Send + Sync, R: Host, O: Write, E: Write + Send>(
     rt: &R,
     folder: &str,
     tiers: &[u64],
@@ -182,12 +166,13 @@ fn order_of<G: Game>(alloc: Global) -> Result<TierOrder<G>, Fault>
 
 /// Prints for each tier the finding on its file in a folder, in the order of tiers. The status is 0 if all files are right, and
 /// otherwise 1.
-pub fn check<
-    G: Game + Send + Sync,
-    R: Threads + Wait + Clock + Files + Sync + AllocGlobal,
-    O: Write,
-    E: Write + Send,
->(rt: &R, folder: &str, output: &mut O, errors: &mut E, telling: Telling) -> Result<u8, Fault>
+pub fn check<G: Game + Send + Sync, R: Host, O: Write, E: Write + Send>(
+    rt: &R,
+    folder: &str,
+    output: &mut O,
+    errors: &mut E,
+    telling: Telling,
+) -> Result<u8, Fault>
     ensures { IsCheckedBy G.rules (O.contents output.old) (O.contents output.new) result }
 {
     let alloc = rt.alloc();

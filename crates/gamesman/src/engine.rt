@@ -1,6 +1,6 @@
 //! Pages with the engine, for a browser that solves the games itself.
 ghost use Rattle.std.specs.Prelude.{◌≡◌, ◌≤◌, [], true, IfOk, IfErr, OnOk};
-ghost use Rattle.gm_page.specs.Engines.{AreDigits};
+ghost use Rattle.gamesman.specs.Lower.{AreDigits};
 ghost use Rattle.gamesman.specs.Games.{game_spec};
 ghost use Rattle.gamesman.specs.Answers.{IsEnginePagedBy};
 ghost use Rattle.gamesman.specs.Engines.{IsEngineFault, IsEnginePaged, IsEnginePagedAt, IsEveryGame, games_page};
@@ -8,6 +8,7 @@ ghost use Rattle.gamesman.specs.Engines.{IsEngineFault, IsEnginePaged, IsEngineP
 use crate::every_game::push_games;
 use crate::explore::position_of;
 use crate::fault::Fault;
+use crate::host::Host;
 use crate::output::put;
 use crate::run::DONE;
 use crate::tables::BuildOptions;
@@ -22,9 +23,6 @@ use gm_tierdb::streams::read_text;
 use std::alloc::{AllocError, Global};
 use std::fs::{self, Files};
 use std::io::Write;
-use std::sync::Wait;
-use std::thread::Threads;
-use std::time::Clock;
 
 /// The greatest length of the file with the engine, in bytes.
 pub const ENGINE_LEN: u64 = 4_194_304;
@@ -49,12 +47,7 @@ fn read_engine<R: Files + AllocGlobal>(rt: &R, path: &str) -> Result<Vec<u8>, Fa
 }
 
 /// Writes the page of a position with the engine. The position is read first, then the engine, and then the tables are built.
-pub fn engine_page<
-    G: Pictured + Send + Sync,
-    R: Threads + Wait + Clock + Files + Sync + AllocGlobal,
-    O: Write,
-    E: Write + Send,
->(
+pub fn engine_page<G: Pictured + Send + Sync, R: Host, O: Write, E: Write + Send>(
     rt: &R,
     asked: EnginePageRequest<'_>,
     options: BuildOptions<'_>,
@@ -81,12 +74,7 @@ pub fn engine_page<
 }
 
 // Writes the page of a position with the engine in this text.
-fn page_with<
-    G: Pictured + Send + Sync,
-    R: Threads + Wait + Clock + Files + Sync + AllocGlobal,
-    O: Write,
-    E: Write + Send,
->(
+fn page_with<G: Pictured + Send + Sync, R: Host, O: Write, E: Write + Send>(
     rt: &R,
     position: Position,
     limit: usize,
@@ -109,12 +97,7 @@ fn page_with<
 }
 
 // Builds the tables of a position, and writes its page with this engine.
-fn build_page<
-    G: Pictured + Send + Sync,
-    R: Threads + Wait + Clock + Files + Sync + AllocGlobal,
-    O: Write,
-    E: Write + Send,
->(
+fn build_page<G: Pictured + Send + Sync, R: Host, O: Write, E: Write + Send>(
     rt: &R,
     position: Position,
     limit: usize,

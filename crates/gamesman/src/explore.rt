@@ -1,13 +1,13 @@
 //! Questions about a position: the values of its moves, and best play from it.
 ghost use Rattle.std.specs.Prelude.{◌≡◌, ◌++◌, true, None, Ok, codes, IfOk, IfErr, OnErr, IfSome};
-ghost use Rattle.gm_play.specs.PlayTexts.{IsReadAs, IsNoPosition};
-ghost use Rattle.gm_json.specs.Moves.{IsMovesJson};
+ghost use Rattle.gamesman.specs.Lower.{IsReadAs, IsNoPosition, IsMovesJson};
 ghost use Rattle.gamesman.specs.Games.{game_spec};
 ghost use Rattle.gamesman.specs.Outputs.{IsLine};
 ghost use Rattle.gamesman.specs.Texts.{IsQueryLine, IsMovesText, IsTextFor};
 ghost use Rattle.gamesman.specs.Answers.{IsAnsweredBy, IsExplored};
 
 use crate::fault::Fault;
+use crate::host::Host;
 use crate::output::put;
 use crate::run::DONE;
 use crate::tables::BuildOptions;
@@ -25,19 +25,10 @@ use gm_play::known::Known;
 use gm_play::texts::{line_text, moves_text};
 use gm_play::why::why_text;
 use std::alloc::{AllocError, Global};
-use std::fs::Files;
 use std::io::Write;
-use std::sync::Wait;
-use std::thread::Threads;
-use std::time::Clock;
 
 /// Answers a question about a position.
-pub fn explore<
-    G: Pictured + Send + Sync,
-    R: Threads + Wait + Clock + Files + Sync + AllocGlobal,
-    O: Write,
-    E: Write + Send,
->(
+pub fn explore<G: Pictured + Send + Sync, R: Host, O: Write, E: Write + Send>(
     rt: &R,
     position: Option<&str>,
     question: Question,

@@ -1,8 +1,6 @@
 //! Questions about the positions of the input, one in each line.
 ghost use Rattle.std.specs.Prelude.{List, ℕ, IfErr, OnOk};
-ghost use Rattle.std.specs.Io.KnownBytes.{Appends};
-ghost use Rattle.gm_tiers.specs.Orders.{IsTierOrder};
-ghost use Rattle.gm_build.specs.Work.{HoldsExactly};
+ghost use Rattle.gamesman.specs.Lower.{Appends, IsTierOrder, HoldsExactly};
 ghost use Rattle.gm_play.specs.Dialogue.{without_return as without_return_spec};
 ghost use Rattle.gamesman.specs.Games.{game_spec};
 ghost use Rattle.gamesman.specs.Texts.{IsTextFor};
@@ -10,6 +8,7 @@ ghost use Rattle.gamesman.specs.Filters.{IsOfNone, IsLineFault, AreLinesAnswered
 
 use crate::explore::text_for;
 use crate::fault::Fault;
+use crate::host::Host;
 use crate::output::put;
 use crate::run::DONE;
 use crate::tables::BuildOptions;
@@ -21,11 +20,7 @@ use gm_game::limits::LINE;
 use gm_play::closed::Closed;
 use gm_play::streams::without_return;
 use std::alloc::{AllocError, Global};
-use std::fs::Files;
 use std::io::{BufReader, Read, Write};
-use std::sync::Wait;
-use std::thread::Threads;
-use std::time::Clock;
 
 // The number of bytes of a line that are kept: the longest text of a position, a carriage return, and one byte that shows that the
 // line is longer.
@@ -33,13 +28,7 @@ const KEPT: usize = LINE + 2;
 
 /// Answers each position of the input, one in each line, before it reads more than the input has available. The first line that is
 /// not the text of a position ends the command.
-pub fn filter<
-    G: Pictured + Send + Sync,
-    R: Threads + Wait + Clock + Files + Sync + AllocGlobal,
-    I: Read,
-    O: Write,
-    E: Write + Send,
->(
+pub fn filter<G: Pictured + Send + Sync, R: Host, I: Read, O: Write, E: Write + Send>(
     rt: &R,
     question: Question,
     options: BuildOptions<'_>,

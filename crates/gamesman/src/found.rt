@@ -1,11 +1,6 @@
 //! Printing the positions that a search finds.
 ghost use Rattle.std.specs.Prelude.{◌≡◌, ◌⊎◌, ◌++◌, ℕ, Some, [], ◌∷◌, IfOk, OnOk, IfErr, is_some};
-ghost use Rattle.std.specs.List.{All, flat_map};
-ghost use Rattle.gm_tiers.specs.Orders.{IsOrderFrom};
-ghost use Rattle.gm_build.specs.Work.{HoldsExactly};
-ghost use Rattle.gm_play.specs.Reached.{AreAllHeld};
-ghost use Rattle.gm_find.specs.Founds.{IsFound, AreFound};
-ghost use Rattle.gm_command.specs.declared.requests.Form.TheVariants.{Sheet};
+ghost use Rattle.gamesman.specs.Lower.{All, flat_map, IsOrderFrom, HoldsExactly, AreAllHeld, IsFound, AreFound, Sheet};
 ghost use Rattle.gamesman.specs.Games.{game_spec};
 ghost use Rattle.gamesman.specs.Outputs.{IsOutputFault};
 ghost use Rattle.gamesman.specs.Told.{IsMemoryFault};

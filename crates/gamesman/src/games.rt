@@ -9,6 +9,7 @@ use crate::engine::engine_page;
 use crate::explore::explore;
 use crate::fault::Fault;
 use crate::filter::filter;
+use crate::host::Host;
 use crate::located::{at_place, locate};
 use crate::naming::write_naming;
 use crate::play::play;
@@ -19,20 +20,10 @@ use gm_command::names::GameName;
 use gm_command::requests::GameCommand;
 use gm_command::with_games;
 use gm_draw::pictured::Pictured;
-use std::fs::Files;
 use std::io::{Read, Write};
-use std::sync::Wait;
-use std::thread::Threads;
-use std::time::Clock;
 
 // Answers a command about a game.
-fn answer<
-    G: Pictured + Send + Sync,
-    R: Threads + Wait + Clock + Files + Sync + AllocGlobal,
-    I: Read,
-    O: Write,
-    E: Write + Send,
->(
+fn answer<G: Pictured + Send + Sync, R: Host, I: Read, O: Write, E: Write + Send>(
     rt: &R,
     command: GameCommand<'_>,
     options: BuildOptions<'_>,
@@ -83,12 +74,7 @@ fn answer<
 }
 
 /// Answers a command about the game of this name.
-pub fn answer_for<
-    R: Threads + Wait + Clock + Files + Sync + AllocGlobal,
-    I: Read,
-    O: Write,
-    E: Write + Send,
->(
+pub fn answer_for<R: Host, I: Read, O: Write, E: Write + Send>(
     rt: &R,
     game: GameName,
     command: GameCommand<'_>,

@@ -1,12 +1,13 @@
 //! The position at a tier and index, and the tier and index of a position.
 
 ghost use Rattle.std.specs.Prelude.{IfOk, IfErr};
-ghost use Rattle.gm_play.specs.Places.{IsAt};
+ghost use Rattle.gamesman.specs.Lower.{IsAt};
 ghost use Rattle.gamesman.specs.Told.{IsNoPlace};
 ghost use Rattle.gamesman.specs.Searches.{IsPlaced};
 ghost use Rattle.gamesman.specs.Answers.{IsLocatedBy};
 
 use crate::fault::Fault;
+use crate::host::Host;
 use crate::output::{put, put_all};
 use crate::run::DONE;
 use crate::search::known_tier;
@@ -17,19 +18,10 @@ use gm_play::known::Known;
 use gm_play::place_texts::{place_text, position_text};
 use gm_play::places::{self, PlaceError, at};
 use std::alloc::Global;
-use std::fs::Files;
 use std::io::Write;
-use std::sync::Wait;
-use std::thread::Threads;
-use std::time::Clock;
 
 /// Prints the canonical position with this index of a tier, and its value. A tier or an index is refused before tables are built.
-pub fn at_place<
-    G: Shown + Send + Sync,
-    R: Threads + Wait + Clock + Files + Sync + AllocGlobal,
-    O: Write,
-    E: Write + Send,
->(
+pub fn at_place<G: Shown + Send + Sync, R: Host, O: Write, E: Write + Send>(
     rt: &R,
     tier: u64,
     index: u64,

@@ -12,6 +12,7 @@ mod filter;
 mod finding;
 mod found;
 mod games;
+mod host;
 mod live;
 mod located;
 mod naming;
@@ -26,15 +27,12 @@ mod tables;
 mod teller;
 
 use crate::fault::Fault;
+use crate::host::Host;
 use crate::run::{BAD_LINE, bad_line, explain, refused, run_words};
 use std::alloc::AllocError;
 use std::env::{self, Args};
-use std::fs::Files;
 use std::io::{ErrorKind, IsTerminal, Read, Write};
 use std::process::ExitCode;
-use std::sync::Wait;
-use std::thread::Threads;
-use std::time::Clock;
 
 fn main(rt: HostRuntime) -> ExitCode {
     let mut errors = rt.stderr();
@@ -53,12 +51,13 @@ fn main(rt: HostRuntime) -> ExitCode {
 }
 
 // Runs the line of these words. If standard error is a terminal, a bad line is also explained.
-fn run_args<
-    R: Threads + Wait + Clock + Files + Sync + AllocGlobal,
-    I: Read,
-    O: Write,
-    E: Write + IsTerminal + Send,
->(rt: &R, args: Args, input: &mut I, output: &mut O, errors: &mut E) -> Result<u8, AllocError> {
+fn run_args<R: Host, I: Read, O: Write, E: Write + IsTerminal + Send>(
+    rt: &R,
+    args: Args,
+    input: &mut I,
+    output: &mut O,
+    errors: &mut E,
+) -> Result<u8, AllocError> {
     let mut owned = Vec::new(rt.alloc());
     for arg in args {
         owned.push(arg)?;

@@ -1,17 +1,13 @@
 //! A session of play, from the start of a game or from a position.
 ghost use Rattle.std.specs.Prelude.{◌≡◌, ◌++◌, ℕ, codes, true, IfErr, OnErr, OnOk};
-ghost use Rattle.std.specs.Io.KnownBytes.{Appends};
-ghost use Rattle.gm_tiers.specs.Orders.{IsOrderFrom};
-ghost use Rattle.gm_build.specs.Work.{HoldsExactly};
-ghost use Rattle.gm_play.specs.Sides.{IsWonIn, IsEven};
-ghost use Rattle.gm_play.specs.Dialogue.{Advice, IsKnown};
-ghost use Rattle.gm_play.specs.LastLines.{EndsWon, EndsUnlost, WritesOne};
-ghost use Rattle.gm_play.specs.Sessions.{IsSession, IsBroken, AppendsPart};
+ghost use Rattle.gamesman.specs.Lower.{Appends, IsOrderFrom, HoldsExactly, IsWonIn, IsEven, Advice, IsKnown, EndsWon, EndsUnlost, WritesOne, IsSession};
+ghost use Rattle.gamesman.specs.Lower.{IsBroken, AppendsPart};
 ghost use Rattle.gamesman.specs.Outputs.{IsOutputFault};
 ghost use Rattle.gamesman.specs.Plays.{first_text as first_text_spec, whose_text as whose_text_spec, sides_text, opening, seen_by, IsSitting, IsPlayed};
 
 use crate::explore::position_of;
 use crate::fault::Fault;
+use crate::host::Host;
 use crate::output::put;
 use crate::run::DONE;
 use crate::tables::BuildOptions;
@@ -26,20 +22,10 @@ use gm_play::session::session_with;
 use gm_play::session_error::SessionError;
 use gm_play::sides::Side;
 use gm_play::view::Plain;
-use std::fs::Files;
 use std::io::{Read, Write};
-use std::sync::Wait;
-use std::thread::Threads;
-use std::time::Clock;
 
 /// Plays with the person who reads the output and writes the input.
-pub fn play<
-    G: Pictured + Send + Sync,
-    R: Threads + Wait + Clock + Files + Sync + AllocGlobal,
-    I: Read,
-    O: Write,
-    E: Write + Send,
->(
+pub fn play<G: Pictured + Send + Sync, R: Host, I: Read, O: Write, E: Write + Send>(
     rt: &R,
     asked: PlayRequest<'_>,
     options: BuildOptions<'_>,

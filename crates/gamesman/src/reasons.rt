@@ -3,6 +3,7 @@ ghost use Rattle.std.specs.Prelude.{◌≡◌};
 
 use crate::fault::Fault;
 use crate::games::answer_for;
+use crate::host::Host;
 use crate::tables::BuildOptions;
 use gm_build::build_error::BuildError;
 use gm_command::names::{game_named, nearest_name};
@@ -10,17 +11,16 @@ use gm_command::requests::{GameCommand, Request, TableLocation};
 use std::alloc::Global;
 use std::fs::{self, Files};
 use std::io::{self, ErrorKind, Read, Write};
-use std::sync::Wait;
-use std::thread::Threads;
-use std::time::Clock;
 
 /// Writes advice after a fault of a request about a game, if there is any. If that write fails, nothing more is written.
-pub fn advise<
-    R: Threads + Wait + Clock + Files + Sync + AllocGlobal,
-    I: Read,
-    O: Write,
-    E: Write + Send,
->(rt: &R, request: Request<'_>, fault: &Fault, input: &mut I, output: &mut O, errors: &mut E)
+pub fn advise<R: Host, I: Read, O: Write, E: Write + Send>(
+    rt: &R,
+    request: Request<'_>,
+    fault: &Fault,
+    input: &mut I,
+    output: &mut O,
+    errors: &mut E,
+)
     ensures { output.new ≡ output.old }
 {
     let Request::Game(request) = request else {

@@ -7,6 +7,7 @@ ghost use Rattle.gamesman.specs.Answers.{IsDone, IsRun};
 use crate::engine::page_of_games;
 use crate::fault::Fault;
 use crate::games::answer_for;
+use crate::host::Host;
 use crate::output::{put, put_all};
 use crate::reasons::advise;
 use crate::tables::BuildOptions;
@@ -16,11 +17,7 @@ use gm_command::names::{LISTED, LISTED_LATER, game_named};
 use gm_command::reading::{Help, ReadError, read_words, what_is_wrong};
 use gm_command::requests::{Reading, Request};
 use std::alloc::{AllocError, Global};
-use std::fs::Files;
 use std::io::{Read, Write};
-use std::sync::Wait;
-use std::thread::Threads;
-use std::time::Clock;
 
 /// The status of a command that is done.
 pub const DONE: u8 = 0;
@@ -54,12 +51,7 @@ fn write_help<O: Write>(text: Help, output: &mut O) -> Result<u8, Fault> {
 }
 
 // Answers a request.
-fn answer<
-    R: Threads + Wait + Clock + Files + Sync + AllocGlobal,
-    I: Read,
-    O: Write,
-    E: Write + Send,
->(
+fn answer<R: Host, I: Read, O: Write, E: Write + Send>(
     rt: &R,
     request: Request<'_>,
     terminal: bool,
@@ -108,12 +100,14 @@ pub fn explain<E: Write>(alloc: Global, words: &[&str], errors: &mut E) {
 }
 
 /// Answers a request, and returns the exit status. A refusal is reported with its reason, and at a terminal also with advice.
-pub fn run_request<
-    R: Threads + Wait + Clock + Files + Sync + AllocGlobal,
-    I: Read,
-    O: Write,
-    E: Write + Send,
->(rt: &R, request: Request<'_>, terminal: bool, input: &mut I, output: &mut O, errors: &mut E) -> u8
+pub fn run_request<R: Host, I: Read, O: Write, E: Write + Send>(
+    rt: &R,
+    request: Request<'_>,
+    terminal: bool,
+    input: &mut I,
+    output: &mut O,
+    errors: &mut E,
+) -> u8
     ensures { IsRun request.entry (I.remaining input.old) (O.contents output.old) (O.contents output.new) result }
 {
     match answer(rt, request, terminal, input, output, errors) {
@@ -130,12 +124,14 @@ pub fn run_request<
 
 /// Runs a line of words, and returns the exit status. The first word is the program's name. If standard error is a terminal, it
 /// also shows the progress of a build, and advice after a refusal.
-pub fn run_words<
-    R: Threads + Wait + Clock + Files + Sync + AllocGlobal,
-    I: Read,
-    O: Write,
-    E: Write + Send,
->(rt: &R, words: &[&str], terminal: bool, input: &mut I, output: &mut O, errors: &mut E) -> u8 {
+pub fn run_words<R: Host, I: Read, O: Write, E: Write + Send>(
+    rt: &R,
+    words: &[&str],
+    terminal: bool,
+    input: &mut I,
+    output: &mut O,
+    errors: &mut E,
+) -> u8 {
     match read_words(rt.alloc(), words) {
         Ok(Reading::Request(request)) => run_request(rt, request, terminal, input, output, errors),
         Ok(Reading::Help(text)) => match write_help(text, output) {

@@ -1,12 +1,6 @@
 //! Searches over all tables of a game, and the service that answers positions.
 ghost use Rattle.std.specs.Prelude.{◌≡◌, None, IfOk, OnOk, OnErr, IfErr, is_some};
-ghost use Rattle.std.specs.Io.KnownBytes.{Appends};
-ghost use Rattle.gm_tiers.specs.Orders.{IsTierOrder};
-ghost use Rattle.gm_tiers.specs.Reach.{IsReached};
-ghost use Rattle.gm_build.specs.Work.{HoldsExactly};
-ghost use Rattle.gm_play.specs.Sessions.{AppendsPart};
-ghost use Rattle.gm_analyse.specs.Bars.{IsCountsText};
-ghost use Rattle.gm_analyse.specs.Longest.{IsLongestText};
+ghost use Rattle.gamesman.specs.Lower.{Appends, IsTierOrder, IsReached, HoldsExactly, AppendsPart, IsCountsText, IsLongestText};
 ghost use Rattle.gamesman.specs.Games.{game_spec};
 ghost use Rattle.gamesman.specs.Outputs.{IsOutputFault};
 ghost use Rattle.gamesman.specs.Told.{IsMemoryFault, IsUnknown, IsTold};
@@ -16,6 +10,7 @@ ghost use Rattle.gamesman.specs.Searches.{first_of, IsUnnamed, IsUnsearched, IsC
 
 use crate::fault::Fault;
 use crate::found::write_found;
+use crate::host::Host;
 use crate::output::{put, put_all};
 use crate::run::DONE;
 use crate::tables::BuildOptions;
@@ -31,19 +26,10 @@ use gm_play::closed::Closed;
 use gm_play::known_tiers::KnownTiers;
 use gm_tiers::order::TierOrder;
 use std::alloc::Global;
-use std::fs::Files;
 use std::io::{Read, Write};
-use std::sync::Wait;
-use std::thread::Threads;
-use std::time::Clock;
 
 /// Writes the positions that a search finds.
-pub fn find<
-    G: Pictured + Send + Sync,
-    R: Threads + Wait + Clock + Files + Sync + AllocGlobal,
-    O: Write,
-    E: Write + Send,
->(
+pub fn find<G: Pictured + Send + Sync, R: Host, O: Write, E: Write + Send>(
     rt: &R,
     search: PositionSearch,
     options: BuildOptions<'_>,
@@ -62,12 +48,7 @@ pub fn find<
 }
 
 /// Writes the counts of all tiers.
-pub fn counts<
-    G: Shown + Send + Sync,
-    R: Threads + Wait + Clock + Files + Sync + AllocGlobal,
-    O: Write,
-    E: Write + Send,
->(
+pub fn counts<G: Shown + Send + Sync, R: Host, O: Write, E: Write + Send>(
     rt: &R,
     request: CountsRequest,
     options: BuildOptions<'_>,
@@ -83,12 +64,7 @@ pub fn counts<
 }
 
 /// Writes the rows of the longest wins and the longest losses.
-pub fn longest<
-    G: Shown + Send + Sync,
-    R: Threads + Wait + Clock + Files + Sync + AllocGlobal,
-    O: Write,
-    E: Write + Send,
->(
+pub fn longest<G: Shown + Send + Sync, R: Host, O: Write, E: Write + Send>(
     rt: &R,
     reached: bool,
     limit: usize,
@@ -106,13 +82,7 @@ pub fn longest<
 }
 
 /// Answers each position of the input.
-pub fn serve<
-    G: Shown + Send + Sync,
-    R: Threads + Wait + Clock + Files + Sync + AllocGlobal,
-    I: Read,
-    O: Write,
-    E: Write + Send,
->(
+pub fn serve<G: Shown + Send + Sync, R: Host, I: Read, O: Write, E: Write + Send>(
     rt: &R,
     request: AskRequest,
     options: BuildOptions<'_>,

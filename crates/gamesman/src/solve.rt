@@ -3,6 +3,7 @@ ghost use Rattle.std.specs.Prelude.{◌≡◌, ◌++◌, IfOk, OnOk};
 ghost use Rattle.gamesman.specs.Solving.{part, report_text, IsSolvedBy};
 
 use crate::fault::Fault;
+use crate::host::Host;
 use crate::output::put_all;
 use crate::tables::BuildOptions;
 use gm_build::build::Built;
@@ -10,19 +11,15 @@ use gm_game::game::Game;
 use gm_game::shown::Line;
 use gm_game::text::push_decimal;
 use std::alloc::{AllocError, Global};
-use std::fs::Files;
 use std::io::Write;
-use std::sync::Wait;
-use std::thread::Threads;
-use std::time::Clock;
 
 /// Builds a game, and prints the work that it took.
-pub fn solve<
-    G: Game + Send + Sync,
-    R: Threads + Wait + Clock + Files + Sync + AllocGlobal,
-    O: Write,
-    E: Write + Send,
->(rt: &R, options: BuildOptions<'_>, output: &mut O, errors: &mut E) -> Result<u8, Fault>
+pub fn solve<G: Game + Send + Sync, R: Host, O: Write, E: Write + Send>(
+    rt: &R,
+    options: BuildOptions<'_>,
+    output: &mut O,
+    errors: &mut E,
+) -> Result<u8, Fault>
     ensures { IsSolvedBy G.rules (O.contents output.old) (O.contents output.new) result }
 {
     let built = options.build::<G, R, E>(rt, errors)?;

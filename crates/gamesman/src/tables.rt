@@ -1,13 +1,11 @@
 //! The tables of a game, in a folder or in memory.
 ghost use Rattle.std.specs.Prelude.{◌≡◌, ◌<◌, IfOk, IfErr, IfSome};
-ghost use Rattle.std.specs.List.{Contains};
-ghost use Rattle.gm_tiers.specs.Orders.{IsTierOrder, IsOrderFrom};
-ghost use Rattle.gm_build.specs.Work.{HoldsExactly, IsSomeWork};
-ghost use Rattle.gm_build.specs.Outcomes.{IsBuildError};
+ghost use Rattle.gamesman.specs.Lower.{Contains, IsTierOrder, IsOrderFrom, HoldsExactly, IsSomeWork, IsBuildError};
 ghost use Rattle.gamesman.specs.Shelves.{failed_in};
 ghost use Rattle.gamesman.specs.Refusals.{IsUnbuilt, reason_of};
 
 use crate::fault::Fault;
+use crate::host::Host;
 use crate::shelf::Shelf;
 use crate::teller::Teller;
 use gm_build::build::{Built, build_from};
@@ -21,9 +19,6 @@ use gm_tiers::order::TierOrder;
 use std::alloc::AllocError;
 use std::fs::Files;
 use std::io::Write;
-use std::sync::Wait;
-use std::thread::Threads;
-use std::time::Clock;
 
 /// The options of a build: the place of the tables of a game, how they are made, and how that is reported.
 #[derive(Clone, Copy)]
@@ -53,11 +48,11 @@ impl<'a> BuildOptions<'a> {
     }
 
     /// Builds a whole game. Progress is reported on standard error.
-    pub fn build<
-        G: Game + Send + Sync,
-        R: Threads + Wait + Clock + Files + Sync + AllocGlobal,
-        E: Write + Send,
-    >(self, rt: &R, errors: &mut E) -> Result<Built<G>, Fault>
+    pub fn build<G: Game + Send + Sync, R: Host, E: Write + Send>(
+        self,
+        rt: &R,
+        errors: &mut E,
+    ) -> Result<Built<G>, Fault>
         ensures order { IfOk result (λ built. IsTierOrder G.rules built.order) }
         ensures held { IfOk result (λ built. HoldsExactly built.tables built.order) }
         ensures work { IfOk result (λ built. IsSomeWork G.rules built.order built.work) }
@@ -67,11 +62,12 @@ impl<'a> BuildOptions<'a> {
     }
 
     /// Builds the tiers that one tier reaches: all tiers on which its values depend. Progress is reported on standard error.
-    pub fn build_from<
-        G: Game + Send + Sync,
-        R: Threads + Wait + Clock + Files + Sync + AllocGlobal,
-        E: Write + Send,
-    >(self, rt: &R, first: u64, errors: &mut E) -> Result<Built<G>, Fault>
+    pub fn build_from<G: Game + Send + Sync, R: Host, E: Write + Send>(
+        self,
+        rt: &R,
+        first: u64,
+        errors: &mut E,
+    ) -> Result<Built<G>, Fault>
         ensures order { IfOk result (λ built. IsOrderFrom G.rules first built.order) }
         ensures held { IfOk result (λ built. HoldsExactly built.tables built.order) }
         ensures work { IfOk result (λ built. IsSomeWork G.rules built.order built.work) }
@@ -118,11 +114,7 @@ fn first_anothers<G: Game, R: Files>(
 }
 
 // Builds the tiers that one tier reaches, over a store without a failed call.
-fn build_over<
-    G: Game + Send + Sync,
-    R: Threads + Wait + Clock + Files + Sync + AllocGlobal,
-    E: Write + Send,
->(
+fn build_over<G: Game + Send + Sync, R: Host, E: Write + Send>(
     rt: &R,
     shelf: &mut Shelf,
     first: u64,

@@ -1,11 +1,8 @@
 -- A list of counts with one value and remoteness more, whatever is counted: so many have a value and remoteness, and only so many.
 use Rattle.gm_analyse.proofs.Lower.{◌≡◌, ℕ, zero, suc, ◌<◌, ◌≤◌, ◌+◌, ◌⊎◌, ◌↔◌, inl, inr, List, [], ◌∷◌, ◌++◌, get_or, refl, sym, ap, ◌∙◌, subst, arith}
-use Rattle.gm_analyse.proofs.Lower.{Contains, cases_lt, Contains-get_or, Value, Win, contains_none, Count, rank}
-use Rattle.std.proofs.lemmas.List.Elements.{Contains-append_left, Contains-push, Contains-push_cases}
-use Rattle.std.proofs.lemmas.List.Quantifiers.{all_pairs_push}
-use Rattle.gm_game.specs.declared.position.Value.TheVariants.{Lose, Draw, Tie}
-use Rattle.gm_analyse.specs.Listing.{ComesBefore, IsBefore, AreBefore, counted}
-use Rattle.std.proofs.Common.{◌-◌, append_assoc, append-nil}
+use Rattle.gm_analyse.proofs.Lower.{Contains, cases_lt, Contains-get_or, Value, Win, contains_none, Count, rank, Contains-append_left, Contains-push}
+use Rattle.gm_analyse.proofs.Lower.{Contains-push_cases, all_pairs_push, Lose, Draw, Tie, ComesBefore, IsBefore, AreBefore, counted, ◌-◌, append_assoc}
+use Rattle.std.proofs.Common.{append-nil}
 
 -- values of one rank are the same
 value_at : ℕ → Value

@@ -1,10 +1,7 @@
 -- Numbers of indexes with one index more.
-use Rattle.gm_analyse.proofs.Lower.{◌≡◌, ℕ, zero, suc, ◌<◌, ◌≤◌, ◌+◌, ◌==◌, Bool, true, false, if◌then◌else◌, List, set, length, get_or, refl, sym, ap, ◌∙◌}
-use Rattle.gm_analyse.proofs.Lower.{subst, arith, inl, inr, Option, None, Some, cases_eq, same_Some, Position, Solved, Value, Rules, IsRecord, record_at}
-use Rattle.gm_analyse.proofs.Lower.{count_where, rank, remoteness_in, is_solved, number_in}
-use Rattle.std.proofs.Common.{eq-eqb, ne_eqb}
-use Rattle.std.proofs.lemmas.List.{get_or-set_same, get_or-set_other}
-use Rattle.gm_table.specs.Levels.{is_level}
+use Rattle.gm_analyse.proofs.Lower.{◌≡◌, ℕ, zero, suc, ◌≤◌, ◌+◌, ◌==◌, Bool, true, false, if◌then◌else◌, List, get_or, refl, sym, ap, ◌∙◌, subst, arith, inl}
+use Rattle.gm_analyse.proofs.Lower.{inr, Option, None, Some, cases_eq, same_Some, Position, Solved, Value, Rules, IsRecord, record_at, count_where, rank}
+use Rattle.gm_analyse.proofs.Lower.{remoteness_in, is_solved, number_in, eq-eqb, ne_eqb, is_level}
 
 count_more : (test : ℕ → Bool) (n : ℕ) → count_where test (n + 1) ≡ (if test n then count_where test n + 1 else count_where test n)
 count_more test n = let e : n + 1 ≡ suc n = omega arith in rw e refl
@@ -37,21 +34,13 @@ module _ (records : List (Option Solved)) (v : Value) (i : ℕ) where
       v n) (sym e)
 
   -- one more has remoteness m
-  pub numbers_with : (m d : ℕ) (xs ys : List ℕ) → Some m ≡ Here → m < length xs → ((n : ℕ) → get_or xs n 0 ≡ number_in records i v n) → d ≡ get_or xs m 0 →
-      ys ≡ set xs m (d + 1) → (n : ℕ) → get_or ys n 0 ≡ number_in records (i + 1) v n
-  numbers_with m d xs ys e l h q w n = elim (cases_eq m n) [
+  pub numbers_with : (m : ℕ) (xs ys : List ℕ) → Some m ≡ Here → ((n : ℕ) → get_or xs n 0 ≡ number_in records i v n) → get_or ys m 0 ≡ get_or xs m 0 + 1
+      → ((n : ℕ) → (n ≡ m → ⊥) → get_or ys n 0 ≡ get_or xs n 0) → (n : ℕ) → get_or ys n 0 ≡ number_in records (i + 1) v n
+  numbers_with m xs ys e h here elsewhere n = elim (cases_eq n m) [
     | inl s ↦ (
-        let same : (m == n) ≡ true = eq-eqb m n s in
-        let new : get_or ys n 0 ≡ d + 1 = subst (λ (k : ℕ). get_or ys k 0 ≡ d + 1) s
-        (ap (λ (zs : List ℕ). get_or zs m 0) w ∙ get_or-set_same xs m (d + 1) 0 l) in
-        let old : d ≡ number_in records i v n = subst (λ (k : ℕ). d ≡ number_in records i v k) s (q ∙ h m) in
-        let more : number_in records (i + 1) v n ≡ number_in records i v n + 1 = number_more (Some m) n e ∙ rw same refl in
-        new ∙ ap (λ (k : ℕ). k + 1) old ∙ sym more)
-    | inr s ↦ (
-        let other : (m == n) ≡ false = ne_eqb m n s in
-        let new : get_or ys n 0 ≡ get_or xs n 0 = ap (λ (zs : List ℕ). get_or zs n 0) w ∙ get_or-set_other xs m n (d + 1) 0 (λ z. s (sym z)) in
-        let more : number_in records (i + 1) v n ≡ number_in records i v n = number_more (Some m) n e ∙ rw other refl in
-        new ∙ h n ∙ sym more)
+        let more : number_in records (i + 1) v m ≡ number_in records i v m + 1 = number_more (Some m) m e ∙ rw (eq-eqb m m refl) refl in
+        subst (λ (k : ℕ). get_or ys k 0 ≡ number_in records (i + 1) v k) (sym s) (here ∙ ap (λ (k : ℕ). k + 1) (h m) ∙ sym more))
+    | inr s ↦ elsewhere n s ∙ h n ∙ sym (number_more (Some m) n e ∙ rw (ne_eqb m n (λ z. s (sym z))) refl)
   ]
 
   -- one more has another value, or none

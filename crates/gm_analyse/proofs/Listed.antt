@@ -1,12 +1,8 @@
 -- Counts of the positions of tiers, with one value and remoteness or one position more.
-use Rattle.gm_analyse.proofs.Lower.{◌≡◌, ℕ, ◌+◌, inl, inr, Bool, List, [], ◌∷◌, ◌++◌, length, get_or, Result, Ok, Err, sym, ap, ◌∙◌, subst}
-use Rattle.gm_analyse.proofs.Lower.{cases_eq, Position, Value, Rules, HasValue_once, Among, Count, all_positions, IsCounted, IsNumber, AreCounts}
-use Rattle.gm_analyse.proofs.Lower.{AreNumbers}
-use Rattle.std.proofs.Common.{OnOk}
-use Rattle.std.proofs.lemmas.List.{length-append}
-use Rattle.gm_analyse.specs.Listing.{AreBefore}
+use Rattle.gm_analyse.proofs.Lower.{◌≡◌, ℕ, ◌+◌, inl, inr, Bool, List, [], ◌∷◌, ◌++◌, length, get_or, Result, Ok, Err, sym, ap, ◌∙◌, subst, cases_eq, Position}
+use Rattle.gm_analyse.proofs.Lower.{Value, Rules, HasValue_once, Among, Count, all_positions, IsCounted, IsNumber, AreCounts, AreNumbers, OnOk, length-append}
+use Rattle.gm_analyse.proofs.Lower.{AreBefore, those_once, those_push, those_skip}
 use Rattle.gm_analyse.proofs.CountLists as lists
-use Rattle.gm_find.proofs.ListLemmas.{those_once, those_push, those_skip}
 
 module _ (r : Rules) (among : Among) (reached : Bool) (ps : List Position) where
   abbrev pub Num : Value → ℕ → ℕ → Type 0

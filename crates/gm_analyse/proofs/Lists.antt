@@ -1,6 +1,6 @@
 -- The counts of a table.
-use Rattle.gm_analyse.proofs.Lower.{◌≡◌, ℕ, List, length, sym, ◌∙◌, Option, Solved, Value, Count, number_in}
-use Rattle.gm_analyse.specs.Listing.{AreCounts, AreBefore}
+use Rattle.gm_analyse.proofs.Lower.{◌≡◌, ℕ, List, length, sym, ◌∙◌, Option, Solved, Value, Count, number_in, AreBefore}
+use Rattle.gm_analyse.specs.Listing.{AreCounts}
 use Rattle.gm_analyse.proofs.CountLists as lists
 
 module _ (records : List (Option Solved)) where

@@ -1,15 +1,8 @@
 -- The text of a padded name.
-use Rattle.gm_analyse.proofs.Lower.{◌≡◌, ℕ, suc, ◌+◌, inl, inr, ◌==◌, Bool, true, false, List, [], ◌∷◌, length, take, Result, Ok, Err, refl, ap, arith}
-use Rattle.gm_analyse.proofs.Lower.{None, Some, position, unwrap_or, IsUtf8, name_text}
-use Rattle.std.proofs.Common.{◌&&◌, nat_lt, cond, not}
-use Rattle.std.specs.List.{position_or_len}
-use Rattle.std.specs.Result.{IsOk, MatchResult}
-use Rattle.std.specs.Str.{IsAscii}
-use Rattle.std.proofs.lemmas.Bool.{and_parts, cases_Bool, ltb-true, ltb-false}
-use Rattle.std.proofs.lemmas.List.Sums.{prefix_len-le-length}
+use Rattle.gm_analyse.proofs.Lower.{◌≡◌, ℕ, suc, ◌+◌, inl, inr, ◌==◌, Bool, true, false, List, [], ◌∷◌, length, take, Result, Ok, Err, refl, ap, arith, None}
+use Rattle.gm_analyse.proofs.Lower.{Some, position, unwrap_or, IsUtf8, name_text, ◌&&◌, nat_lt, cond, not, position_or_len, IsOk, MatchResult, IsAscii}
+use Rattle.gm_analyse.proofs.Lower.{and_parts, cases_Bool, ltb-true, ltb-false, prefix_len-le-length, IsAscii-nil, IsAscii-cons, is_padded_text, IsPaddedText}
 use Rattle.std.proofs.lemmas.Str.{IsUtf8-from_ascii}
-use Rattle.std.proofs.lemmas.Str.Ascii.{IsAscii-nil, IsAscii-cons}
-use Rattle.gm_game.specs.Texts.{is_padded_text, IsPaddedText}
 
 padded_more : (b : ℕ) (bs : List ℕ) → (b == 0) ≡ false → is_padded_text (b ∷ bs) ≡ true → (nat_lt b 128 && is_padded_text bs) ≡ true
 padded_more b bs e h = rw e at h

@@ -1,9 +1,6 @@
 -- Counts as lines of text: with bars, as CSV, or as JSON.
-use Rattle.std.specs.Prelude.{◌≡◌, ℕ, ◌+◌, max, Bool, true, false, List, [], ◌++◌, codes, take, Option, None, Some}
-use Rattle.gm_analyse.specs.Lower.{decimal, flat_map, Data, string}
-use Rattle.gm_analyse.specs.Lower.{object, member, no_members, compact_text, Rules, value_word}
-use Rattle.std.specs.Prelude.{◌-◌, ◌*◌, ◌/◌, min, fold}
-use Rattle.gm_game.specs.Texts.{value_text_of}
+use Rattle.std.specs.Prelude.{◌≡◌, ℕ, ◌+◌, max, Bool, true, false, List, [], ◌++◌, codes, take, Option, None, Some, ◌-◌, ◌*◌, ◌/◌, min, fold}
+use Rattle.gm_analyse.specs.Lower.{decimal, flat_map, Data, string, object, member, no_members, compact_text, Rules, value_word, value_text_of}
 use Rattle.gm_analyse.specs.declared.among.Among.{Among}
 use Rattle.gm_analyse.specs.declared.bars.Form.{Form}
 use Rattle.gm_analyse.specs.declared.bars.Form.TheVariants.{Bars, Csv, Json}

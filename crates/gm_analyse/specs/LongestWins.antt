@@ -1,7 +1,6 @@
 -- The longest win of a table.
-use Rattle.std.specs.Prelude.{◌≡◌, ℕ, ◌<◌, ◌≤◌, List, Option, None, Some, if◌then◌else◌}
+use Rattle.std.specs.Prelude.{◌≡◌, ℕ, ◌<◌, ◌≤◌, List, Option, None, Some, if◌then◌else◌, nat_le}
 use Rattle.gm_analyse.specs.Lower.{Solved, Win, record_at}
-use Rattle.std.specs.Prelude.{nat_le}
 use Rattle.gm_analyse.specs.Numbers.{remoteness_in}
 
 -- the index is below n and has a win of this remoteness

@@ -1,9 +1,6 @@
 -- How many indexes of a table pass a test.
-use Rattle.std.specs.Prelude.{ℕ, ◌+◌, ◌==◌, Bool, true, false, List, Option, None, Some, if◌then◌else◌}
-use Rattle.gm_analyse.specs.Lower.{Value, Lose, Win, Solved, Rules, record_at}
-use Rattle.std.specs.Prelude.{zero, suc}
-use Rattle.gm_game.specs.declared.position.Value.TheVariants.{Draw, Tie}
-use Rattle.gm_game.specs.Rules.{at}
+use Rattle.std.specs.Prelude.{ℕ, ◌+◌, ◌==◌, Bool, true, false, List, Option, None, Some, if◌then◌else◌, zero, suc}
+use Rattle.gm_analyse.specs.Lower.{Value, Lose, Win, Solved, Rules, record_at, Draw, Tie, at}
 use Rattle.gm_table.specs.Levels.{is_level}
 
 -- how many numbers below n pass the test

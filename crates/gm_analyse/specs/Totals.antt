@@ -1,14 +1,11 @@
 -- How many positions of some tiers have each value and remoteness.
 use Rattle.std.specs.Prelude.{◌≡◌, ℕ, ◌<◌, ◌≤◌, ◌↔◌, List, Bool, true, IsTrue, Option, None, Some, length, slice_index_or}
-use Rattle.gm_analyse.specs.Lower.{Contains, AllPairs, Position}
-use Rattle.gm_analyse.specs.Lower.{Value, Solved, REMOTENESS, Rules, all_positions, IsReachedByPlay}
-use Rattle.gm_game.specs.Rules.{IsCanonical}
-use Rattle.gm_game.specs.Values.{HasValue, IsTrueValue}
+use Rattle.gm_analyse.specs.Lower.{Contains, AllPairs, Position, Value, Solved, REMOTENESS, Rules, all_positions, IsReachedByPlay, IsCanonical, HasValue}
+use Rattle.gm_analyse.specs.Lower.{IsTrueValue, AreThose}
 use Rattle.gm_analyse.specs.declared.among.Among.{Among}
 use Rattle.gm_analyse.specs.declared.among.Among.TheVariants.{Canonical, Legal}
 use Rattle.gm_analyse.specs.declared.counts.Count.{Count}
 use Rattle.gm_analyse.specs.Listing.{IsBefore}
-use Rattle.gm_find.specs.Lists.{AreThose}
 
 -- the positions that are counted: the canonical ones, or all legal ones
 abbrev pub IsAmong : Rules → Among → Position → Type 0

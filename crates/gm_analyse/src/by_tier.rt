@@ -34,24 +34,12 @@ pub fn tier_counts<G: Game>(
     ensures { IfOk result (λ v. AreRows G.rules among (is_some reached.entry) by_tier known.now.tiers.now v.items) }
 {
     if by_tier {
-        rows_by_tier(alloc, known, among, reached)
-    } else {
-        rows_together(alloc, known, among, reached)
+        return rows_by_tier(alloc, known, among, reached);
     }
-}
-
-// Returns the counts of all tiers together.
-fn rows_together<G: Game>(
-    alloc: Global,
-    known: &KnownTiers<'_, G>,
-    among: Among,
-    reached: Option<&Reached<G>>,
-) -> Result<Vec<TierCount>, AllocError>
-    ensures { IfOk result (λ v. (counts : List CountData) × AreCounts G.rules among (is_some reached.entry) known.now.tiers.now counts
-        × (v.items ≡ map (with_tier_spec None) counts)) }
-{
     let counted = counts(alloc, known, among, reached)?;
-    with_tier(alloc, None, counted.as_slice())
+    let mut rows = Vec::new(alloc);
+    add_counts(&mut rows, None, counted.as_slice())?;
+    Ok(rows)
 }
 
 // Returns the counts of each tier.
@@ -88,19 +76,6 @@ fn add_tier<G: Game>(
     };
     let counted = counts(*rows.allocator(), &one, among, reached)?;
     add_counts(rows, Some(tier), counted.as_slice())
-}
-
-// Pairs counts with their tier.
-fn with_tier(
-    alloc: Global,
-    tier: Option<u64>,
-    counts: &[Count],
-) -> Result<Vec<TierCount>, AllocError>
-    ensures { IfOk result (λ v. v.items ≡ map (with_tier_spec tier) counts.now) }
-{
-    let mut rows = Vec::new(alloc);
-    add_counts(&mut rows, tier, counts)?;
-    Ok(rows)
 }
 
 // Adds counts of one tier.

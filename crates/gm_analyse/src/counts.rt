@@ -1,8 +1,9 @@
 //! How many positions have each value and remoteness.
-ghost use Rattle.std.specs.Prelude.{◌≡◌, ◌++◌, ◌+◌, ◌<◌, ◌≤◌, ℕ, max, length, slice_index_or, vec_len, IfOk, OnOk};
+ghost use Rattle.std.specs.Prelude.{◌≡◌, ◌++◌, ◌+◌, ◌<◌, ◌≤◌, ℕ, length, slice_index_or, vec_len, IfOk, OnOk};
 ghost use Rattle.gm_analyse.specs.Numbers.{remoteness_in as remoteness_in_spec, number_in};
 ghost use Rattle.gm_analyse.specs.Listing.{AreCounts, counted};
 
+use crate::numbers::count;
 use gm_game::game::Game;
 use gm_game::limits::REMOTENESS;
 use gm_game::position::{Solved, Value};
@@ -88,24 +89,10 @@ fn numbers_of<G: Game>(
     let mut numbers = Vec::new(alloc);
     for index in 0..table.size() {
         if let Some(remoteness) = remoteness_in(value, table.at(index)) {
-            let level = remoteness as usize;
-            grow(&mut numbers, level)?;
-            numbers[level] += 1;
+            count(&mut numbers, remoteness as usize)?;
         }
     }
     Ok(numbers)
-}
-
-// Adds zeros until there is a number at this level.
-fn grow(numbers: &mut Vec<u64>, level: usize) -> Result<(), AllocError>
-    ensures room { OnOk result (level < vec_len numbers.new) }
-    ensures few { OnOk result (vec_len numbers.new ≤ max (vec_len numbers.old) (level + 1)) }
-    ensures same { OnOk result ((n : ℕ) → slice_index_or numbers.new.items n 0 ≡ slice_index_or numbers.old.items n 0) }
-{
-    while numbers.len() <= level {
-        numbers.push(0)?;
-    }
-    Ok(())
 }
 
 /// Returns the remoteness of a record of this value.

@@ -1,10 +1,6 @@
 //! The text of an analysis in JSON.
-ghost use Rattle.std.specs.Prelude.{◌≡◌, ◌==◌, ◌<◌, ◌++◌, ◌∷◌, [], ℕ, length, map, IfOk, OnOk, IfSome};
-ghost use Rattle.gm_analyse.specs.Lower.{compact_text, object, view};
-ghost use Rattle.std.specs.Prelude.{string_bytes};
-ghost use Rattle.std.specs.List.{position};
-ghost use Rattle.serde_json.specs.View.{members_view};
-ghost use Rattle.gm_game.specs.Texts.{IsPaddedText};
+ghost use Rattle.std.specs.Prelude.{◌≡◌, ◌==◌, ◌<◌, ◌++◌, ◌∷◌, [], ℕ, length, map, IfOk, OnOk, IfSome, string_bytes};
+ghost use Rattle.gm_analyse.specs.Lower.{compact_text, object, view, position, members_view, IsPaddedText};
 ghost use Rattle.gm_analyse.specs.Tree.{name_text, count_tree, counts_tree, longest_tree, analysis_tree};
 
 use crate::analysis::Analysis;
@@ -23,7 +19,9 @@ pub fn to_json<G: Game>(alloc: Global, analysis: &Analysis) -> Result<String, Al
 {
     laws::<G>();
     let name = G::name();
-    let tree = tree(alloc, text_of(&name), analysis)?;
+    let mut members = Map::new(alloc);
+    put_members(alloc, &mut members, text_of(&name), analysis)?;
+    let tree = Json::Object(members);
     let text = tree.to_string(alloc);
     drop(tree);
     text
@@ -44,15 +42,6 @@ fn first_zero(name: &[u8]) -> Option<usize>
     ensures within { IfSome result (λ end. end < length name.now) }
 {
     name.iter().position(|byte| *byte == 0)
-}
-
-// Returns the analysis as a tree.
-fn tree(alloc: Global, game: &str, analysis: &Analysis) -> Result<Json, AllocError>
-    ensures { IfOk result (λ v. view v ≡ analysis_tree game.now analysis.now) }
-{
-    let mut members = Map::new(alloc);
-    put_members(alloc, &mut members, game, analysis)?;
-    Ok(Json::Object(members))
 }
 
 // Puts the members of an analysis into an empty object.
@@ -99,13 +88,8 @@ fn counts_value(alloc: Global, counts: &[Count]) -> Result<Json, AllocError>
 fn push_count(alloc: Global, list: &mut Vec<Json>, count: &Count) -> Result<(), AllocError>
     ensures { OnOk result (map view list.new.items ≡ map view list.old.items ++ count_tree count.now ∷ []) }
 {
-    push(list, count_value(alloc, count)?)
-}
-
-fn count_value(alloc: Global, count: &Count) -> Result<Json, AllocError>
-    ensures { IfOk result (λ v. view v ≡ count_tree count.now) }
-{
-    json!(in alloc; [word_of(count.value), count.remoteness, count.number])
+    let tree = json!(in alloc; [word_of(count.value), count.remoteness, count.number])?;
+    push(list, tree)
 }
 
 fn longest_value(alloc: Global, longest: Option<(u32, u64)>) -> Result<Json, AllocError>

@@ -1,7 +1,6 @@
 //! Counts as lines of JSON.
 ghost use Rattle.std.specs.Prelude.{◌≡◌, ◌++◌, codes, false, IfOk, OnOk};
-ghost use Rattle.gm_analyse.specs.Lower.{flat_map, view, compact_text};
-ghost use Rattle.serde_json.specs.Written.{has_float};
+ghost use Rattle.gm_analyse.specs.Lower.{flat_map, view, compact_text, has_float};
 ghost use Rattle.gm_analyse.specs.Bars.{row_tree, json_row};
 
 use crate::by_tier::TierCount;

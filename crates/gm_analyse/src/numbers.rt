@@ -1,9 +1,6 @@
 //! How many positions of a value there are, by remoteness.
-ghost use Rattle.std.specs.Prelude.{◌≡◌, ◌<◌, ◌≤◌, ◌+◌, ◌++◌, ◌∷◌, [], ◌↔◌, ℕ, List, true, max, vec_len, slice_index_or, IfOk, OnOk, IfSome, IsTrue};
-ghost use Rattle.std.specs.Prelude.{is_some};
-ghost use Rattle.gm_analyse.specs.Lower.{REMOTENESS, Position, all_positions, IsReachedByPlay};
-ghost use Rattle.gm_table.specs.Tables.{IsHeld};
-ghost use Rattle.gm_find.specs.Finding.{positions_in};
+ghost use Rattle.std.specs.Prelude.{◌≡◌, ◌<◌, ◌≤◌, ◌+◌, ◌++◌, ◌∷◌, [], ◌↔◌, ℕ, List, true, max, vec_len, slice_index_or, IfOk, OnOk, IfSome, IsTrue, is_some};
+ghost use Rattle.gm_analyse.specs.Lower.{REMOTENESS, Position, all_positions, IsReachedByPlay, IsHeld, positions_in};
 ghost use Rattle.gm_analyse.specs.Totals.{AreNumbers, IsLevel, IsRecordAmong};
 
 use crate::among::Among;
@@ -84,8 +81,8 @@ fn add_position<G: Game>(
     }
 }
 
-// Counts one more at a level. Numbers of positions stay far below 2^64; one that doesn't fit would be answered as refused memory.
-fn count(numbers: &mut Vec<u64>, level: usize) -> Result<(), AllocError>
+/// Counts one more at a level. Numbers of positions stay far below 2^64; one that doesn't fit would be answered as refused memory.
+pub(crate) fn count(numbers: &mut Vec<u64>, level: usize) -> Result<(), AllocError>
     ensures few { OnOk result (vec_len numbers.new ≤ max (vec_len numbers.old) (level + 1)) }
     ensures here { OnOk result (slice_index_or numbers.new.items level 0 ≡ slice_index_or numbers.old.items level 0 + 1) }
     ensures elsewhere { OnOk result ((n : ℕ) → (n ≡ level → ⊥) → slice_index_or numbers.new.items n 0 ≡ slice_index_or numbers.old.items n 0) }

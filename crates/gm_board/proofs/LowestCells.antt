@@ -1,8 +1,8 @@
 -- The lowest cell of a mask, and the mask without it.
-use Rattle.gm_board.proofs.Lower.{◌≡◌, ℕ, zero, suc, ◌+◌, ◌-◌, ◌*◌, ◌/◌, ◌%◌, ◌^◌, ◌<◌, ◌≤◌, refl, sym, ap, ap₂, ◌∙◌, arith, inl, inr, pow_pos, bit_and, bit_at}
+use Rattle.gm_board.proofs.Lower.{◌≡◌, ℕ, zero, suc, ◌+◌, ◌-◌, ◌/◌, ◌%◌, ◌^◌, ◌<◌, ◌≤◌, refl, sym, ap, ap₂, ◌∙◌, arith, inl, inr, pow_pos, bit_and, bit_at}
 use Rattle.gm_board.proofs.Lower.{trailing_zeros, w32, two-pow-succ, cases_lt, shr_split, mod-pow-add, mod_below, bit_at-trailing_zeros, bit_at_above}
 use Rattle.gm_board.proofs.Lower.{bit_at_and, bit_at_cat_low, bit_at_cat_high}
-use Rattle.std.specs.Prelude.{min}
+use Rattle.std.proofs.Common.{◌*◌}
 
 -- the rest has the cells of the mask from `next` on
 pub record IsRest (mask next rest : ℕ) : Type 0 where
@@ -45,26 +45,17 @@ split r c e f =
 power_next : (c : ℕ) → 2 ^ (c + 1) ≡ 2 ^ c + 2 ^ c
 power_next c = ap (λ (k : ℕ). 2 ^ k) (let e : c + 1 ≡ suc c = omega arith in e) ∙ two-pow-succ c
 
-min_zero : (a b : ℕ) → a ≡ 0 → min a b ≡ 0
-min_zero a b e = grind arith
-
-min_right : (a b : ℕ) → b ≡ 0 → min a b ≡ 0
-min_right a b e = grind arith
-
-min_same : (a b : ℕ) → b ≡ a → min a b ≡ a
-min_same a b e = grind arith
-
 -- without its lowest cell a mask has no cell up to there
 cleared_low : (r c i : ℕ) → bit_at r c ≡ 1 → ((j : ℕ) → j < c → bit_at r j ≡ 0) → i < c + 1 → bit_at (bit_and r (r - 1)) i ≡ 0
-cleared_low r c i e f l = bit_at_and r (r - 1) i ∙ elim (cases_lt i c) [
-  | inl h ↦ min_zero (bit_at r i) (bit_at (r - 1) i) (f i h)
+cleared_low r c i e f l = elim (cases_lt i c) [
+  | inl h ↦ omega (arith, bit_at_and r (r - 1) i, f i h)
   | inr h ↦
       let s = split r c e f in
       let p : 0 < 2 ^ c = pow_pos c in
       let b : bit_at (r - 1) i ≡ 0 =
       ap (λ (v : ℕ). bit_at v i) s.less ∙ bit_at_cat_low (r / 2 ^ (c + 1)) (c + 1) (2 ^ c - 1) i l ∙ bit_at_above (2 ^ c - 1) c i
       (let q : 2 ^ c - 1 < 2 ^ c = omega (arith, p) in q) h in
-      min_right (bit_at r i) (bit_at (r - 1) i) b
+      omega (arith, bit_at_and r (r - 1) i, b)
 ]
 
 -- and the same cells above
@@ -77,7 +68,7 @@ cleared_high r c i e f l =
     ap (λ (v : ℕ). bit_at v i) s.less ∙ bit_at_cat_high a (c + 1) (2 ^ c - 1) i (let q : 2 ^ c - 1 < 2 ^ (c + 1) = omega (arith, p, power_next c) in q) l in
     let it : bit_at r i ≡ bit_at a (i - (c + 1)) =
     ap (λ (v : ℕ). bit_at v i) s.it ∙ bit_at_cat_high a (c + 1) (2 ^ c) i (let q : 2 ^ c < 2 ^ (c + 1) = omega (arith, p, power_next c) in q) l in
-    bit_at_and r (r - 1) i ∙ min_same (bit_at r i) (bit_at (r - 1) i) (less ∙ sym it)
+    omega (arith, bit_at_and r (r - 1) i, less, it)
 
 -- the lowest cell of what is left of a mask
 pub lowest : (mask next rest : ℕ) → IsRest mask next rest → rest < 2 ^ 32 → 0 < rest → IsLowest mask next rest (trailing_zeros w32 rest)

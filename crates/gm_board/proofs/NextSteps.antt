@@ -1,10 +1,10 @@
 -- The subset with the next rank: its lowest run of members goes up by a cell at its end, and its other members to the bottom.
-use Rattle.gm_board.proofs.Lower.{◌≡◌, ℕ, zero, suc, ◌+◌, ◌-◌, ◌*◌, ◌/◌, ◌%◌, ◌^◌, ◌<◌, ◌≤◌, Bool, true, false, eqb, List, [], ◌∷◌, ◌++◌, length, refl, sym, ap}
-use Rattle.gm_board.proofs.Lower.{ap₂, ◌∙◌, subst, arith, pow-suc, inl, inr, count_ones, bit_at, trailing_zeros, trailing_ones, cases_lt, shr-shr, shr_le}
-use Rattle.gm_board.proofs.Lower.{one_shl, bit_at-trailing_zeros, bit_at-trailing_ones, bit_at_above, pow_mono, binomial, binomial_zero, binomial_past, pascal}
-use Rattle.gm_board.proofs.Lower.{members, rank, has_cell, tests_of, mask_of, mask_unrank, tests_none, tests_more, tests_length, mask_below, mask_tests_small}
+use Rattle.gm_board.proofs.Lower.{◌≡◌, ℕ, zero, suc, ◌+◌, ◌-◌, ◌/◌, ◌%◌, ◌^◌, ◌<◌, ◌≤◌, Bool, true, false, eqb, List, [], ◌∷◌, ◌++◌, length, refl, sym, ap, ap₂}
+use Rattle.gm_board.proofs.Lower.{◌∙◌, subst, arith, pow-suc, inl, inr, count_ones, bit_at, trailing_zeros, trailing_ones, cases_lt, shr-shr, shr_le, one_shl}
+use Rattle.gm_board.proofs.Lower.{bit_at-trailing_zeros, bit_at-trailing_ones, bit_at_above, pow_mono, binomial, binomial_zero, binomial_past, pascal, members}
+use Rattle.gm_board.proofs.Lower.{rank, has_cell, tests_of, mask_of, mask_unrank, tests_none, tests_more, tests_length, mask_below, mask_tests_small}
 use Rattle.gm_board.proofs.Lower.{tests_mask, members_small, mask_unrank_below, mask_unrank_ones, mask_rank_unrank, mask_unrank_rank}
-use Rattle.std.proofs.Common.{w32}
+use Rattle.std.proofs.Common.{◌*◌, w32}
 use Rattle.std.proofs.lemmas.Nat.{pow_pos}
 use Rattle.gm_board.specs.Masks.{mask_rank}
 
@@ -17,29 +17,20 @@ abbrev zeros : ℕ → List Bool → List Bool
 zeros zero bs = bs
 zeros (suc n) bs = false ∷ zeros n bs
 
-length_ones : (n : ℕ) (bs : List Bool) → length (ones n bs) ≡ n + length bs
-length_ones zero bs = omega arith
-length_ones (suc n) bs = omega (arith, length_ones n bs)
+ones_are : (n : ℕ) (bs : List Bool) → (length (ones n bs) ≡ n + length bs) × (members (ones n bs) ≡ n + members bs)
+ones_are zero bs = (omega arith, omega arith)
+ones_are (suc n) bs = let (l, m) = ones_are n bs in (omega arith, omega arith)
 
-length_zeros : (n : ℕ) (bs : List Bool) → length (zeros n bs) ≡ n + length bs
-length_zeros zero bs = omega arith
-length_zeros (suc n) bs = omega (arith, length_zeros n bs)
+-- what n cells that are none do to the length, and leave as it is
+record AreZeros (n : ℕ) (xs bs : List Bool) : Type 0 where
+  long : length xs ≡ n + length bs
+  members_same : members xs ≡ members bs
+  rank_same : rank xs ≡ rank bs
+  mask_same : mask_of xs ≡ mask_of bs
 
-members_ones : (n : ℕ) (bs : List Bool) → members (ones n bs) ≡ n + members bs
-members_ones zero bs = omega arith
-members_ones (suc n) bs = omega (arith, members_ones n bs)
-
-members_zeros : (n : ℕ) (bs : List Bool) → members (zeros n bs) ≡ members bs
-members_zeros zero bs = refl
-members_zeros (suc n) bs = members_zeros n bs
-
-rank_zeros : (n : ℕ) (bs : List Bool) → rank (zeros n bs) ≡ rank bs
-rank_zeros zero bs = refl
-rank_zeros (suc n) bs = rank_zeros n bs
-
-mask_zeros : (n : ℕ) (bs : List Bool) → mask_of (zeros n bs) ≡ mask_of bs
-mask_zeros zero bs = refl
-mask_zeros (suc n) bs = mask_zeros n bs
+zeros_are : (n : ℕ) (bs : List Bool) → AreZeros n (zeros n bs) bs
+zeros_are zero bs = record { long = omega arith; members_same = refl; rank_same = refl; mask_same = refl }
+zeros_are (suc n) bs = let h = zeros_are n bs in record { long = omega arith; members_same = h.members_same; rank_same = h.rank_same; mask_same = h.mask_same }
 
 mask_ones : (n : ℕ) (bs : List Bool) → mask_of (ones n bs) + 2 ^ length bs ≡ 2 ^ (n + length bs) + mask_of bs
 mask_ones zero bs =
@@ -47,18 +38,20 @@ mask_ones zero bs =
     omega (arith, e)
 mask_ones (suc n) bs =
     let h = mask_ones n bs in
-    let l : 2 ^ length (ones n bs) ≡ 2 ^ (n + length bs) = ap (λ (k : ℕ). 2 ^ k) (length_ones n bs) in
+    let l : 2 ^ length (ones n bs) ≡ 2 ^ (n + length bs) = ap (λ (k : ℕ). 2 ^ k) (ones_are n bs).0 in
     let e : 2 ^ (suc n + length bs) ≡ 2 ^ suc (n + length bs) = ap (λ (k : ℕ). 2 ^ k) (let z : suc n + length bs ≡ suc (n + length bs) = omega arith in z) in
     let p = pow-suc 2 (n + length bs) in
     omega (arith, h, l, e, p)
 
 -- the rank of members just above cells that are none
 climbs : (a b : ℕ) → suc (rank (ones b (zeros a []))) ≡ binomial (a + b) b
-climbs a zero = ap suc (rank_zeros a []) ∙ sym (binomial_zero (a + 0))
+climbs a zero = ap suc (zeros_are a []).rank_same ∙ sym (binomial_zero (a + 0))
 climbs a (suc b) =
     let h = climbs a b in
-    let l : length (ones b (zeros a [])) ≡ a + b = (let x = length_ones b (zeros a []) in let y = length_zeros a [] in omega (arith, x, y)) in
-    let m : members (ones b (zeros a [])) ≡ b = (let x = members_ones b (zeros a []) in let y = members_zeros a [] in omega (arith, x, y)) in
+    let (long, many) = ones_are b (zeros a []) in
+    let gap = zeros_are a [] in
+    let l : length (ones b (zeros a [])) ≡ a + b = omega (arith, gap) in
+    let m : members (ones b (zeros a [])) ≡ b = omega (arith, gap) in
     let here : binomial (length (ones b (zeros a []))) (suc (members (ones b (zeros a [])))) ≡ binomial (a + b) (suc b) = ap₂
     (λ (n k : ℕ). binomial n (suc k)) l m in
     let p = pascal (a + b) b in
@@ -70,8 +63,9 @@ climbs a (suc b) =
 rank_bottom : (n : ℕ) → rank (ones n []) ≡ 0
 rank_bottom zero = refl
 rank_bottom (suc n) =
-    let l : length (ones n []) ≡ n = (let x = length_ones n [] in omega (arith, x)) in
-    let m : members (ones n []) ≡ n = (let x = members_ones n [] in omega (arith, x)) in
+    let (long, many) = ones_are n [] in
+    let l : length (ones n []) ≡ n = omega arith in
+    let m : members (ones n []) ≡ n = omega arith in
     let here : binomial (length (ones n [])) (suc (members (ones n []))) ≡ binomial n (suc n) = ap₂ (λ (i k : ℕ). binomial i (suc k)) l m in
     let none = binomial_past n (suc n) (omega arith) in
     omega (arith, here, none, rank_bottom n)
@@ -94,15 +88,16 @@ next_parts : (a c : ℕ) → IsNextPart (low_part a c) (next_part a c) 1 (2 ^ a 
 next_parts a c =
     let gap = zeros a [] in
     let run = ones c [] in
-    let lz : length gap ≡ a = (let x = length_zeros a [] in omega (arith, x)) in
-    let lo = length_ones (suc c) gap in
-    let lu : length (zeros (suc a) run) ≡ a + suc c = (let z = length_zeros (suc a) run in let w = length_ones c [] in omega (arith, z, w)) in
-    let mo = members_ones (suc c) gap in
-    let mz = members_zeros a [] in
-    let mu : members (zeros (suc a) run) ≡ c = (let z = members_zeros (suc a) run in let w = members_ones c [] in omega (arith, z, w)) in
+    let z = zeros_are a [] in
+    let u = zeros_are (suc a) run in
+    let (lo, mo) = ones_are (suc c) gap in
+    let (lr, mr) = ones_are c [] in
+    let lz : length gap ≡ a = omega (arith, z) in
+    let lu : length (zeros (suc a) run) ≡ a + suc c = omega (arith, u) in
+    let mu : members (zeros (suc a) run) ≡ c = omega (arith, u) in
     let here : binomial (length (zeros (suc a) run)) (suc (members (zeros (suc a) run))) ≡ binomial (a + suc c) (suc c) = ap₂
     (λ (n k : ℕ). binomial n (suc k)) lu mu in
-    let none : rank (zeros (suc a) run) ≡ 0 = rank_zeros (suc a) run ∙ rank_bottom c in
+    let none : rank (zeros (suc a) run) ≡ 0 = u.rank_same ∙ rank_bottom c in
     let low = mask_ones (suc c) gap in
     let la = ap (λ (k : ℕ). 2 ^ k) lz in
     let lb = ap (λ (k : ℕ). 2 ^ (suc c + k)) lz in
@@ -111,9 +106,9 @@ next_parts a c =
     let ld : 2 ^ length (zeros (suc a) run) ≡ 2 ^ (suc c + a) = ap (λ (k : ℕ). 2 ^ k) (let z : length (zeros (suc a) run) ≡ suc c + a = omega (arith, lu) in z) in
     record {
       cells = omega (arith, lz, lo, lu);
-      members_same = omega (arith, mo, mz, mu);
+      members_same = omega (arith, mo, z, mu);
       next_rank = omega (arith, here, none, climbs a (suc c));
-      masks = omega (arith, low, mask_zeros a [], la, lb, mask_zeros (suc a) run, bottom, lc, ld);
+      masks = omega (arith, low, z, la, lb, u, bottom, lc, ld);
     }
 
 -- below other cells

@@ -1,13 +1,12 @@
 -- The steps of packing the opponent's pieces on the cells without the mover's, and of spreading them again.
-use Rattle.gm_board.proofs.Lower.{◌≡◌, ℕ, suc, ◌+◌, ◌-◌, ◌*◌, ◌/◌, ◌%◌, ◌^◌, ◌<◌, ◌≤◌, Bool, true, false, List, [], ◌∷◌, length, refl, sym, ap, ap₂, ◌∙◌}
-use Rattle.gm_board.proofs.Lower.{subst, arith, add-one, lt_of_le_of_lt, bit_and, count_ones, bit_at, trailing_zeros, w32, two-pow-succ, mod-eq_of_lt, pow_mono}
+use Rattle.gm_board.proofs.Lower.{◌≡◌, ℕ, suc, ◌+◌, ◌-◌, ◌/◌, ◌%◌, ◌^◌, ◌<◌, ◌≤◌, Bool, true, false, List, [], ◌∷◌, length, refl, sym, ap, ap₂, ◌∙◌, subst}
+use Rattle.gm_board.proofs.Lower.{arith, add-one, lt_of_le_of_lt, bit_and, count_ones, bit_at, trailing_zeros, w32, two-pow-succ, mod-eq_of_lt, pow_mono}
 use Rattle.gm_board.proofs.Lower.{shr-shr, shr_split, div-mul-add, bit_at-lt, Cell, members, members_le, has_cell, tests_of, mask_of, tests_none, tests_more}
 use Rattle.gm_board.proofs.Lower.{tests_length, mask_cons, mask_below, weight_bit, members_small, members_skips, members_add, no_bit, their_bits, their_cell}
-use Rattle.gm_board.proofs.Lower.{merge, cell_by, cells_of, their_tests, cells_none, cells_more, free_length, apart_below}
-use Rattle.std.proofs.Math.Nat.{mul-add, add-mul, div-eq_of_lt}
+use Rattle.gm_board.proofs.Lower.{merge, cell_by, cells_of, their_tests, mul-add, add-mul, div-eq_of_lt, steady, cell_below, cell_one, cell_none}
+use Rattle.std.proofs.Common.{◌*◌}
+use Rattle.gm_board.specs.laws.Pieces.{cells_none, cells_more, free_length, apart_below}
 use Rattle.gm_board.specs.Pieces.{spread_mask}
-use Rattle.gm_board.specs.laws.Masks.{steady}
-use Rattle.gm_board.specs.laws.NextCells.{cell_below, cell_one, cell_none}
 use Rattle.gm_board.proofs.LowestCells.{IsRest, rest_whole, lowest, nothing_left}
 
 -- twice as much of the higher digits
@@ -175,18 +174,13 @@ tests_cell : (b : Bool) (cs : List Cell) → their_tests (their_cell b ∷ cs) �
 tests_cell true cs = refl
 tests_cell false cs = refl
 
-spread_below : (n mine packed : ℕ) → spread_mask n mine packed < 2 ^ n
+-- what is spread fits the cells
+pub spread_below : (n mine packed : ℕ) → spread_mask n mine packed < 2 ^ n
 unfolding spread_mask
 spread_below n mine packed =
     let ms = tests_of n mine in
     let ts = their_tests (merge ms (tests_of (n - members ms) packed)) in
     subst (λ (k : ℕ). mask_of ts < 2 ^ k) (merge_length ms (tests_of (n - members ms) packed) ∙ tests_length n mine) (mask_below ts)
-
--- what is spread fits the cells
-pub spread_fits : (cells mine packed : ℕ) → cells ≤ 32 → spread_mask cells mine packed < 2 ^ 32
-spread_fits cells mine packed w =
-    let p : 2 ^ cells ≤ 2 ^ 32 = pow_mono w in
-    omega (arith, spread_below cells mine packed, p)
 
 mask_same : (mine packed n : ℕ) → has_cell mine n ≡ true → spread_mask (n + 1) mine packed ≡ spread_mask n mine packed
 unfolding spread_mask

@@ -1,9 +1,6 @@
 -- The constant rows of Pascal's triangle.
-use Rattle.std.proofs.Common.{◌≡◌, ℕ, zero, suc, ◌+◌, ◌<◌, Bool, true, ◌&&◌, List, [], ◌∷◌, length, get_or, eqb, eqb-true, refl, ap, ◌∙◌, subst, arith}
-use Rattle.std.specs.List.{list_all}
-use Rattle.gm_board.specs.laws.Lists.{and_left, and_right}
-use Rattle.gm_board.specs.Binomials.{binomial}
-use Rattle.gm_board.specs.laws.Binomials.{binomial_zero, binomial_none, pascal}
+use Rattle.gm_board.proofs.Lower.{◌≡◌, ℕ, zero, suc, ◌+◌, ◌<◌, Bool, true, ◌&&◌, List, [], ◌∷◌, length, get_or, eqb, eqb-true, refl, ap, ◌∙◌, subst, arith}
+use Rattle.gm_board.proofs.Lower.{list_all, and_left, and_right, binomial, binomial_zero, binomial_none, pascal}
 
 -- whether ys has the sums of the neighbours in p ∷ xs
 abbrev pub are_sums : ℕ → List ℕ → List ℕ → Bool

@@ -1,9 +1,9 @@
 -- The steps of making a number of digits, and of taking it apart again.
-use Rattle.gm_board.proofs.Lower.{◌≡◌, ℕ, zero, suc, ◌+◌, ◌*◌, ◌/◌, ◌%◌, ◌^◌, ◌<◌, ◌≤◌, List, [], ◌∷◌, ◌++◌, length, get_or, set, take, drop, sym, ap, ap₂, ◌∙◌}
+use Rattle.gm_board.proofs.Lower.{◌≡◌, ℕ, zero, suc, ◌+◌, ◌/◌, ◌%◌, ◌^◌, ◌<◌, ◌≤◌, List, [], ◌∷◌, ◌++◌, length, get_or, set, take, drop, sym, ap, ap₂, ◌∙◌}
 use Rattle.gm_board.proofs.Lower.{subst, arith, mod-lt, mul-le-mul_left, length-set, length-take, get_or-take, get_or-set_same, get_or-set_other, inl, inr}
 use Rattle.gm_board.proofs.Lower.{div-lt_iff_lt-mul, cases_eq, div-add-mod', mul-mod_first, take_more, take_all, drop_more, drop-set, radix_size, digits_number}
-use Rattle.gm_board.proofs.Lower.{AreBelow, number_digits}
-use Rattle.gm_board.specs.laws.Digits.{number_below, digits_back}
+use Rattle.gm_board.proofs.Lower.{AreBelow, number_digits, number_below, digits_back}
+use Rattle.std.proofs.Common.{◌*◌}
 
 size_push : (rs : List ℕ) (r : ℕ) → radix_size (rs ++ r ∷ []) ≡ radix_size rs * r
 size_push [] r = omega arith
@@ -52,7 +52,7 @@ size_take [] (suc k) h = omega arith
 size_take (q ∷ rs) (suc k) h = mul-le-mul_left q (size_take rs k (λ i l. h (suc i) (omega arith)))
 
 -- the number of the first k digits is below the number of all
-pub prefix_below : (rs ds : List ℕ) (k : ℕ) → length ds ≡ length rs → AreBelow rs ds → k ≤ length rs → digits_number (take k rs) (take k ds) < radix_size rs
+prefix_below : (rs ds : List ℕ) (k : ℕ) → length ds ≡ length rs → AreBelow rs ds → k ≤ length rs → digits_number (take k rs) (take k ds) < radix_size rs
 prefix_below rs ds k e h l =
     let a = number_below (take k rs) (take k ds) (let z : length (take k ds) ≡ length (take k rs) = omega (arith, length-take k ds, length-take k rs) in z)
     (λ i m. let j : i < k = omega (arith, length-take k rs) in
@@ -61,6 +61,13 @@ prefix_below rs ds k e h l =
     let b = h i (omega arith) in omega (arith, x, y, b)) in
     let b = size_take rs k (λ i m. let c = h i m in omega (arith, c)) in
     omega (arith, a, b)
+
+-- one more digit makes a number that fits
+pub prefix_fits : (rs ds : List ℕ) (k number : ℕ) → number ≡ digits_number (take k rs) (take k ds) → length ds ≡ length rs → k < length rs → AreBelow rs ds
+    → radix_size rs < 2 ^ 64 → number * get_or rs k 0 + get_or ds k 0 < 2 ^ 64
+prefix_fits rs ds k number h e l b s =
+    let m = ap (λ (v : ℕ). v * get_or rs k 0 + get_or ds k 0) h in
+    omega (arith, m, number_more rs ds k e l, prefix_below rs ds (k + 1) e b (omega arith))
 
 -- all digits
 pub number_all : (rs ds : List ℕ) (k : ℕ) → length rs ≤ k → length ds ≡ length rs → digits_number (take k rs) (take k ds) ≡ digits_number rs ds

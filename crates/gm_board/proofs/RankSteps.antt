@@ -1,8 +1,8 @@
 -- The steps of ranking a mask, from its lowest cell up.
-use Rattle.gm_board.proofs.Lower.{◌≡◌, ℕ, suc, ◌+◌, ◌-◌, ◌*◌, ◌/◌, ◌%◌, ◌^◌, ◌<◌, ◌≤◌, length, sym, ap, ap₂, ◌∙◌, arith, bit_and, count_ones, bit_at}
-use Rattle.gm_board.proofs.Lower.{trailing_zeros, w32, shr_split, mod_below, bit_at-zero, bit_at_cat_low, bit_at_cat_high, binomial, binomial_small, members}
-use Rattle.gm_board.proofs.Lower.{rank, rank_below, members_le, tests_of, tests_length, tests_same, mask_rank_at, members_ones, members_skips, rank_skips}
-use Rattle.gm_board.proofs.Lower.{members_add, rank_add}
+use Rattle.gm_board.proofs.Lower.{◌≡◌, ℕ, suc, ◌+◌, ◌-◌, ◌/◌, ◌%◌, ◌^◌, ◌<◌, ◌≤◌, length, sym, ap, ap₂, ◌∙◌, arith, bit_and, count_ones, bit_at, trailing_zeros}
+use Rattle.gm_board.proofs.Lower.{w32, shr_split, mod_below, bit_at-zero, bit_at_cat_low, bit_at_cat_high, binomial, binomial_small, members, rank, rank_below}
+use Rattle.gm_board.proofs.Lower.{members_le, tests_of, tests_length, tests_same, mask_rank_at, members_ones, members_skips, rank_skips, members_add, rank_add}
+use Rattle.std.proofs.Common.{◌*◌}
 use Rattle.gm_board.specs.Masks.{mask_rank}
 use Rattle.gm_board.proofs.LowestCells.{IsRest, lowest, nothing_left}
 

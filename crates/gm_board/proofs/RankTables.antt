@@ -1,8 +1,9 @@
 -- Ranks of subsets of sixteen cells, by bytes.
-use Rattle.gm_board.proofs.Lower.{◌≡◌, ℕ, zero, suc, ◌+◌, ◌-◌, ◌*◌, ◌/◌, ◌%◌, ◌^◌, ◌<◌, ◌≤◌, Bool, true, false, List, [], ◌∷◌, ◌++◌, map, length, get_or, eqb, refl}
+use Rattle.gm_board.proofs.Lower.{◌≡◌, ℕ, zero, suc, ◌+◌, ◌-◌, ◌/◌, ◌%◌, ◌^◌, ◌<◌, ◌≤◌, Bool, true, false, List, [], ◌∷◌, ◌++◌, map, length, get_or, eqb, refl}
 use Rattle.gm_board.proofs.Lower.{sym, ap, ap₂, ◌∙◌, arith, count_ones, bit_at, range_with_len, bit_at_cat_low, bit_at_cat_high, get_or-map-range_with_len}
-use Rattle.gm_board.proofs.Lower.{binomial, members, rank, members_le, mask_rank, tests_none, tests_more, tests_length, tests_same, mask_rank_at}
-use Rattle.gm_board.proofs.Lower.{members_small, ROWS, ONES, LOW, HIGH, UPPER}
+use Rattle.gm_board.proofs.Lower.{binomial, members, rank, members_le, mask_rank, tests_none, tests_more, tests_length, tests_same, mask_rank_at, members_small}
+use Rattle.gm_board.proofs.Lower.{ROWS, ONES, LOW, HIGH, UPPER}
+use Rattle.std.proofs.Common.{◌*◌, append-nil, length-append}
 use Rattle.gm_board.specs.Masks.{tests_of}
 use Rattle.gm_board.proofs.PascalRows.{triangle_is}
 
@@ -35,15 +36,11 @@ members_both [] ls = omega arith
 members_both (true ∷ hs) ls = omega (arith, members_both hs ls)
 members_both (false ∷ hs) ls = members_both hs ls
 
-length_both : (hs ls : List Bool) → length (hs ++ ls) ≡ length ls + length hs
-length_both [] ls = omega arith
-length_both (b ∷ hs) ls = omega (arith, length_both hs ls)
-
 -- a rank by two parts
 rank_both : (hs ls : List Bool) → rank (hs ++ ls) ≡ rank ls + rank_above (length ls) (members ls) hs
 rank_both [] ls = omega arith
 rank_both (true ∷ hs) ls =
-    ap₂ (λ (a b : ℕ). a + b) (ap₂ (λ (n k : ℕ). binomial n (suc k)) (length_both hs ls) (members_both hs ls)) (rank_both hs ls)
+    ap₂ (λ (a b : ℕ). a + b) (ap₂ (λ (n k : ℕ). binomial n (suc k)) (let n = length-append hs ls in omega (arith, n)) (members_both hs ls)) (rank_both hs ls)
     ∙ (let e : binomial (length ls + length hs) (suc (members ls + members hs)) + (rank ls + rank_above (length ls) (members ls) hs)
     ≡ rank ls + (binomial (length ls + length hs) (suc (members ls + members hs)) + rank_above (length ls) (members ls) hs) = omega arith in e)
 rank_both (false ∷ hs) ls = rank_both hs ls
@@ -79,14 +76,6 @@ upper_are : map (λ k. map (λ b. rank_by_rows 16 k (tests_of 9 b)) (range_with_
 unfolding tests_of
 upper_are = refl
 
-rank_alone : (bs : List Bool) → rank_above 0 0 bs ≡ rank bs
-rank_alone [] = refl
-rank_alone (true ∷ bs) =
-    ap₂ (λ (a b : ℕ). a + b)
-    (ap₂ (λ (n k : ℕ). binomial n (suc k)) (let e : 0 + length bs ≡ length bs = omega arith in e) (let e : 0 + members bs ≡ members bs = omega arith in e))
-    (rank_alone bs)
-rank_alone (false ∷ bs) = rank_alone bs
-
 pub ones_at : (b : ℕ) → b < 256 → get_or ONES b 0 ≡ count_ones b
 ones_at b l =
     ap (λ (xs : List ℕ). get_or xs b 0) (sym ones_are)
@@ -110,7 +99,8 @@ low_at b l =
     ap (λ (xs : List ℕ). get_or xs b 0) (sym low_are)
     ∙ get_or-map-range_with_len (λ (b : ℕ). rank_by_rows 0 0 (tests_of 8 b)) 0 256 b b 0 l (omega arith)
     ∙ by_rows 0 0 (tests_of 8 b) (omega (arith, tests_length 8 b)) (omega (arith, tests_length 8 b))
-    ∙ rank_alone (tests_of 8 b)
+    ∙ (let e = rank_both (tests_of 8 b) [] in let n = ap rank (append-nil (tests_of 8 b)) in
+    let z : rank_above 0 0 (tests_of 8 b) ≡ rank (tests_of 8 b) = omega (arith, e, n) in z)
 
 -- an entry of a table of what w cells above n others add, by the members of those
 entry_at : (n w top k b : ℕ) (T : List (List ℕ)) → map (λ k. map (λ b. rank_by_rows n k (tests_of w b)) (range_with_len 0 (2 ^ w))) (range_with_len 0 top) ≡ T
@@ -135,9 +125,9 @@ rank_parts n w mask low high upper wide f l whole e =
     ∙ ap (λ (v : ℕ). rank (tests_of (w + n) v)) whole
     ∙ sym (mask_rank_at (w + n) mask (omega (arith, wide)) f)
 
--- a byte has at most eight members
-pub byte_members : (b : ℕ) → b < 2 ^ 8 → count_ones b ≤ 8
-byte_members b l = omega (arith, members_small 8 b l, members_le (tests_of 8 b), tests_length 8 b)
+-- a subset of n cells has at most n members
+pub members_at_most : (n b : ℕ) → b < 2 ^ n → count_ones b ≤ n
+members_at_most n b l = omega (arith, members_small n b l, members_le (tests_of n b), tests_length n b)
 
 -- the rank of a subset of sixteen cells
 pub short_rank_is : (mask low high : ℕ) → mask < 2 ^ 16 → low ≡ mask % 256 → high ≡ mask / 2 ^ 8 → get_or LOW low 0 + get_or
@@ -146,11 +136,8 @@ short_rank_is mask low high f e g =
     let l : low < 2 ^ 8 = omega (arith, e) in
     ap (λ (v : ℕ). v + get_or (get_or HIGH (count_ones low) []) high 0) (low_at low l)
     ∙ rank_parts 8 8 mask low high _ (omega arith) f l (omega (arith, e, g))
-    (entry_at 8 8 9 (count_ones low) high HIGH high_are (omega (arith, byte_members low l)) (omega (arith, g, f)) (omega arith)
-    (omega (arith, byte_members low l)))
-
-pub short_members : (b : ℕ) → b < 2 ^ 16 → count_ones b ≤ 16
-short_members b l = omega (arith, members_small 16 b l, members_le (tests_of 16 b), tests_length 16 b)
+    (entry_at 8 8 9 (count_ones low) high HIGH high_are (omega (arith, members_at_most 8 low l)) (omega (arith, g, f)) (omega arith)
+    (omega (arith, members_at_most 8 low l)))
 
 pub long_rank_is : (mask low high low_rank : ℕ) → mask < 2 ^ 25 → low ≡ mask % 2 ^ 16 → high ≡ mask / 2 ^ 16 → low_rank ≡ mask_rank low → low_rank + get_or
     (get_or UPPER (count_ones low) []) high 0 ≡ mask_rank mask
@@ -158,5 +145,5 @@ long_rank_is mask low high low_rank f e g r =
     let l : low < 2 ^ 16 = omega (arith, e) in
     ap (λ (v : ℕ). v + get_or (get_or UPPER (count_ones low) []) high 0) (r ∙ mask_rank_at 16 low (omega arith) l)
     ∙ rank_parts 16 9 mask low high _ (omega arith) f l (omega (arith, e, g))
-    (entry_at 16 9 17 (count_ones low) high UPPER upper_are (omega (arith, short_members low l)) (omega (arith, g, f)) (omega arith)
-    (omega (arith, short_members low l)))
+    (entry_at 16 9 17 (count_ones low) high UPPER upper_are (omega (arith, members_at_most 16 low l)) (omega (arith, g, f)) (omega arith)
+    (omega (arith, members_at_most 16 low l)))

@@ -1,6 +1,7 @@
 //! Numbers of the arrangements of two sides' pieces.
 ghost use Rattle.std.specs.Prelude.{◌≡◌, ◌<◌, ◌≤◌, ◌^◌, ◌-◌, bit_and, count_ones};
 ghost use Rattle.gm_board.specs.Arrangements.{their_bits, arrangement_index, arrangements};
+ghost use Rattle.gm_board.specs.Binomials.{binomial as binomial_of};
 ghost use Rattle.gm_board.specs.Masks.{mask_of};
 ghost use Rattle.gm_board.specs.Pieces.{cells_of, HasPieces, mine_mask, their_mask, spread_mask};
 
@@ -21,10 +22,11 @@ pub struct Arrangement {
 
 impl Arrangement {
     /// Returns the number of arrangements: `C(cells, mine) * C(cells - mine, theirs)`.
+    #[tactic(auto, unfolding(crate::specs::Arrangements::arrangements))]
     pub fn size(self) -> u64
         ensures { result ≡ arrangements self.cells self.mine self.theirs }
     {
-        binomial(self.cells, self.mine) * binomial(self.free(), self.theirs)
+        binomial(self.cells, self.mine) * self.ways()
     }
 
     /// Returns the index of the arrangement with these masks of pieces. Inlined, as `masks` is.
@@ -38,7 +40,7 @@ impl Arrangement {
         ensures theirs_back { their_mask self.cells self.mine self.theirs result ≡ theirs }
     {
         let packed = pack(self.cells, mine, theirs);
-        rank_subset(mine) * binomial(self.free(), self.theirs) + rank_subset(packed)
+        rank_subset(mine) * self.ways() + rank_subset(packed)
     }
 
     /// Returns the masks of the mover's and of the opponent's pieces in the arrangement with this index. Inlined, so that a game with constant numbers of
@@ -53,11 +55,20 @@ impl Arrangement {
         ensures back { arrangement_index (cells_of self.cells result.0 result.1) ≡ index }
     {
         let free = self.free();
-        let ways = binomial(free, self.theirs);
+        let ways = self.ways();
         let mine = unrank_subset(self.cells, self.mine, index / ways);
         let packed = unrank_subset(free, self.theirs, index % ways);
         let theirs = spread(self.cells, mine, packed);
         (mine, theirs)
+    }
+
+    /// Returns the number of ways to place the opponent's pieces on the cells without the mover's.
+    #[inline(always)]
+    fn ways(self) -> u64
+        ensures value { result ≡ binomial_of (self.cells - self.mine) self.theirs }
+        ensures small { result < 2 ^ 32 }
+    {
+        binomial(self.free(), self.theirs)
     }
 
     /// Returns the number of cells without the mover's pieces, 0 if the mover has more pieces than there are cells.

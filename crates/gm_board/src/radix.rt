@@ -24,7 +24,7 @@ impl<const K: usize> MixedRadix<K> {
     }
 
     /// Returns the number that has these digits.
-    #[tactic(auto, using(crate::specs::laws::Digits::number_below, crate::specs::laws::Digits::digits_back, crate::proofs::RadixSteps::number_more, crate::proofs::RadixSteps::prefix_below, crate::proofs::RadixSteps::number_all))]
+    #[tactic(auto, using(crate::specs::laws::Digits::number_below, crate::specs::laws::Digits::digits_back, crate::proofs::RadixSteps::number_more, crate::proofs::RadixSteps::prefix_fits, crate::proofs::RadixSteps::number_all))]
     pub fn encode(&self, digits: &[u64; K]) -> u64
         requires { AreBelow self.now.radices digits.now }
         ensures value { result ≡ digits_number self.now.radices digits.now }

@@ -1,13 +1,7 @@
 -- A tier of the order, those before it, and what a build that stops there leaves.
-use Rattle.std.proofs.Common.{◌≡◌, ℕ, ◌<◌, inl, inr, List, length, take, get_or, slice_get, Some, sym, subst, ◌∙◌, arith, length-take}
-use Rattle.gm_build.proofs.Lower.{Contains, take_more, Rules, TableData, IsOrderFrom, ComeChildrenFirst, Texts, AreSameBut, HaveTexts, KeepsOthers}
-use Rattle.gm_build.proofs.Lower.{HoldsExactly, StopsAt}
-use Rattle.std.proofs.lemmas.List.{get_or-take}
-use Rattle.std.proofs.lemmas.Option.{slice_get-get_or}
-use Rattle.std.proofs.lemmas.Grind.{get_or_default_zero}
-use Rattle.gm_table.specs.Tables.{AreHeld}
-use Rattle.gm_tiers.specs.Orders.{IsBefore}
-use Rattle.gm_build.specs.Outcomes.{MayHaveText}
+use Rattle.gm_build.proofs.Lower.{◌≡◌, ℕ, ◌<◌, inl, inr, List, length, take, get_or, slice_get, Some, sym, subst, ◌∙◌, arith, length-take, Contains, take_more}
+use Rattle.gm_build.proofs.Lower.{Rules, TableData, IsOrderFrom, ComeChildrenFirst, Texts, AreSameBut, HaveTexts, KeepsOthers, HoldsExactly, StopsAt}
+use Rattle.gm_build.proofs.Lower.{get_or-take, slice_get-get_or, get_or_default_zero, AreHeld, IsBefore, MayHaveText}
 use Rattle.gm_build.proofs.StoreLemmas.{texts_kept, others_more}
 
 module _ (r : Rules) (first : ℕ) (tiers : List ℕ) (order : IsOrderFrom r first tiers) (k : ℕ) (inside : k < length tiers) where

@@ -1,18 +1,9 @@
 -- What becomes of the texts and tables of the tiers before, when one tier more is built.
-use Rattle.std.proofs.Common.{◌≡◌, ◌≢◌, ◌==◌, ℕ, ◌⊎◌, ◌↔◌, inl, inr, true, false, if◌then◌else◌, List, [], ◌∷◌, ◌++◌, Some, IsSome, refl, ap, sym, subst, ◌∙◌}
-use Rattle.std.proofs.Common.{eqb-true, eq-eqb}
-use Rattle.gm_build.proofs.Lower.{Contains, Contains-append_left, Contains-push, Contains-push_cases, Rules, TableData, Texts, AreSameBut, HasText, HasOldText}
-use Rattle.gm_build.proofs.Lower.{HaveTexts, KeepsOthers, IsInspected, HoldsExactly, HoldsToo}
-use Rattle.gm_table.specs.Tables.{table_of, Inserts, IsHeld}
-use Rattle.gm_build.specs.TrueTexts.{IsTrueText, IsOldText}
-use Rattle.gm_build.specs.Outcomes.{MayHaveText}
-use Rattle.gm_tierdb.specs.StoreTexts.{AreSame}
-use Rattle.gm_build.specs.declared.found.Found.{Found}
-use Rattle.gm_build.specs.declared.found.Found.TheVariants.{Current, Old, Nothing}
-use Rattle.gm_build.specs.Findings.{IsFound, IsFoundIn}
-use Rattle.gm_build.specs.declared.inspect.Inspected.{Inspected}
+use Rattle.gm_build.proofs.Lower.{◌≡◌, ◌≢◌, ◌==◌, ℕ, ◌⊎◌, ◌↔◌, inl, inr, true, false, if◌then◌else◌, List, [], ◌∷◌, ◌++◌, Some, IsSome, refl, ap, sym, subst}
+use Rattle.gm_build.proofs.Lower.{◌∙◌, eqb-true, eq-eqb, Contains, Contains-append_left, Contains-push, Contains-push_cases, Rules, TableData, Texts}
+use Rattle.gm_build.proofs.Lower.{AreSameBut, HasText, HasOldText, HaveTexts, KeepsOthers, IsInspected, HoldsExactly, HoldsToo, table_of, Inserts, IsHeld}
+use Rattle.gm_build.proofs.Lower.{IsTrueText, IsOldText, MayHaveText, AreSame, Found, Current, Old, Nothing, IsFound, IsFoundIn, Inspected, IsInspectedIn}
 use Rattle.gm_build.specs.declared.inspect.Inspected.TheVariants.{Right, Missing, NoFile, NoTable}
-use Rattle.gm_build.specs.Inspections.{IsInspectedIn}
 
 -- an entry that stays the same stays the text of the true table
 pub text_kept : (r : Rules) (old new : Texts) (tier : ℕ) → new tier ≡ old tier → HasText r old tier → HasText r new tier

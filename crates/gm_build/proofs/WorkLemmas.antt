@@ -1,15 +1,10 @@
 -- How the numbers of a build grow, tier by tier.
-use Rattle.std.proofs.Common.{◌≡◌, ℕ, ◌+◌, ◌*◌, ◌≤◌, ◌↔◌, inl, inr, List, [], ◌∷◌, ◌++◌, map, refl, ap, sym, subst, ◌∙◌, arith}
-use Rattle.gm_build.proofs.Lower.{Contains, Contains-append_left, Contains-push, Contains-push_cases, MOVES, TIER_SIZE, Position, Rules, IsGame, contains_none}
-use Rattle.gm_build.proofs.Lower.{AreDeliveries, IsWorkOn, IsSomeWork, IsDoneBy, IsStepWork, no_work, with_tier, TierOutcome, Reused, Migrated, Solved, Work}
-use Rattle.std.proofs.lemmas.List.{length-map}
-use Rattle.gm_game.specs.Numbers.{AreThere}
-use Rattle.gm_game.proofs.Lists.{contains_first, contains_cases, map_from, map_in}
-use Rattle.gm_frontier.proofs.Distinct.{no_repeats_from, no_repeats_to, no_repeats_map}
-use Rattle.gm_frontier.proofs.CountLemmas.{pairs_few}
-use Rattle.gm_table.specs.Solving.{IsDelivery}
-use Rattle.gm_solver.proofs.Deliveries.{there_sum, there_same, there_none}
-use Rattle.gm_build.specs.Work.{IsSolvedTier, IsSolvedDelivery}
+use Rattle.gm_build.proofs.Lower.{◌≡◌, ℕ, ◌+◌, ◌≤◌, ◌↔◌, inl, inr, List, [], ◌∷◌, ◌++◌, map, refl, ap, sym, subst, ◌∙◌, arith, Contains, Contains-append_left}
+use Rattle.gm_build.proofs.Lower.{Contains-push, Contains-push_cases, MOVES, TIER_SIZE, Position, Rules, IsGame, contains_none, AreDeliveries, IsWorkOn}
+use Rattle.gm_build.proofs.Lower.{IsSomeWork, IsDoneBy, IsStepWork, no_work, with_tier, TierOutcome, Reused, Migrated, Solved, Work, length-map, AreThere}
+use Rattle.gm_build.proofs.Lower.{contains_first, contains_cases, map_from, map_in, no_repeats_from, no_repeats_to, no_repeats_map, pairs_few, IsDelivery}
+use Rattle.gm_build.proofs.Lower.{there_sum, there_same, there_none, IsSolvedTier, IsSolvedDelivery}
+use Rattle.std.proofs.Common.{◌*◌}
 
 -- one tier
 there_one : (tier : ℕ) → AreThere 1 (λ (t : ℕ). tier ≡ t)

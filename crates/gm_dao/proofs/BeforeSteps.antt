@@ -1,14 +1,12 @@
 -- The board before a slide that led to a legal board.
-use Rattle.std.specs.Prelude.{◌≡◌, ◌+◌, ◌*◌, ◌<◌}
+use Rattle.gm_dao.proofs.Lower.{◌≡◌, ◌+◌, ◌<◌, has_formation, has_trapped, legal, in_line, slides, can_move, can_have_led_here, dao, is_open, formation_turned}
+use Rattle.gm_dao.proofs.Lower.{formation_left, legal_in, legal_from, IsSlide, slide_step, move_slide, slide_move, was_from}
+use Rattle.std.specs.Prelude.{◌*◌}
 use Rattle.gm_pieces.specs.Common.{false_from_ne_true, refl, ℕ, true, false, not, eqb, eqb-true, eq-eqb, List, map, length, set, None, Some, subst, sym, ap}
 use Rattle.gm_pieces.specs.Common.{ap₂, ◌∙◌, arith, inl, inr, get_or-set_same, length-set, length-map, cases_Bool, not-true, Cell, Empty, Mine, turned, is_mine}
-use Rattle.gm_pieces.specs.Common.{is_theirs, cell_at, number_of, mine_turned, theirs_turned, and_left, and_right, and_both, from_back, to_back}
-use Rattle.gm_pieces.specs.Common.{plays_on, goes_on, before_at, before_some, before_none, WasStep, gone, brought_back, step_left, gone_again}
-use Rattle.gm_dao.specs.DaoRules.{has_formation, has_trapped, legal, end_by_last_move, in_line, slides, can_move, can_have_led_here, undo, dao}
-use Rattle.gm_dao.specs.MaskSlides.{is_open}
-use Rattle.gm_dao.specs.laws.BoardFacts.{formation_turned, formation_left, legal_in, legal_from}
-use Rattle.gm_dao.specs.laws.MoveFacts.{IsSlide, slide_step, move_slide, slide_move}
-use Rattle.gm_dao.specs.laws.BeforeFacts.{was_from}
+use Rattle.gm_pieces.specs.Common.{is_theirs, cell_at, number_of, mine_turned, theirs_turned, and_left, and_right, and_both, from_back, to_back, plays_on}
+use Rattle.gm_pieces.specs.Common.{goes_on, before_at, before_some, before_none, WasStep, gone, brought_back, step_left, gone_again}
+use Rattle.gm_dao.specs.DaoRules.{end_by_last_move, undo}
 
 -- the board before, by the cells of the move
 taken_at : (d : List Cell) (a c : ℕ) → c < 16 → undo d (16 * a + c) ≡ brought_back d a c

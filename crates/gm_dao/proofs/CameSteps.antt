@@ -1,5 +1,9 @@
 -- The cells from which a piece can have slid to its cell, and the boards before a board, taken by the pieces that may have moved.
-use Rattle.std.specs.Prelude.{◌++◌, ◌≡◌, ◌≢◌, ◌+◌, ◌*◌, ◌/◌, ◌^◌, ◌<◌, ◌≤◌, ◌&&◌, ◌∷◌}
+use Rattle.gm_dao.proofs.Lower.{◌++◌, ◌≡◌, ◌≢◌, ◌+◌, ◌/◌, ◌^◌, ◌<◌, ◌≤◌, ◌&&◌, ◌∷◌, filter_map_from, filter_map_to, contains_head, contains_later, is_some}
+use Rattle.gm_dao.proofs.Lower.{filter_map_few, AllByRecursion, AreAscending, is_before, ascending_once, contains_none, map_in, map_from, put_all_ascending}
+use Rattle.gm_dao.proofs.Lower.{put_all_from, put_all_later, before_skip, puts_skip, legal, slides, can_have_led_here, least_index_of, dao, came_by_masks}
+use Rattle.gm_dao.proofs.Lower.{way_back, befores_below, AreBeforesBelow, legal_in, way, blocks_few, was_in}
+use Rattle.std.specs.Prelude.{◌*◌}
 use Rattle.gm_pieces.specs.Common.{ℕ, zero, suc, Bool, true, false, not, cond, eqb, eq-eqb, ltb, ltb-true, List, [], length, map, set, None, Some, Option, refl}
 use Rattle.gm_pieces.specs.Common.{sym, ap, ap₂, ◌∙◌, subst, arith, inl, inr, bit_and, list_all, filter_map, range_with_len, cases_Bool, true≢false, Contains}
 use Rattle.gm_pieces.specs.Common.{put, put_all, put_more_none, put_more_some, Cell, Empty, Mine, Theirs, turned, has_cell, board_of, from_point, to_point}
@@ -7,22 +11,7 @@ use Rattle.gm_pieces.specs.Common.{from_back, to_back, all_at, all_from, at_all,
 use Rattle.gm_pieces.specs.Common.{length-set, length-map, before_at, befores, is_theirs, is_empty, is_taken, cell_at, WasStep, brought_back, turned_cell}
 use Rattle.gm_pieces.specs.Common.{filter, reverse, same_all, same_list, same_list_true, same_tests, cells_counted, empty_cell, contains_range, range_below}
 use Rattle.gm_pieces.specs.Common.{their_cells, IsAscending, Position, at, lt-ltb, map_once, false_from_ne_true}
-use Rattle.gm_board.specs.laws.Lists.{filter_map_from, filter_map_to, contains_head, contains_later}
-use Rattle.std.specs.Option.{is_some}
-use Rattle.gm_board.specs.laws.Filters.{filter_map_few}
-use Rattle.std.specs.List.{AllByRecursion}
-use Rattle.gm_game.specs.Children.{AreAscending, is_before}
-use Rattle.gm_game.proofs.ChildrenLemmas.{ascending_once}
-use Rattle.gm_game.proofs.Lists.{contains_none, map_in, map_from}
-use Rattle.gm_game.proofs.Putting.{put_all_ascending, put_all_from, put_all_later}
-use Rattle.gm_pieces.specs.laws.MoveLaws.{before_skip}
-use Rattle.gm_pieces.specs.laws.Skipped.{puts_skip}
-use Rattle.gm_dao.specs.DaoRules.{in_line, path, beyond, legal, slides, can_have_led_here, least_index_of, dao}
-use Rattle.gm_dao.specs.MaskSlides.{came_by_masks, way_back, befores_below, AreBeforesBelow}
-use Rattle.gm_dao.specs.laws.BoardFacts.{legal_in}
-use Rattle.gm_dao.specs.laws.SlideFacts.{way}
-use Rattle.gm_dao.specs.laws.CountFacts.{blocks_few}
-use Rattle.gm_dao.specs.laws.BeforeFacts.{was_in}
+use Rattle.gm_dao.specs.DaoRules.{in_line, path, beyond}
 use Rattle.std.proofs.lemmas.List.Sorted.{IsPermutation-reverse, IsPermutation-sym, Contains-permutation}
 use Rattle.gm_dao.proofs.MoveSteps.{all_more, was_at}
 use Rattle.gm_dao.proofs.BeforeSteps.{no_before}
@@ -137,29 +126,24 @@ module _ (d : List Cell) (a c free taken : ℕ) (la : a < 16) (lc : c < 16) (lon
     pub same_slide : slides (brought_back d a c) a c ≡ came_by_masks free taken c a
     same_slide = ap₂ (λ (x y : Bool). x && y) (e ∙ sym turned_way.line) (ap₂ (λ (x y : Bool). x && y) clear stopped)
 
--- the line, from either end
-pub line_back : (a c : ℕ) → a < 16 → c < 16 → in_line c a ≡ true → in_line a c ≡ true
-line_back a c la lc e = (way_turned c a lc la e).line
-
--- a piece comes from an empty cell
-pub came_free : (free taken c a : ℕ) → came_by_masks free taken c a ≡ true → has_cell free a ≡ true
-came_free free taken c a h = all_at (has_cell free) (path c a) a (and_left _ _ (and_right _ _ h)) (way c a (and_left _ _ h)).ends
-
 module _ (d : List Cell) (c free taken a : ℕ) (la : a < 16) (there : cell_at d c ≡ Theirs)
     (f : (k : ℕ) → k < 16 → has_cell free k ≡ is_empty (cell_at d k)) where
-  -- so it has stepped
+  -- a piece comes from an empty cell, so it has stepped
   pub was_step : came_by_masks free taken c a ≡ true → WasStep d a c
-  was_step h = record { there = there; left = empty_cell _ (sym (f a la) ∙ came_free free taken c a h) }
+  was_step h = record {
+    there = there;
+    left = empty_cell _ (sym (f a la) ∙ all_at (has_cell free) (path c a) a (and_left _ _ (and_right _ _ h)) (way c a (and_left _ _ h)).ends);
+  }
 
   -- and slid
   pub was_slid : legal d ≡ true → c < 16 → ((k : ℕ) → k < 16 → has_cell taken k ≡ is_taken (cell_at d k)) → came_by_masks free taken c a ≡ true → slides
       (brought_back d a c) a c ≡ true
   was_slid l lc t h =
-      same_slide d a c free taken la lc (legal_in d l).cells (was_step h) f t (line_back a c la lc (and_left _ _ h)) ∙ h
+      same_slide d a c free taken la lc (legal_in d l).cells (was_step h) f t (way_turned c a lc la (and_left _ _ h)).line ∙ h
 
 -- ---- boards before
 -- the number of the move that comes from a
-back_at : (a c : ℕ) → a < 16 → way_back (16 * c + a) ≡ 16 * a + c
+pub back_at : (a c : ℕ) → a < 16 → way_back (16 * c + a) ≡ 16 * a + c
 back_at a c l = ap₂ (λ (x y : ℕ). 16 * x + y) (to_back c a l) (from_back c a l)
 
 module _ (t : ℕ) (d : List Cell) (c free taken : ℕ) (is_legal : legal d ≡ true) (lc : c < 16)
@@ -224,10 +208,6 @@ before_more t d b c a i is new l e f p h =
     ∙ ap₂ put f h
     ∙ sym (put_more_some least_index_of (λ (m : ℕ). before_at dao t d (way_back m)) (16 * c + a) b (ap (before_at dao t d) (back_at a c l) ∙ e))
     ∙ ap (λ (n : ℕ). put_all [] (map least_index_of (befores_below t d n))) (let z : 16 * c + a + 1 ≡ 16 * c + (a + 1) = omega arith in z)
-
--- its board, by the number that is counted
-pub before_here : (t : ℕ) (d b : List Cell) (c a : ℕ) → a < 16 → before_at dao t d (16 * a + c) ≡ Some b → before_at dao t d (way_back (16 * c + a)) ≡ Some b
-before_here t d b c a l e = ap (before_at dao t d) (back_at a c l) ∙ e
 
 -- ---- how many there are
 -- at most sixteen for each of the opponent's pieces

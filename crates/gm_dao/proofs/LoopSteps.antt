@@ -1,16 +1,12 @@
 -- The steps of the loops over cells: what is skipped gives no move and no board.
-use Rattle.std.specs.Prelude.{◌≡◌, ◌+◌, ◌-◌, ◌*◌, ◌/◌, ◌%◌, ◌^◌, ◌<◌, ◌≤◌, ◌&&◌, ◌∷◌, ◌++◌}
-use Rattle.gm_pieces.specs.Common.{ℕ, Bool, true, false, eqb, eq-eqb, List, [], refl, sym, ap, ap₂, ◌∙◌, subst, arith, inl, inr, bit_or}
-use Rattle.gm_pieces.specs.Common.{pow_mono, w32, filter, range_with_len, cases_eq, true≢false, bit_at_above, bit_at_set_same}
-use Rattle.gm_pieces.specs.Common.{bit_at_set_other, Cell, has_cell, weight, none_left, board_of, from_point, from_back, to_back, filter_in, steps, all_steps}
-use Rattle.gm_pieces.specs.Common.{is_mine, false_from_ne_true, is_empty, is_taken, cell_at, own_cells}
-use Rattle.std.specs.Int.Bits.{or_zero_r}
-use Rattle.gm_board.specs.laws.MaskChanges.{with_within}
-use Rattle.gm_pieces.specs.laws.Skipped.{filter_skip}
-use Rattle.gm_dao.specs.DaoRules.{can_move, dao}
-use Rattle.gm_dao.specs.MaskSlides.{slides_by_masks, AreMovesBelow}
-use Rattle.gm_dao.specs.laws.MoveFacts.{move_slide}
-use Rattle.gm_dao.proofs.MoveSteps.{slides_by, move_by}
+use Rattle.gm_dao.proofs.Lower.{◌≡◌, ◌+◌, ◌-◌, ◌/◌, ◌%◌, ◌^◌, ◌<◌, ◌≤◌, ◌&&◌, ◌∷◌, ◌++◌, or_zero_r, with_within, filter_skip, can_move, dao, slides_by_masks}
+use Rattle.gm_dao.proofs.Lower.{AreMovesBelow, move_slide}
+use Rattle.std.specs.Prelude.{◌*◌}
+use Rattle.gm_pieces.specs.Common.{ℕ, Bool, true, false, eqb, eq-eqb, List, [], refl, sym, ap, ap₂, ◌∙◌, subst, arith, inl, inr, bit_or, pow_mono, w32, filter}
+use Rattle.gm_pieces.specs.Common.{range_with_len, cases_eq, true≢false, bit_at_above, bit_at_set_same, bit_at_set_other, Cell, has_cell, weight, none_left}
+use Rattle.gm_pieces.specs.Common.{board_of, from_point, from_back, to_back, filter_in, steps, all_steps, is_mine, false_from_ne_true, is_empty, is_taken}
+use Rattle.gm_pieces.specs.Common.{cell_at, own_cells}
+use Rattle.gm_dao.proofs.MoveSteps.{move_by}
 
 -- ---- moves
 -- no move leaves a cell without a piece of the mover's
@@ -18,20 +14,17 @@ pub no_move_from : (a b m : ℕ) → a < 2 ^ 16 → has_cell a (from_point m) �
 no_move_from a b m l e =
     false_from_ne_true _ (λ t. true≢false (sym (own_cells 16 a b l (from_point m) ∙ ap is_mine (move_slide (board_of 16 a b) m t).mine) ∙ e))
 
--- the cell that a number past those of n cells leaves
-pub from_far : (n i : ℕ) → from_point (16 * n + i) ≡ n + i / 16
-unfolding from_point
-from_far n i = omega arith
-
 -- cells without the mover's pieces, s of them
 pub moves_skip : (a b n s : ℕ) (ms : List ℕ) → a < 2 ^ 16 → ((i : ℕ) → i < s → has_cell a (n + i) ≡ false) → AreMovesBelow (board_of 16 a b) (16 * n) ms →
     AreMovesBelow (board_of 16 a b) (16 * (n + s)) ms
+unfolding from_point
 moves_skip a b n s ms l h e =
     let p = can_move (board_of 16 a b) in
     e
     ∙ sym (
     ap (λ (m : ℕ). filter p (range_with_len 0 m)) (let z : 16 * (n + s) ≡ 16 * n + 16 * s = omega arith in z)
-    ∙ filter_skip p (16 * n) (16 * s) (λ i k. no_move_from a b (16 * n + i) l (ap (has_cell a) (from_far n i) ∙ h (i / 16) (omega arith))))
+    ∙ filter_skip p (16 * n) (16 * s) (λ i k.
+    no_move_from a b (16 * n + i) l (ap (has_cell a) (let z : from_point (16 * n + i) ≡ n + i / 16 = omega arith in z) ∙ h (i / 16) (omega arith))))
 
 -- the cells to which the piece on a cell slides are the goals of its moves
 abbrev pub AreGoals : List Cell → ℕ → ℕ → Type 0
@@ -43,8 +36,8 @@ pub goals_are : (a b free taken g from : ℕ) → a < 2 ^ 16 → from < 16 → h
     ((k : ℕ) → k < 16 → has_cell taken k ≡ is_taken (cell_at (board_of 16 a b) k))
     → ((k : ℕ) → k < 16 → has_cell g k ≡ slides_by_masks free taken from k) → AreGoals (board_of 16 a b) from g
 goals_are a b free taken g from l w own f t h k j =
-    move_by (board_of 16 a b) (16 * from + k) from k true (has_cell g k) (sym (from_back from k j)) (sym (to_back from k j)) (sym own ∙ own_cells 16 a b l from)
-    (h k j ∙ slides_by (board_of 16 a b) free taken from k f t)
+    move_by (board_of 16 a b) (16 * from + k) from k (has_cell free) (has_cell taken) true (has_cell g k) (sym (from_back from k j)) (sym (to_back from k j))
+    (sym own ∙ own_cells 16 a b l from) refl (h k j) f t
 
 -- goals that there are not, s of them
 pub goals_skip : (b : List Cell) (from g n s : ℕ) (ms : List ℕ) → AreGoals b from g → n + s ≤ 16 → ((i : ℕ) → i < s → has_cell g (n + i) ≡ false) →

@@ -1,10 +1,9 @@
 -- The constant tables of the code against the lists of cells.
-use Rattle.std.specs.Prelude.{◌≡◌, ◌+◌, ◌*◌, ◌<◌, ◌&&◌, ◌∷◌}
-use Rattle.gm_pieces.specs.Common.{ℕ, Bool, true, not, cond, eqb, eqb-true, [], map, get_or, refl, sym, ◌∙◌, list_all, range_with_len, cond-true, and_left}
-use Rattle.gm_pieces.specs.Common.{and_right, pattern_mask, at_below, at_all, at_each, agree, agree_same}
-use Rattle.gm_dao.specs.declared.formations.TheConstants.{FORMATIONS, CORNERS, NEXT_TO_CORNERS}
-use Rattle.gm_dao.specs.declared.slides.TheConstants.{PATHS, BEYOND, BEHIND}
-use Rattle.gm_dao.specs.DaoRules.{formations, corners, around, in_line, path, beyond}
+use Rattle.gm_dao.proofs.Lower.{◌≡◌, ◌+◌, ◌<◌, ◌&&◌, ◌∷◌, PATHS, BEYOND, BEHIND, corners, FORMATIONS, CORNERS, NEXT_TO_CORNERS}
+use Rattle.std.specs.Prelude.{◌*◌}
+use Rattle.gm_pieces.specs.Common.{ℕ, Bool, true, not, cond, eqb, eqb-true, [], map, get_or, refl, sym, ◌∙◌, cond-true, and_left, and_right, pattern_mask}
+use Rattle.gm_pieces.specs.Common.{at_below, at_each, agree, agree_same}
+use Rattle.gm_dao.specs.DaoRules.{formations, around, in_line, path, beyond}
 use Rattle.gm_dao.specs.MaskSlides.{way_mask}
 
 -- the masks of the formations
@@ -13,57 +12,40 @@ unfolding formations
 masks_of_formations = refl
 
 -- ---- corners
-abbrev corner_masks : ℕ → Bool
-corner_masks i = eqb (get_or CORNERS i 0) (pattern_mask (get_or corners i 0 ∷ [])) && eqb (get_or NEXT_TO_CORNERS i 0)
-    (pattern_mask (around (get_or corners i 0)))
-
-corners_pass : list_all corner_masks (range_with_len 0 4) ≡ true
-unfolding around
-corners_pass = refl
-
 -- the mask of each of the corners
 pub corner_mask : (i : ℕ) → i < 4 → get_or CORNERS i 0 ≡ pattern_mask (get_or corners i 0 ∷ [])
-corner_mask i l = eqb-true _ _ (and_left _ _ (at_below 4 corner_masks corners_pass i l))
+corner_mask i l = eqb-true _ _ (at_below 4 (λ i. eqb (get_or CORNERS i 0) (pattern_mask (get_or corners i 0 ∷ []))) refl i l)
 
 -- and of the cells next to it
 pub next_mask : (i : ℕ) → i < 4 → get_or NEXT_TO_CORNERS i 0 ≡ pattern_mask (around (get_or corners i 0))
-next_mask i l = eqb-true _ _ (and_right _ _ (at_below 4 corner_masks corners_pass i l))
+unfolding around
+next_mask i l = eqb-true _ _ (at_below 4 (λ i. eqb (get_or NEXT_TO_CORNERS i 0) (pattern_mask (around (get_or corners i 0)))) refl i l)
 
 -- ---- slides
--- the way and what follows it, by the number of the move; what follows the way back
-abbrev way_passes : ℕ → ℕ → Bool
-way_passes a c = eqb (get_or PATHS (16 * a + c) 0) (way_mask a c) && agree (in_line a c) (not (eqb (way_mask a c) 0))
+-- the mask of each way
+pub way_is : (a c : ℕ) → a < 16 → c < 16 → get_or PATHS (16 * a + c) 0 ≡ way_mask a c
+unfolding way_mask in_line path
+way_is a c l k = eqb-true _ _ (at_each 16 16 (λ a c. eqb (get_or PATHS (16 * a + c) 0) (way_mask a c)) refl a c l k)
 
+-- a way has a mask that is not 0
+pub line_shown : (a c : ℕ) → a < 16 → c < 16 → not (eqb (way_mask a c) 0) ≡ in_line a c
+unfolding way_mask in_line path
+line_shown a c l k = sym (agree_same _ _ (at_each 16 16 (λ a c. agree (in_line a c) (not (eqb (way_mask a c) 0))) refl a c l k))
+
+-- the masks of the cells that follow
 abbrev line_passes : ℕ → ℕ → Bool
 line_passes a c =
     cond (in_line a c) (eqb (get_or BEYOND (16 * a + c) 0) (pattern_mask (beyond a c)) && eqb (get_or BEHIND (16 * a + c) 0) (pattern_mask (beyond c a))) true
 
-ways_pass : at_all 16 16 way_passes ≡ true
-unfolding way_mask in_line path
-ways_pass = refl
-
-lines_pass : at_all 16 16 line_passes ≡ true
+lines_pass : (a c : ℕ) → a < 16 → c < 16 → line_passes a c ≡ true
 unfolding in_line beyond
-lines_pass = refl
-
--- the mask of each way
-pub way_is : (a c : ℕ) → a < 16 → c < 16 → get_or PATHS (16 * a + c) 0 ≡ way_mask a c
-way_is a c l k = eqb-true _ _ (and_left _ _ (at_each 16 16 way_passes ways_pass a c l k))
-
--- a way has a mask that is not 0
-pub line_shown : (a c : ℕ) → a < 16 → c < 16 → not (eqb (way_mask a c) 0) ≡ in_line a c
-line_shown a c l k = sym (agree_same _ _ (and_right _ _ (at_each 16 16 way_passes ways_pass a c l k)))
-
--- the masks of the cells that follow
-follow : (a c : ℕ) → a < 16 → c < 16 → in_line a c ≡ true
-    → (eqb (get_or BEYOND (16 * a + c) 0) (pattern_mask (beyond a c)) && eqb (get_or BEHIND (16 * a + c) 0) (pattern_mask (beyond c a))) ≡ true
-follow a c l k e = sym (cond-true _ _ _ e) ∙ at_each 16 16 line_passes lines_pass a c l k
+lines_pass = at_each 16 16 line_passes refl
 
 pub next_is : (a c : ℕ) → a < 16 → c < 16 → in_line a c ≡ true → get_or BEYOND (16 * a + c) 0 ≡ pattern_mask (beyond a c)
-next_is a c l k e = eqb-true _ _ (and_left _ _ (follow a c l k e))
+next_is a c l k e = eqb-true _ _ (and_left _ _ (sym (cond-true _ _ _ e) ∙ lines_pass a c l k))
 
 pub behind_is : (c a : ℕ) → c < 16 → a < 16 → in_line c a ≡ true → get_or BEHIND (16 * c + a) 0 ≡ pattern_mask (beyond a c)
-behind_is c a l k e = eqb-true _ _ (and_right _ _ (follow c a l k e))
+behind_is c a l k e = eqb-true _ _ (and_right _ _ (sym (cond-true _ _ _ e) ∙ lines_pass c a l k))
 
 -- between cells in line
 pub way_line : (a c : ℕ) → in_line a c ≡ true → way_mask a c ≡ pattern_mask (path a c)

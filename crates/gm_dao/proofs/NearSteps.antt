@@ -1,16 +1,13 @@
 -- How many cells a piece slides to: one in each direction in which the next cell is free.
-use Rattle.std.specs.Prelude.{◌≡◌, ◌+◌, ◌*◌, ◌^◌, ◌<◌, ◌&&◌, ◌∷◌, ◌++◌, count_ones}
-use Rattle.gm_pieces.specs.Common.{ℕ, zero, suc, Bool, true, false, not, cond, List, [], length, refl, sym, ap, ◌∙◌, arith, inl, inr, bit_and, filter}
-use Rattle.gm_pieces.specs.Common.{range_with_len, cases_Bool, true≢false, list_all, get_or, has_cell, has_and, weight, at_all, at_each, cond-true, ltb}
-use Rattle.gm_pieces.specs.Common.{ltb-true, at_below, and_le_r, same_list, same_list_true, Cell, Empty, Mine, Theirs, fills, is_empty, is_taken, cell_at}
-use Rattle.gm_pieces.specs.Common.{board_of, own_cells, from_back, to_back, board_length, is_mine, cells_counted}
-use Rattle.std.specs.Int.Bits.{and_zero_r}
-use Rattle.gm_pieces.specs.laws.MaskFacts.{own_pieces}
-use Rattle.gm_dao.specs.declared.slides.TheConstants.{NEAR}
-use Rattle.gm_dao.specs.DaoRules.{in_line, path, beyond, can_move}
-use Rattle.gm_dao.specs.MaskSlides.{slides_over}
-use Rattle.gm_dao.specs.laws.CountFacts.{same_number, total, total_same, total_add, passed}
-use Rattle.gm_dao.proofs.MoveSteps.{all_more, slides_as, move_by}
+use Rattle.gm_dao.proofs.Lower.{◌≡◌, ◌+◌, ◌^◌, ◌<◌, ◌&&◌, ◌∷◌, ◌++◌, count_ones, and_zero_r, own_pieces, NEAR, can_move, slides_over, same_number, total}
+use Rattle.gm_dao.proofs.Lower.{total_same, total_add, passed, AllByRecursion, contains_none, contains_cases}
+use Rattle.std.specs.Prelude.{◌*◌}
+use Rattle.gm_pieces.specs.Common.{ℕ, Bool, true, false, not, cond, List, [], length, refl, sym, ap, ◌∙◌, arith, inl, inr, bit_and, filter, subst, Contains}
+use Rattle.gm_pieces.specs.Common.{contains_range, range_with_len, cases_Bool, true≢false, list_all, get_or, has_cell, has_and, and_false, weight, at_all}
+use Rattle.gm_pieces.specs.Common.{at_each, cond-true, ltb, ltb-true, at_below, and_le_r, same_list, same_list_true, Cell, Empty, Mine, Theirs, is_empty}
+use Rattle.gm_pieces.specs.Common.{is_taken, cell_at, board_of, own_cells, from_back, to_back, board_length, is_mine, cells_counted}
+use Rattle.gm_dao.specs.DaoRules.{in_line, path, beyond}
+use Rattle.gm_dao.proofs.MoveSteps.{all_more, move_by}
 
 -- ---- along a way
 -- the value at the cell that follows, if there is one
@@ -61,26 +58,40 @@ followed F a c = cond (in_line a c) (after (beyond a c) F) 0
 abbrev nexts : (ℕ → ℕ) → ℕ → ℕ → ℕ
 nexts F a c = cond (has_cell (get_or NEAR a 0) c) (F c) 0
 
+each_of : (P : ℕ → Type 0) (xs : List ℕ) → AllByRecursion P xs → (x : ℕ) → Contains xs x → P x
+each_of P [] h x c = absurd (contains_none x c)
+each_of P (y ∷ ys) h x c = elim (contains_cases y x ys c) [ inl e ↦ subst P e h.0 | inr d ↦ each_of P ys h.1 x d ]
+
 -- each cell in line follows another or is next
 reindex : (F : ℕ → ℕ) (a : ℕ) → a < 16 → total (in_lines F a) 16 ≡ total (followed F a) 16 + total (nexts F a) 16
 unfolding in_line path beyond
-reindex F zero l = omega arith
-reindex F (suc zero) l = omega arith
-reindex F (suc (suc zero)) l = omega arith
-reindex F (suc (suc (suc zero))) l = omega arith
-reindex F (suc (suc (suc (suc zero)))) l = omega arith
-reindex F (suc (suc (suc (suc (suc zero))))) l = omega arith
-reindex F (suc (suc (suc (suc (suc (suc zero)))))) l = omega arith
-reindex F (suc (suc (suc (suc (suc (suc (suc zero))))))) l = omega arith
-reindex F (suc (suc (suc (suc (suc (suc (suc (suc zero)))))))) l = omega arith
-reindex F (suc (suc (suc (suc (suc (suc (suc (suc (suc zero))))))))) l = omega arith
-reindex F (suc (suc (suc (suc (suc (suc (suc (suc (suc (suc zero)))))))))) l = omega arith
-reindex F (suc (suc (suc (suc (suc (suc (suc (suc (suc (suc (suc zero))))))))))) l = omega arith
-reindex F (suc (suc (suc (suc (suc (suc (suc (suc (suc (suc (suc (suc zero)))))))))))) l = omega arith
-reindex F (suc (suc (suc (suc (suc (suc (suc (suc (suc (suc (suc (suc (suc zero))))))))))))) l = omega arith
-reindex F (suc (suc (suc (suc (suc (suc (suc (suc (suc (suc (suc (suc (suc (suc zero)))))))))))))) l = omega arith
-reindex F (suc (suc (suc (suc (suc (suc (suc (suc (suc (suc (suc (suc (suc (suc (suc zero))))))))))))))) l = omega arith
-reindex F (suc (suc (suc (suc (suc (suc (suc (suc (suc (suc (suc (suc (suc (suc (suc (suc a)))))))))))))))) l = absurd (omega (arith, l))
+reindex F a l =
+    each_of (λ a. total (in_lines F a) 16 ≡ total (followed F a) 16 + total (nexts F a) 16) (range_with_len 0 16) (
+      omega arith,
+      (
+        omega arith,
+        (
+          omega arith,
+          (
+            omega arith,
+            (
+              omega arith,
+              (
+                omega arith,
+                (
+                  omega arith,
+                  (
+                    omega arith,
+                    (omega arith, (omega arith, (omega arith, (omega arith, (omega arith, (omega arith, (omega arith, (omega arith, tt)))))))),
+                  ),
+                ),
+              ),
+            ),
+          ),
+        ),
+      ),
+    )
+    a (contains_range 16 a l)
 
 one_cell : (x : ℕ → Bool) (a c : ℕ) → a < 16 → c < 16 → weight (slides_over x a c) + followed (λ e. weight (list_all x (path a e))) a c ≡ in_lines
     (λ e. weight (list_all x (path a e))) a c
@@ -97,9 +108,6 @@ near_pass : at_all 16 16 near_passes ≡ true
 unfolding path
 near_pass = refl
 
-near_within : list_all (λ a. ltb (get_or NEAR a 0) (2 ^ 16)) (range_with_len 0 16) ≡ true
-near_within = refl
-
 one_near : (free a c : ℕ) → a < 16 → c < 16 → nexts (λ e. weight (list_all (has_cell free) (path a e))) a c ≡ weight (has_cell (bit_and free (get_or NEAR a 0)) c)
 one_near free a c l k = elim (cases_Bool (has_cell (get_or NEAR a 0) c)) [
   | inl t ↦ (
@@ -110,14 +118,10 @@ one_near free a c l k = elim (cases_Bool (has_cell (get_or NEAR a 0) c)) [
       ∙ ap weight (sym (has_and free (get_or NEAR a 0) c)))
   | inr t ↦ (
       let n : has_cell (bit_and free (get_or NEAR a 0)) c ≡ has_cell free c && false = has_and free (get_or NEAR a 0) c ∙ ap (λ (q : Bool). has_cell free c && q) t in
-      let z : weight (has_cell free c && false) ≡ 0 = none (has_cell free c) in
+      let z : weight (has_cell free c && false) ≡ 0 = ap weight (and_false (has_cell free c)) in
       let e : nexts (λ e. weight (list_all (has_cell free) (path a e))) a c ≡ 0 = rw t refl in
       e ∙ sym (ap weight n ∙ z))
 ]
-  where
-    none : (q : Bool) → weight (q && false) ≡ 0
-    none true = refl
-    none false = refl
 
 -- the cells of a mask are as many as its ones
 cells_of_mask : (g : ℕ) → g < 2 ^ 16 → length (filter (has_cell g) (range_with_len 0 16)) ≡ count_ones g
@@ -135,7 +139,7 @@ near_counted free a l =
     let x = has_cell free in
     let F : ℕ → ℕ = λ e. weight (list_all x (path a e)) in
     let m = bit_and free (get_or NEAR a 0) in
-    let fits : get_or NEAR a 0 < 2 ^ 16 = ltb-true _ _ (at_below 16 (λ (a : ℕ). ltb (get_or NEAR a 0) (2 ^ 16)) near_within a l) in
+    let fits : get_or NEAR a 0 < 2 ^ 16 = ltb-true _ _ (at_below 16 (λ (a : ℕ). ltb (get_or NEAR a 0) (2 ^ 16)) refl a l) in
     let small : m < 2 ^ 16 = omega (arith, fits, and_le_r free (get_or NEAR a 0)) in
     let cells = sym (cells_of_mask m small) ∙ passed (has_cell m) 16 in
     let near = total_same (nexts F a) (λ (c : ℕ). weight (has_cell m c)) 16 (λ c k. one_near free a c l k) in
@@ -151,14 +155,10 @@ free_taken Empty = refl
 free_taken Mine = refl
 free_taken Theirs = refl
 
-over_by : (b : List Cell) (free a c : ℕ) → ((k : ℕ) → k < 16 → has_cell free k ≡ is_empty (cell_at b k))
-    → slides_over (has_cell free) a c ≡ (in_line a c && (fills Empty is_empty b (path a c) && fills Empty is_taken b (beyond a c)))
-over_by b free a c f =
-    slides_as b (has_cell free) (λ (k : ℕ). not (has_cell free k)) a c f (λ k l. ap not (f k l) ∙ free_taken (cell_at b k))
-
 -- the moves of the piece on a cell
 pub moves_over : (a b free from : ℕ) → a < 2 ^ 16 → has_cell a from ≡ true → ((k : ℕ) → k < 16 → has_cell free k ≡ is_empty (cell_at (board_of 16 a b) k))
     → (k : ℕ) → k < 16 → slides_over (has_cell free) from k ≡ can_move (board_of 16 a b) (16 * from + k)
 moves_over a b free from l own f k j =
-    move_by (board_of 16 a b) (16 * from + k) from k true (slides_over (has_cell free) from k) (sym (from_back from k j)) (sym (to_back from k j))
-    (sym own ∙ own_cells 16 a b l from) (over_by (board_of 16 a b) free from k f)
+    move_by (board_of 16 a b) (16 * from + k) from k (has_cell free) (λ (k : ℕ). not (has_cell free k)) true (slides_over (has_cell free) from k)
+    (sym (from_back from k j)) (sym (to_back from k j)) (sym own ∙ own_cells 16 a b l from) refl refl f
+    (λ k l. ap not (f k l) ∙ free_taken (cell_at (board_of 16 a b) k))

@@ -1,9 +1,6 @@
 -- What Dao looks like.
-use Rattle.std.specs.Prelude.{[], ◌++◌, codes}
-use Rattle.gm_draw.specs.declared.pictured.Style.TheVariants.{Stones}
-use Rattle.gm_draw.specs.Pictures.{PictureSpec, x_moves}
-use Rattle.gm_draw.specs.GameSpecs.{GameSpec, game_spec}
-use Rattle.gm_draw.specs.Points.{square_naming, square_points}
+use Rattle.std.specs.Prelude.{[], ◌++◌}
+use Rattle.gm_dao.specs.Lower.{codes, Stones, PictureSpec, x_moves, GameSpec, game_spec, square_naming, square_points}
 use Rattle.gm_dao.specs.DaoRules.{dao_rules}
 use Rattle.gm_dao.specs.Texts.{position_text, move_text}
 

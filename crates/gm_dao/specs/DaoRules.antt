@@ -1,20 +1,14 @@
 -- The rules of Dao on boards: a board is a list of sixteen cells as the player to move sees them.
-use Rattle.std.specs.Prelude.{ℕ, ◌+◌, ◌-◌, ◌/◌, ◌%◌, max, Bool, true, not, ◌&&◌, ◌||◌, ◌==◌, nat_le, nat_lt, List, [], ◌∷◌, ◌++◌, map, length, codes}
-use Rattle.std.specs.Prelude.{if◌then◌else◌, Option, None, Some}
-use Rattle.std.specs.List.{filter, list_any, range_with_len}
-use Rattle.gm_game.specs.declared.position.End.{End}
+use Rattle.std.specs.Prelude.{ℕ, ◌+◌, ◌-◌, ◌/◌, ◌%◌, Bool, true, ◌&&◌, ◌||◌, ◌==◌, List, [], ◌∷◌, ◌++◌, length, if◌then◌else◌}
+use Rattle.gm_dao.specs.Lower.{max, not, nat_le, nat_lt, map, codes, Option, None, Some, filter, list_any, range_with_len, End, Rules, Theirs, arrangements}
+use Rattle.gm_dao.specs.Lower.{cell_in, from_point, to_point, gone, brought_back, board_index, board_numbered, least_index_under, MoveGame, move_rules}
 use Rattle.gm_game.specs.declared.position.End.TheVariants.{Lose, Win}
-use Rattle.gm_game.specs.Rules.{Rules}
 use Rattle.gm_board.specs.declared.cell.Cell.{Cell}
-use Rattle.gm_board.specs.declared.cell.Cell.TheVariants.{Empty, Mine, Theirs}
-use Rattle.gm_board.specs.Arrangements.{arrangements}
+use Rattle.gm_board.specs.declared.cell.Cell.TheVariants.{Empty, Mine}
 use Rattle.gm_board.specs.Patterns.{fills, has_filled}
 use Rattle.gm_board.specs.Permutations.{permute}
-use Rattle.gm_board.specs.Squares.{cell_in, square_symmetries}
-use Rattle.gm_pieces.specs.Steps.{from_point, to_point}
+use Rattle.gm_board.specs.Squares.{square_symmetries}
 use Rattle.gm_board.specs.Cells.{is_mine, is_theirs, is_empty, is_taken, cell_at, number_of}
-use Rattle.gm_pieces.specs.Sides.{gone, brought_back, board_index, board_numbered, least_index_under}
-use Rattle.gm_pieces.specs.MoveGames.{MoveGame, move_rules}
 
 -- ---- rows and columns
 -- how far two numbers are from each other

@@ -1,13 +1,8 @@
 -- Slides over masks of the free and of the taken cells.
-use Rattle.std.specs.Prelude.{◌≡◌, ◌+◌, ◌*◌, ℕ, Bool, not, ◌&&◌, List, [], map, if◌then◌else◌}
-use Rattle.std.specs.List.{list_all, filter, filter_map, range_with_len}
-use Rattle.gm_game.specs.Ascending.{put_all}
+use Rattle.std.specs.Prelude.{◌≡◌, ◌+◌, ◌*◌, ℕ, Bool, ◌&&◌, List, [], if◌then◌else◌}
+use Rattle.gm_dao.specs.Lower.{not, map, list_all, filter, filter_map, range_with_len, put_all, pattern_mask, has_cell, before_at, from_point, to_point}
 use Rattle.gm_board.specs.declared.cell.Cell.{Cell}
-use Rattle.gm_board.specs.BoardMasks.{pattern_mask}
 use Rattle.gm_board.specs.Cells.{is_mine}
-use Rattle.gm_board.specs.Masks.{has_cell}
-use Rattle.gm_pieces.specs.MoveGames.{before_at}
-use Rattle.gm_pieces.specs.Steps.{from_point, to_point}
 use Rattle.gm_dao.specs.DaoRules.{has_formation, has_trapped, in_line, path, beyond, can_move, least_index_of, dao}
 
 -- the mask of the way from one cell to another in line with it; 0 for other cells

@@ -1,9 +1,6 @@
 -- The texts of boards and of moves of Dao.
 use Rattle.std.specs.Prelude.{ℕ, List, ◌∷◌, ◌++◌}
-use Rattle.gm_game.specs.declared.position.Position.{Position}
-use Rattle.gm_board.specs.Squares.{cell_text}
-use Rattle.gm_pieces.specs.SideTexts.{board_text}
-use Rattle.gm_pieces.specs.Steps.{from_point, to_point}
+use Rattle.gm_dao.specs.Lower.{Position, cell_text, board_text, from_point, to_point}
 use Rattle.gm_dao.specs.DaoRules.{board_at}
 
 -- the text of a move: the cell that a piece leaves, `-` and the cell to which it goes

@@ -1,12 +1,9 @@
 //! Moves: a piece slides as far as it can.
 ghost use Rattle.std.specs.Prelude.{◌≡◌, ◌<◌, ◌≤◌, ◌+◌, ◌*◌, ◌&&◌, ◌==◌, true, length};
-ghost use Rattle.gm_board.specs.Images.{board_of};
-ghost use Rattle.gm_board.specs.Masks.{has_cell};
-ghost use Rattle.gm_pieces.specs.MoveGames.{steps};
+ghost use Rattle.gm_dao.specs.Lower.{board_of, has_cell, steps};
 ghost use Rattle.gm_board.specs.Cells.{is_mine, is_theirs, number_of};
 ghost use Rattle.gm_dao.specs.DaoRules.{has_formation as has_formation_of, has_trapped as has_trapped_of, legal, can_move as can_move_of};
-ghost use Rattle.gm_dao.specs.DaoRules.{end_by_last_move as over_of};
-ghost use Rattle.gm_dao.specs.DaoRules.{play as play_of, dao};
+ghost use Rattle.gm_dao.specs.DaoRules.{end_by_last_move as over_of, play as play_of, dao};
 ghost use Rattle.gm_dao.specs.MaskSlides.{AreMovesBelow};
 
 use crate::board::Board;
@@ -47,23 +44,16 @@ pub fn is_trapped(board: Board) -> bool
     has_trapped(board.mine, board.theirs)
 }
 
-// Returns whether each side has four pieces.
-fn has_all_pieces(board: Board) -> bool
-    ensures { result ≡ (number_of is_mine (board_of 16 board.mine board.theirs) == 4 && number_of is_theirs (board_of 16 board.mine board.theirs) == 4) }
-{
-    board.own_pieces() == PIECES && board.their_pieces() == PIECES
-}
-
 /// Returns whether a board is legal: each side has four pieces, and the mover has no formation.
-#[tactic(auto, using(crate::proofs::MoveSteps::legal_by), unfolding(crate::specs::DaoRules::legal))]
+#[tactic(auto, using(crate::proofs::MoveSteps::legal_is))]
 pub fn is_legal_board(board: Board) -> bool
     ensures { result ≡ legal (board_of 16 board.mine board.theirs) }
 {
-    has_all_pieces(board) && !has_own_formation(board)
+    board.own_pieces() == PIECES && board.their_pieces() == PIECES && !has_own_formation(board)
 }
 
 /// Returns whether the move with this number can be made.
-#[tactic(auto, using(gm_board::specs::Images::board_of, crate::proofs::MoveSteps::from_below, crate::proofs::MoveSteps::to_below, crate::proofs::MoveSteps::slides_by, crate::proofs::MoveSteps::move_by, crate::proofs::MoveSteps::no_move_by))]
+#[tactic(auto, using(gm_board::specs::Images::board_of, crate::proofs::MoveSteps::from_below, crate::proofs::MoveSteps::to_below, crate::proofs::MoveSteps::no_move_by))]
 pub fn can_move(board: Board, number: u32) -> bool
     requires { number < 256 }
     ensures { result ≡ can_move_of (board_of 16 board.mine board.theirs) number }

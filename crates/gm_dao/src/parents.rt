@@ -2,13 +2,10 @@
 //!
 //! Each piece that may have moved is put on each cell from which it can have slid to its cell, with the roles of the sides swapped. Of these boards, those are
 //! kept from which the game goes on by the move that leads back.
-ghost use Rattle.std.specs.Prelude.{◌≡◌, ◌<◌, ◌≤◌, ◌+◌, ◌*◌, true, length, map, [], MatchOption, None, Some};
-ghost use Rattle.gm_game.specs.Ascending.{put_all};
-ghost use Rattle.gm_board.specs.Images.{board_of};
+ghost use Rattle.std.specs.Prelude.{◌≡◌, ◌<◌, ◌≤◌, ◌+◌, ◌*◌, true, length, []};
+ghost use Rattle.gm_dao.specs.Lower.{map, MatchOption, None, Some, put_all, board_of, WasStep, brought_back, Theirs, before_at, befores};
 ghost use Rattle.gm_board.specs.Cells.{cell_at};
-ghost use Rattle.gm_pieces.specs.Sides.{WasStep, brought_back};
-ghost use Rattle.gm_board.specs.declared.cell.Cell.TheVariants.{Theirs};
-ghost use Rattle.gm_pieces.specs.MoveGames.{goes_on as goes_on_of, before_at, befores};
+ghost use Rattle.gm_pieces.specs.MoveGames.{goes_on as goes_on_of};
 ghost use Rattle.gm_dao.specs.DaoRules.{can_have_led_here as was_moved_of, undo as taken_back_of, legal, slides, least_index_of, dao};
 ghost use Rattle.gm_dao.specs.MaskSlides.{is_open as is_open_of, befores_below, AreBeforesBelow};
 
@@ -27,10 +24,7 @@ pub fn can_have_led_here(board: Board, number: u32) -> bool
     ensures { result ≡ was_moved_of (board_of 16 board.mine board.theirs) number }
 {
     let step = Step::numbered(number);
-    if !are_in_line(step.from, step.to) {
-        return false;
-    }
-    board.has_theirs(step.to) && board.is_free(step.from)
+    are_in_line(step.from, step.to) && board.has_theirs(step.to) && board.is_free(step.from)
 }
 
 /// Returns the board before the move with this number.
@@ -76,11 +70,7 @@ fn gone_before(tier: u64, board: Board, from: u32, to: u32) -> Option<Board>
         × (legal (board_of 16 b.mine b.theirs) ≡ true)) }
 {
     let earlier = board.brought_back(from, to);
-    if tier == 0 && is_open(earlier) {
-        Some(earlier)
-    } else {
-        None
-    }
+    (tier == 0 && is_open(earlier)).then_some(earlier)
 }
 
 // Puts into the list the least indexes of the boards before the moves that end on a cell.

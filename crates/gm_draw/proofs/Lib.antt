@@ -1,2 +1,3 @@
 mod Spreading
 mod Spotting
+pub mod Lower

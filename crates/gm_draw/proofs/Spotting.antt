@@ -1,13 +1,8 @@
 -- Each byte of a board is drawn at a point of its own.
-use Rattle.std.proofs.Common.{◌≡◌, ℕ, ◌+◌, ◌<◌, ◌⊎◌, Bool, true, false, ◌==◌, cond, eqb, eqb-true, List, [], ◌∷◌, ◌++◌, count_by, refl, sym, ap, ◌∙◌, arith}
-use Rattle.std.proofs.Common.{inl, inr}
-use Rattle.std.specs.List.{All, flat_map}
+use Rattle.gm_draw.proofs.Lower.{◌≡◌, ℕ, ◌+◌, ◌<◌, ◌⊎◌, Bool, ◌==◌, cond, eqb, eqb-true, List, [], ◌∷◌, ◌++◌, count_by, refl, sym, ap, ◌∙◌, arith}
+use Rattle.gm_draw.proofs.Lower.{inl, inr, All, flat_map, All-nil, All-cons, sum_by-cons, Style, over_at, next_x, next_y}
 use Rattle.std.proofs.lemmas.Bool.{cases_Bool, cond-true, cond-false}
-use Rattle.std.proofs.lemmas.List.Elements.{All-nil, All-cons}
-use Rattle.std.proofs.lemmas.List.Sums.{sum_by-cons}
-use Rattle.gm_draw.specs.declared.pictured.Style.{Style}
-use Rattle.gm_draw.specs.Diagrams.{over_at}
-use Rattle.gm_draw.specs.Templates.{next_x, next_y, spread}
+use Rattle.gm_draw.specs.Templates.{spread}
 use Rattle.gm_draw.specs.Spots.{Spot, spots, IsBefore, AreApart, IsEachOnce}
 
 spread_spots : (f : ℕ → ℕ → ℕ → List ℕ) (x y : ℕ) (bs : List ℕ) → spread f x y bs ≡ flat_map (λ s. f s.x s.y s.byte) (spots x y bs)
@@ -23,37 +18,26 @@ count_spots test x y (b ∷ bs) =
     ∙ ap (λ (n : ℕ). cond (test b) 1 0 + n) (count_spots test (next_x x b) (next_y y b) bs)
     ∙ sym (sum_by-cons (λ (c : ℕ). cond (test c) 1 0) b bs)
 
--- the point of the byte after a line's end, and of the byte after any other byte
-ends : (x y b : ℕ) → eqb b 10 ≡ true → (next_x x b ≡ 40) × (next_y y b ≡ y + 40)
-ends x y b e = (cond-true _ _ _ e, cond-true _ _ _ e)
-
-goes_on : (x y b : ℕ) → eqb b 10 ≡ false → (next_x x b ≡ x + 20) × (next_y y b ≡ y)
-goes_on x y b e = (cond-false _ _ _ e, cond-false _ _ _ e)
-
--- the byte after a byte past a point is past that point too
-next_past : (x y u v b : ℕ) → (y < v) ⊎ ((y ≡ v) × (x < u)) → (y < next_y v b) ⊎ ((y ≡ next_y v b) × (x < next_x u b))
-next_past x y u v b (inl l) = elim (cases_Bool (eqb b 10)) [
-  | inl e ↦ (let (h, k) = ends u v b e in inl (omega (arith, l, k)))
-  | inr e ↦ (let (h, k) = goes_on u v b e in inl (omega (arith, l, k)))
+-- the byte after a byte is past it
+past_here : (x y b : ℕ) → (y < next_y y b) ⊎ ((y ≡ next_y y b) × (x < next_x x b))
+past_here x y b = elim (cases_Bool (eqb b 10)) [
+  | inl e ↦ (let k : next_y y b ≡ y + 40 = cond-true _ _ _ e in inl (omega (arith, k)))
+  | inr e ↦ (let (h, k) : (next_x x b ≡ x + 20) × (next_y y b ≡ y) = (cond-false _ _ _ e, cond-false _ _ _ e) in inr (omega (arith, k), omega (arith, h)))
 ]
-next_past x y u v b (inr p) = let (same, l) = p in elim (cases_Bool (eqb b 10)) [
-  | inl e ↦ (let (h, k) = ends u v b e in inl (omega (arith, same, k)))
-  | inr e ↦ (let (h, k) = goes_on u v b e in inr (omega (arith, same, k), omega (arith, l, h)))
-]
+
+-- what is past a byte past a point is past that point too
+past_both : (x y u v p q : ℕ) → (y < v) ⊎ ((y ≡ v) × (x < u)) → (v < q) ⊎ ((v ≡ q) × (u < p)) → (y < q) ⊎ ((y ≡ q) × (x < p))
+past_both x y u v p q (inl l) (inl m) = inl (omega (arith, l, m))
+past_both x y u v p q (inl l) (inr m) = (let same = m.0 in inl (omega (arith, l, same)))
+past_both x y u v p q (inr l) (inl m) = (let same = l.0 in inl (omega (arith, same, m)))
+past_both x y u v p q (inr (e, l)) (inr (f, m)) = inr (e ∙ f, omega (arith, l, m))
 
 all_past : (x y c u v : ℕ) (bs : List ℕ) → (y < v) ⊎ ((y ≡ v) × (x < u)) → All (IsBefore (record { x = x; y = y; byte = c })) (spots u v bs)
 unfolding spots
 all_past x y c u v [] h = All-nil (IsBefore (record { x = x; y = y; byte = c }))
 all_past x y c u v (b ∷ bs) h =
     All-cons (IsBefore (record { x = x; y = y; byte = c })) (record { x = u; y = v; byte = b }) (spots (next_x u b) (next_y v b) bs) h
-    (all_past x y c (next_x u b) (next_y v b) bs (next_past x y u v b h))
-
--- the byte after a byte is past it
-past_here : (x y b : ℕ) → (y < next_y y b) ⊎ ((y ≡ next_y y b) × (x < next_x x b))
-past_here x y b = elim (cases_Bool (eqb b 10)) [
-  | inl e ↦ (let (h, k) = ends x y b e in inl (omega (arith, k)))
-  | inr e ↦ (let (h, k) = goes_on x y b e in inr (omega (arith, k), omega (arith, h)))
-]
+    (all_past x y c (next_x u b) (next_y v b) bs (past_both x y u v _ _ h (past_here u v b)))
 
 apart : (x y : ℕ) (bs : List ℕ) → AreApart (spots x y bs)
 unfolding spots AreApart

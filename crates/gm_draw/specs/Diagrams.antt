@@ -1,11 +1,7 @@
 -- Diagrams: SVG documents of positions, byte by byte.
 use Rattle.std.specs.Prelude.{ℕ, ◌+◌, ◌-◌, ◌*◌, ◌/◌, max, Bool, true, false, ◌||◌, ◌&&◌, ◌==◌, List, [], ◌∷◌, ◌++◌, count_by, nat_lt, slice_index, codes}
-use Rattle.std.specs.Prelude.{if◌then◌else◌}
-use Rattle.std.specs.Fmt.{decimal}
-use Rattle.std.specs.List.{flat_map}
-use Rattle.gm_game.specs.declared.position.Position.{Position}
-use Rattle.gm_game.specs.declared.position.Solved.{Solved}
-use Rattle.gm_game.specs.Texts.{text_of}
+use Rattle.std.specs.Prelude.{if◌then◌else◌, Option, None, Some}
+use Rattle.gm_draw.specs.Lower.{Bor, decimal, flat_map, Position, Solved, text_of}
 use Rattle.gm_draw.specs.declared.pictured.Style.{Style}
 use Rattle.gm_draw.specs.declared.pictured.Style.TheVariants.{Row, Crosses, Counters, Stones, Discs, Letters, Chess, Hounds}
 use Rattle.gm_draw.specs.Templates.{is_slot, spread}
@@ -171,6 +167,11 @@ slot_byte style text x y b = if has_squares style then man_at text x y else slic
 unfoldable pub over_at : Style → List ℕ → ℕ → ℕ → ℕ → List ℕ
 over_at style text x y b = if is_slot b then point_of style x y ++ man_of style x y (slot_byte style text x y b) else if is_stroke b then [] else label_of
     style x y b
+
+-- the part of a byte of the board: under the men, or over it for the men of a text
+abbrev pub part_at : Style → Option (Bor (List ℕ)) → ℕ → ℕ → ℕ → List ℕ
+part_at style None = under_at style
+part_at style (Some men) = over_at style men.now
 
 -- ---- a board
 -- the length of a line so far, after this byte

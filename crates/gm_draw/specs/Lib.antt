@@ -8,3 +8,4 @@ pub mod Pictured
 pub mod Diagrams
 pub mod Spots
 pub mod laws
+pub mod Lower

@@ -1,8 +1,6 @@
 -- The laws of pictures.
 use Rattle.std.specs.Prelude.{◌≡◌, ℕ, ◌+◌, ◌≤◌, ◌↔◌, Bool, true, not, ◌==◌, List, ◌∷◌, length, count_by}
-use Rattle.std.specs.List.{Contains, list_all, range_with_len}
-use Rattle.gm_game.specs.declared.position.Position.{Position}
-use Rattle.gm_game.specs.Rules.{Rules}
+use Rattle.gm_draw.specs.Lower.{Contains, list_all, range_with_len, Position, Rules}
 use Rattle.gm_draw.specs.declared.drawn.TheConstants.{DRAWING}
 use Rattle.gm_draw.specs.declared.pictured.Style.{Style}
 use Rattle.gm_draw.specs.declared.pictured.Style.TheVariants.{Chess}

@@ -1,6 +1,6 @@
 -- The points of the bytes of a board in its diagram, and the fact that each man is drawn once.
 use Rattle.std.specs.Prelude.{◌≡◌, ℕ, ◌+◌, ◌<◌, ◌⊎◌, ◌==◌, true, List, [], ◌∷◌, count_by}
-use Rattle.std.specs.List.{All, flat_map}
+use Rattle.gm_draw.specs.Lower.{All, flat_map}
 use Rattle.gm_draw.specs.declared.pictured.Style.{Style}
 use Rattle.gm_draw.specs.Diagrams.{over_at}
 use Rattle.gm_draw.specs.Templates.{next_x, next_y, spread}

@@ -1,8 +1,8 @@
 //! The board of chess: its squares, and the men that a position's text puts on them.
 ghost use Rattle.std.specs.Prelude.{◌≡◌, ◌≤◌, [], ◌∷◌, length};
-ghost use Rattle.gm_draw.specs.Chessboards.{chess_byte, chess_drawing, file_at as file_at_spec, rank_at as rank_at_spec, is_dark as is_dark_spec};
-ghost use Rattle.gm_draw.specs.Chessboards.{man_on as man_on_spec, man_at as man_at_spec, square_byte as square_byte_spec};
-ghost use Rattle.gm_draw.specs.Chessboards.{chess_board as chess_board_of, chess_points};
+ghost use Rattle.gm_draw.specs.Chessboards.{chess_byte, chess_drawing, is_dark as is_dark_spec};
+ghost use Rattle.gm_draw.specs.Chessboards.{man_on as man_on_spec, man_at as man_at_spec, chess_board as chess_board_of};
+ghost use Rattle.gm_draw.specs.Chessboards.{chess_points};
 ghost use Rattle.gm_draw.specs.Pictures.{texts};
 ghost use Rattle.gm_draw.specs.Templates.{spread};
 
@@ -39,21 +39,6 @@ pub fn chess_squares() -> &'static [&'static [u8]]
     SQUARES
 }
 
-// Returns the letter of the file of the square at a point.
-fn file_at(x: u64) -> u64
-    requires { x ≤ 16000 }
-    ensures { result ≡ file_at_spec x }
-{
-    94 + x / 40
-}
-
-// Returns the digit of the rank of the square at a point.
-fn rank_at(y: u64) -> u64
-    ensures { result ≡ rank_at_spec y }
-{
-    58_u64.saturating_sub(y / 40)
-}
-
 /// Tests whether the square at a point is dark.
 pub(crate) fn is_dark(x: u64, y: u64) -> bool
     ensures { result ≡ is_dark_spec x y }
@@ -83,20 +68,7 @@ pub(crate) fn man_at(text: &[u8], x: u64, y: u64) -> u8
     requires { x ≤ 16000 }
     ensures { result ≡ man_at_spec text.now x y }
 {
-    man_on(file_at(x), rank_at(y), text)
-}
-
-// Returns the byte of a square's drawing.
-fn square_byte(man: u8, dark: bool) -> u8
-    ensures { result ≡ square_byte_spec man dark }
-{
-    if man != 0 {
-        man
-    } else if dark {
-        b':'
-    } else {
-        b'.'
-    }
+    man_on(94 + x / 40, 58_u64.saturating_sub(y / 40), text)
 }
 
 // Returns the byte of a drawing for a byte of the board at a point.
@@ -104,10 +76,13 @@ fn byte_for(text: &[u8], x: u64, y: u64, byte: u8) -> u8
     requires { x ≤ 16000 }
     ensures { chess_byte text.now x y byte ≡ result ∷ [] }
 {
-    if byte.is_ascii_uppercase() {
-        square_byte(man_at(text, x, y), is_dark(x, y))
-    } else {
-        byte
+    if !byte.is_ascii_uppercase() {
+        return byte;
+    }
+    match man_at(text, x, y) {
+        0 if is_dark(x, y) => b':',
+        0 => b'.',
+        man => man,
     }
 }
 

@@ -1,7 +1,7 @@
 //! Diagrams of positions for print: SVG documents.
-ghost use Rattle.std.specs.Prelude.{◌≡◌, ◌≤◌, ◌++◌, [], length, true, OnOk, IfOk};
-ghost use Rattle.gm_draw.specs.Diagrams.{start_of, svg_box, svg_size, svg_open, svg_title, svg_paper, svg_front, svg_net, svg_men, svg_back, svg_of, row_words};
-ghost use Rattle.gm_draw.specs.Diagrams.{over_all, under_all, caption_words, caption_of, diagram_of};
+ghost use Rattle.std.specs.Prelude.{◌≡◌, ◌≤◌, ◌++◌, length, true, OnOk, IfOk};
+ghost use Rattle.gm_draw.specs.Diagrams.{start_of, svg_box, svg_size, svg_title, svg_paper, svg_front, svg_net, svg_men, svg_back, svg_of, over_all};
+ghost use Rattle.gm_draw.specs.Diagrams.{under_all, caption_words, diagram_of};
 ghost use Rattle.gm_draw.specs.Pictures.{drawn};
 ghost use Rattle.gm_draw.specs.Spots.{IsEachOnce};
 
@@ -9,7 +9,7 @@ use crate::drawn::{DRAWING, draw, mover};
 use crate::frame::{Frame, frame_of};
 use crate::markup::push_escaped;
 use crate::pictured::{Pictured, Style};
-use crate::svg::{push_at, push_men, push_net, push_number, push_words};
+use crate::svg::{push_at, push_board, push_number, push_words};
 use gm_game::position::{Position, Solved};
 use gm_game::text::value_text;
 use std::alloc::{AllocError, Global};
@@ -26,16 +26,15 @@ pub fn diagram<G: Pictured>(
     ensures { IfOk result (λ v. v.items ≡ diagram_of G.picture G.shown valued p value) }
 {
     let mut caption = Vec::new(alloc);
-    let mut text = Vec::new(alloc);
-    let pushed = push_diagram::<G>(&mut text, &mut caption, p, value, valued);
-    drop(caption);
-    match pushed {
-        Ok(()) => Ok(text),
-        Err(error) => {
-            drop(text);
-            Err(error)
-        }
+    caption.extend_from_slice(mover::<G>(p))?;
+    caption.extend_from_slice(b" to move")?;
+    if valued {
+        caption.extend_from_slice(b": ")?;
+        caption.extend_from_slice(value_text(value).as_slice())?;
     }
+    let mut text = Vec::new(alloc);
+    push_svg::<G>(&mut text, p, caption.as_slice())?;
+    Ok(text)
 }
 
 /// Has no effect; its contract states that a diagram draws each man once. Over the net of the board, the man of each byte of a
@@ -43,41 +42,6 @@ pub fn diagram<G: Pictured>(
 pub fn each_once<G: Pictured>(bytes: &[u8])
     ensures { IsEachOnce G.picture.style bytes.now G.picture.board }
 {}
-
-// Writes the diagram of a legal position of this value, and its caption, into empty texts.
-fn push_diagram<G: Pictured>(
-    text: &mut Vec<u8>,
-    caption: &mut Vec<u8>,
-    p: Position,
-    value: Solved,
-    valued: bool,
-) -> Result<(), AllocError>
-    requires legal { G.Game.rules.is_legal p ≡ true }
-    requires empty { text.old.items ≡ [] }
-    requires none { caption.old.items ≡ [] }
-    ensures { OnOk result (text.new.items ≡ diagram_of G.picture G.shown valued p value) }
-{
-    push_caption(caption, mover::<G>(p), value, valued)?;
-    push_svg::<G>(text, p, caption.as_slice())
-}
-
-// Appends the caption under a board.
-fn push_caption(
-    caption: &mut Vec<u8>,
-    mover: &[u8],
-    value: Solved,
-    valued: bool,
-) -> Result<(), AllocError>
-    ensures { OnOk result (caption.new.items ≡ caption.old.items ++ caption_of mover.now value valued) }
-{
-    caption.extend_from_slice(mover)?;
-    caption.extend_from_slice(b" to move")?;
-    if !valued {
-        return Ok(());
-    }
-    caption.extend_from_slice(b": ")?;
-    caption.extend_from_slice(value_text(value).as_slice())
-}
 
 // Appends the SVG document of a legal position with this caption.
 #[tactic(auto, unfolding(crate::specs::Diagrams::svg_of))]
@@ -113,7 +77,8 @@ fn push_front(
 ) -> Result<(), AllocError>
     ensures { OnOk result (text.new.items ≡ text.old.items ++ svg_front frame.left frame.margin frame.width frame.height title.now bytes.now caption.now) }
 {
-    push_open(text, frame)?;
+    push_box(text, frame)?;
+    push_size(text, frame)?;
     push_title(text, title, bytes, caption)?;
     push_paper(text, frame)
 }
@@ -193,14 +158,6 @@ fn push_size(text: &mut Vec<u8>, frame: Frame) -> Result<(), AllocError>
     )
 }
 
-// Appends the opening tag of the document.
-fn push_open(text: &mut Vec<u8>, frame: Frame) -> Result<(), AllocError>
-    ensures { OnOk result (text.new.items ≡ text.old.items ++ svg_open frame.left frame.margin frame.width frame.height) }
-{
-    push_box(text, frame)?;
-    push_size(text, frame)
-}
-
 // Appends the title: the game, the position's text and the caption.
 #[tactic(auto, unfolding(crate::specs::Diagrams::svg_title))]
 fn push_title(
@@ -244,7 +201,7 @@ fn push_under_all(text: &mut Vec<u8>, style: Style, board: &[u8]) -> Result<(), 
 {
     match style {
         Style::Row => Ok(()),
-        _ => push_net(text, style, board),
+        _ => push_board(text, style, board, None),
     }
 }
 
@@ -261,22 +218,15 @@ fn push_over_all(
     ensures { OnOk result (text.new.items ≡ text.old.items ++ over_all style board.now bytes.now drawing.now middle) }
 {
     match style {
-        Style::Row => push_row(text, drawing, middle),
-        _ => push_men(text, style, board, bytes),
+        Style::Row => push_words(
+            text,
+            middle,
+            45,
+            b"\" font-family=\"monospace\" stroke=\"none\" xml:space=\"preserve\">",
+            drawing,
+        ),
+        _ => push_board(text, style, board, Some(bytes)),
     }
-}
-
-// Appends a row of numbers.
-fn push_row(text: &mut Vec<u8>, drawing: &[u8], middle: u64) -> Result<(), AllocError>
-    ensures { OnOk result (text.new.items ≡ text.old.items ++ row_words middle drawing.now) }
-{
-    push_words(
-        text,
-        middle,
-        45,
-        b"\" font-family=\"monospace\" stroke=\"none\" xml:space=\"preserve\">",
-        drawing,
-    )
 }
 
 // Appends the caption, centered under a board.

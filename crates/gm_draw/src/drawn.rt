@@ -76,8 +76,8 @@ fn row(rows: &[&[u8]], index: u64) -> Drawing
     drawing
 }
 
-// Returns the byte of a drawing for a byte of its template.
-fn byte_for(byte: u8, text: &[u8]) -> u8
+/// Returns the byte of a drawing for a byte of its template.
+pub(crate) fn byte_for(byte: u8, text: &[u8]) -> u8
     ensures { result ≡ drawn_byte text.now byte }
 {
     if !byte.is_ascii_uppercase() {

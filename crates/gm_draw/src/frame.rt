@@ -1,5 +1,5 @@
 //! The sizes of diagrams.
-ghost use Rattle.std.specs.Prelude.{◌≡◌, ◌<◌, ◌≤◌, ◌==◌, ◌+◌, ◌*◌, ◌-◌, count_by, length, max};
+ghost use Rattle.std.specs.Prelude.{◌≡◌, ◌<◌, ◌≤◌, ◌==◌, ◌+◌, ◌*◌, ◌-◌, length, max};
 ghost use Rattle.gm_draw.specs.Diagrams.{next_length as next_length_spec, widest as widest_spec, end_by, left_of, middle_of as middle_spec, width_of};
 ghost use Rattle.gm_draw.specs.Diagrams.{margin_of, height_of};
 
@@ -50,14 +50,6 @@ fn next_length(n: u64, byte: u8) -> u64
     if byte == b'\n' { 0 } else { n + 1 }
 }
 
-// Returns the number of line ends in a drawing.
-fn line_ends(drawing: &[u8]) -> usize
-    ensures value { result ≡ count_by (λ b. b == 10) drawing.now }
-    ensures few { result ≤ length drawing.now }
-{
-    drawing.iter().filter(|b| **b == b'\n').count()
-}
-
 /// Returns the frame of a drawing. It is wide enough for the caption.
 pub(crate) fn frame_of(style: Style, drawing: &[u8]) -> Frame
     requires { length drawing.now ≤ DRAWING }
@@ -74,7 +66,7 @@ pub(crate) fn frame_of(style: Style, drawing: &[u8]) -> Frame
         left,
         margin: (wide - end) / 2,
         width: wide - left,
-        height: 40 * line_ends(drawing) as u64 + 130,
+        height: 40 * drawing.iter().filter(|b| **b == b'\n').count() as u64 + 130,
         middle: (end + left) / 2,
     }
 }

@@ -1,6 +1,7 @@
 //! The men of a diagram, each at its point.
 ghost use Rattle.std.specs.Prelude.{◌≡◌, ◌≤◌, ◌++◌, ◌+◌, OnOk};
-ghost use Rattle.gm_draw.specs.Diagrams.{circle, words_at, cross_of, counter_of, stone_of, disc_of, letter_of, is_first as is_first_spec, letter_on, chessman_of, man_of};
+ghost use Rattle.gm_draw.specs.Diagrams.{circle, words_at, cross_of, counter_of, stone_of, disc_of, letter_of, is_first as is_first_spec};
+ghost use Rattle.gm_draw.specs.Diagrams.{chessman_of, man_of};
 
 use crate::pictured::Style;
 use crate::svg::{push_circle, push_path, push_words};
@@ -34,41 +35,6 @@ fn push_lettered(
 {
     push_circle(text, x, y, disc)?;
     push_words(text, x, y + 7, look, letter)
-}
-
-// Appends a cross or a nought.
-#[tactic(auto, unfolding(crate::specs::Diagrams::cross_of))]
-fn push_cross(text: &mut Vec<u8>, x: u64, y: u64, byte: u8) -> Result<(), AllocError>
-    requires right { 40 ≤ x }
-    requires down { 40 ≤ y }
-    ensures { OnOk result (text.new.items ≡ text.old.items ++ cross_of x y byte) }
-{
-    match byte {
-        b'x' => push_path(
-            text,
-            x - 21,
-            y - 21,
-            b"l42 42m-42 0l42-42\" stroke-width=\"6\"/>\n",
-        ),
-        b'o' => push_circle(
-            text,
-            x,
-            y,
-            b"\" r=\"21\" fill=\"none\" stroke-width=\"6\"/>\n",
-        ),
-        _ => Ok(()),
-    }
-}
-
-// Appends a counter.
-#[tactic(auto, unfolding(crate::specs::Diagrams::counter_of))]
-fn push_counter(text: &mut Vec<u8>, x: u64, y: u64, byte: u8) -> Result<(), AllocError>
-    ensures { OnOk result (text.new.items ≡ text.old.items ++ counter_of x y byte) }
-{
-    match byte {
-        b'x' => push_circle(text, x, y, b"\" r=\"14\" fill=\"#999\"/>\n"),
-        _ => Ok(()),
-    }
 }
 
 // Appends a black or a white man on a cell.
@@ -152,18 +118,21 @@ fn is_first(style: Style, byte: u8) -> bool
     }
 }
 
-// Appends a man with its letter on a square of a chess board.
-fn push_letter_on(
+// Appends a man of chess or of Fox and Hounds, with its letter: black on white for the first side, white on black for the other.
+#[tactic(auto, unfolding(crate::specs::Diagrams::chessman_of))]
+fn push_chessman(
     text: &mut Vec<u8>,
+    style: Style,
     x: u64,
     y: u64,
     byte: u8,
-    first: bool,
 ) -> Result<(), AllocError>
     requires { y ≤ 16000 }
-    ensures { OnOk result (text.new.items ≡ text.old.items ++ letter_on x y byte first) }
+    ensures { OnOk result (text.new.items ≡ text.old.items ++ chessman_of style x y byte) }
 {
-    if first {
+    if byte == 0 {
+        Ok(())
+    } else if is_first(style, byte) {
         push_lettered(
             text,
             x,
@@ -184,25 +153,8 @@ fn push_letter_on(
     }
 }
 
-// Appends a man of chess or of Fox and Hounds.
-#[tactic(auto, unfolding(crate::specs::Diagrams::chessman_of))]
-fn push_chessman(
-    text: &mut Vec<u8>,
-    style: Style,
-    x: u64,
-    y: u64,
-    byte: u8,
-) -> Result<(), AllocError>
-    requires { y ≤ 16000 }
-    ensures { OnOk result (text.new.items ≡ text.old.items ++ chessman_of style x y byte) }
-{
-    if byte == 0 {
-        return Ok(());
-    }
-    push_letter_on(text, x, y, byte, is_first(style, byte))
-}
-
 /// Appends the man of a byte of the position's text, if there is one.
+#[tactic(auto, unfolding(crate::specs::Diagrams::cross_of, crate::specs::Diagrams::counter_of))]
 pub(crate) fn push_man(
     text: &mut Vec<u8>,
     style: Style,
@@ -215,13 +167,24 @@ pub(crate) fn push_man(
     requires near { x + y ≤ 16000 }
     ensures { OnOk result (text.new.items ≡ text.old.items ++ man_of style x y byte) }
 {
-    match style {
-        Style::Row => Ok(()),
-        Style::Crosses => push_cross(text, x, y, byte),
-        Style::Counters => push_counter(text, x, y, byte),
-        Style::Stones => push_stone(text, x, y, byte),
-        Style::Discs => push_disc(text, x, y, byte),
-        Style::Letters => push_letter(text, x, y, byte),
-        Style::Chess | Style::Hounds => push_chessman(text, style, x, y, byte),
+    match (style, byte) {
+        (Style::Crosses, b'x') => push_path(
+            text,
+            x - 21,
+            y - 21,
+            b"l42 42m-42 0l42-42\" stroke-width=\"6\"/>\n",
+        ),
+        (Style::Crosses, b'o') => push_circle(
+            text,
+            x,
+            y,
+            b"\" r=\"21\" fill=\"none\" stroke-width=\"6\"/>\n",
+        ),
+        (Style::Counters, b'x') => push_circle(text, x, y, b"\" r=\"14\" fill=\"#999\"/>\n"),
+        (Style::Stones, _) => push_stone(text, x, y, byte),
+        (Style::Discs, _) => push_disc(text, x, y, byte),
+        (Style::Letters, _) => push_letter(text, x, y, byte),
+        (Style::Chess | Style::Hounds, _) => push_chessman(text, style, x, y, byte),
+        _ => Ok(()),
     }
 }

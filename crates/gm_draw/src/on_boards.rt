@@ -1,7 +1,5 @@
 //! Pictures of games on boards: the rules of a game state what it looks like.
-ghost use Rattle.gm_pieces.specs.MoveGames.{move_rules};
-ghost use Rattle.gm_pieces.specs.MoveTexts.{position_text, move_text};
-ghost use Rattle.gm_pieces.specs.Small.{small_game};
+ghost use Rattle.gm_draw.specs.Lower.{move_rules, position_text, move_text, small_game};
 ghost use Rattle.gm_draw.specs.Pictures.{PictureSpec, IsPictureOf};
 ghost use Rattle.gm_draw.specs.Pictured.{IsPictured};
 

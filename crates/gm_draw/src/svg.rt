@@ -1,13 +1,13 @@
 //! The elements of a diagram.
-ghost use Rattle.std.specs.Prelude.{◌≡◌, ◌≤◌, ◌++◌, ◌+◌, ◌-◌, slice_index, length, OnOk};
-ghost use Rattle.std.specs.Fmt.{decimal};
+ghost use Rattle.std.specs.Prelude.{◌≡◌, ◌≤◌, ◌++◌, ◌+◌, ◌-◌, length, true, OnOk};
+ghost use Rattle.gm_draw.specs.Lower.{decimal};
 ghost use Rattle.gm_draw.specs.Diagrams.{at_point, path, circle, words_at, stroke_of, has_cells as has_cells_spec, has_points as has_points_spec};
-ghost use Rattle.gm_draw.specs.Diagrams.{is_stroke as is_stroke_spec, has_squares as has_squares_spec, square_of, slot_byte as slot_byte_spec};
-ghost use Rattle.gm_draw.specs.Diagrams.{under_at, over_at, point_of, label_x as label_x_spec, label_y as label_y_spec, label_of};
-ghost use Rattle.gm_draw.specs.Templates.{next_x as next_x_spec, next_y as next_y_spec, spread};
+ghost use Rattle.gm_draw.specs.Diagrams.{is_stroke as is_stroke_spec, has_squares as has_squares_spec, square_of, slot_byte as slot_byte_spec, under_at};
+ghost use Rattle.gm_draw.specs.Diagrams.{over_at, part_at, point_of, label_x as label_x_spec, label_y as label_y_spec, label_of};
+ghost use Rattle.gm_draw.specs.Templates.{is_slot, next_x as next_x_spec, next_y as next_y_spec, spread};
 
 use crate::chessboard::{is_dark, man_at};
-use crate::drawn::DRAWING;
+use crate::drawn::{DRAWING, byte_for};
 use crate::markup::push_escaped;
 use crate::men::push_man;
 use crate::pictured::Style;
@@ -116,23 +116,8 @@ fn has_points(style: Style) -> bool
     matches!(style, Style::Discs | Style::Letters)
 }
 
-// Appends the square around a point.
-#[tactic(auto, unfolding(crate::specs::Diagrams::square_of))]
-fn push_square(text: &mut Vec<u8>, style: Style, x: u64, y: u64) -> Result<(), AllocError>
-    requires right { 40 ≤ x }
-    requires down { 40 ≤ y }
-    requires near { x + y ≤ 16000 }
-    ensures { OnOk result (text.new.items ≡ text.old.items ++ square_of style x y) }
-{
-    if has_squares(style) && is_dark(x, y) {
-        push_path(text, x - 20, y - 20, b"h40v40h-40z\" fill=\"#ccc\"/>\n")
-    } else {
-        push_path(text, x - 20, y - 20, b"h40v40h-40z\"/>\n")
-    }
-}
-
 // Appends the stroke or the square of a byte of the board, under the men.
-#[tactic(auto, unfolding(crate::specs::Diagrams::under_at))]
+#[tactic(auto, unfolding(crate::specs::Diagrams::under_at, crate::specs::Diagrams::square_of))]
 fn push_under(text: &mut Vec<u8>, style: Style, x: u64, y: u64, byte: u8) -> Result<(), AllocError>
     requires right { 40 ≤ x }
     requires down { 40 ≤ y }
@@ -142,10 +127,13 @@ fn push_under(text: &mut Vec<u8>, style: Style, x: u64, y: u64, byte: u8) -> Res
     if !byte.is_ascii_uppercase() {
         return push_stroke(text, x, y, byte);
     }
-    if has_cells(style) {
-        push_square(text, style, x, y)
+    if !has_cells(style) {
+        return Ok(());
+    }
+    if has_squares(style) && is_dark(x, y) {
+        push_path(text, x - 20, y - 20, b"h40v40h-40z\" fill=\"#ccc\"/>\n")
     } else {
-        Ok(())
+        push_path(text, x - 20, y - 20, b"h40v40h-40z\"/>\n")
     }
 }
 
@@ -228,24 +216,13 @@ fn push_over(
 // Returns the byte of the man in a slot of the board.
 fn slot_byte(style: Style, bytes: &[u8], x: u64, y: u64, letter: u8) -> u8
     requires near { x + y ≤ 16000 }
-    requires slot { 65 ≤ letter }
+    requires slot { is_slot letter ≡ true }
     ensures { result ≡ slot_byte_spec style bytes.now x y letter }
 {
     if has_squares(style) {
         man_at(bytes, x, y)
     } else {
-        byte_at(bytes, letter)
-    }
-}
-
-// Returns the byte of a text that a capital letter stands for, or 0 past its end.
-fn byte_at(bytes: &[u8], letter: u8) -> u8
-    requires { 65 ≤ letter }
-    ensures { result ≡ slice_index bytes.now (letter - 65) }
-{
-    match bytes.get(usize::from(letter - b'A')) {
-        Some(found) => *found,
-        None => 0,
+        byte_for(letter, bytes)
     }
 }
 
@@ -270,35 +247,41 @@ pub(crate) fn next_y(y: u64, byte: u8) -> u64
     if byte == b'\n' { y + 40 } else { y }
 }
 
-/// Appends the strokes and squares under the men of a board.
-pub(crate) fn push_net(text: &mut Vec<u8>, style: Style, board: &[u8]) -> Result<(), AllocError>
-    requires { length board.now ≤ DRAWING }
-    ensures { OnOk result (text.new.items ≡ text.old.items ++ spread (under_at style) 40 40 board.now) }
+// Appends the part of a byte of the board: under the men, or over it for the men of a text.
+fn push_part(
+    text: &mut Vec<u8>,
+    style: Style,
+    men: Option<&[u8]>,
+    x: u64,
+    y: u64,
+    byte: u8,
+) -> Result<(), AllocError>
+    requires right { 40 ≤ x }
+    requires down { 40 ≤ y }
+    requires near { x + y ≤ 16000 }
+    ensures { OnOk result (text.new.items ≡ text.old.items ++ part_at style men.entry x y byte) }
 {
-    let mut x = 40;
-    let mut y = 40;
-    for byte in board {
-        push_under(text, style, x, y, *byte)?;
-        x = next_x(x, *byte);
-        y = next_y(y, *byte);
+    match men {
+        None => push_under(text, style, x, y, byte),
+        Some(bytes) => push_over(text, style, bytes, x, y, byte),
     }
-    Ok(())
 }
 
-/// Appends the men of a position in the places of a board, and the names of its rows and columns.
-pub(crate) fn push_men(
+/// Appends the strokes and squares under the men of a board; or with the text of a position its men in their places, and the names
+/// of rows and columns.
+pub(crate) fn push_board(
     text: &mut Vec<u8>,
     style: Style,
     board: &[u8],
-    bytes: &[u8],
+    men: Option<&[u8]>,
 ) -> Result<(), AllocError>
     requires { length board.now ≤ DRAWING }
-    ensures { OnOk result (text.new.items ≡ text.old.items ++ spread (over_at style bytes.now) 40 40 board.now) }
+    ensures { OnOk result (text.new.items ≡ text.old.items ++ spread (part_at style men.entry) 40 40 board.now) }
 {
     let mut x = 40;
     let mut y = 40;
     for byte in board {
-        push_over(text, style, bytes, x, y, *byte)?;
+        push_part(text, style, men, x, y, *byte)?;
         x = next_x(x, *byte);
         y = next_y(y, *byte);
     }

@@ -1,9 +1,6 @@
 -- Tables stay closed when a table is added whose child tiers are held.
-use Rattle.std.proofs.Common.{◌≡◌, ◌==◌, ℕ, ◌⊎◌, ◌↔◌, inl, inr, zero, suc, true, false, if◌then◌else◌, List, [], Some, IsSome, refl, ap, sym, subst, ◌∙◌}
-use Rattle.std.proofs.Common.{eqb-true, eq-eqb}
-use Rattle.gm_game.specs.Rules.{Rules}
-use Rattle.gm_table.specs.Tables.{TableData, table_of, Inserts, IsHeld, AreHeld}
-use Rattle.gm_play.specs.Reached.{IsBelow, AreClosed}
+use Rattle.gm_engine.proofs.Lower.{◌≡◌, ◌==◌, ℕ, ◌⊎◌, ◌↔◌, inl, inr, zero, suc, true, false, if◌then◌else◌, List, [], Some, IsSome, refl, ap, sym, subst, ◌∙◌}
+use Rattle.gm_engine.proofs.Lower.{eqb-true, eq-eqb, Rules, TableData, table_of, Inserts, IsHeld, AreHeld, IsBelow, AreClosed}
 
 module _ (old new : List TableData) (table : TableData) (inserts : Inserts old new table) where
   pub held_too : (t : ℕ) → IsHeld new t ↔ (IsHeld old t ⊎ (table.tier ≡ t))

@@ -3,3 +3,4 @@ mod Ordering
 mod Refused
 mod Trueness
 mod Words
+pub mod Lower

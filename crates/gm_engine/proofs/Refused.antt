@@ -1,14 +1,7 @@
 -- The reason for a refusal, from the reason why a step has failed.
-use Rattle.std.proofs.Common.{◌≡◌, ◌<◌, ℕ, List, Some, slice_get, length, slice_index_or, inr, ◌≢◌, subst, sym, ◌∙◌}
-use Rattle.std.proofs.lemmas.List.Elements.{Contains-get_or}
-use Rattle.gm_game.specs.declared.position.Solved.{Solved}
-use Rattle.gm_game.specs.Rules.{Rules}
-use Rattle.gm_table.specs.Tables.{TableData, IsTable}
-use Rattle.gm_tiers.specs.Orders.{IsTierOrder}
-use Rattle.gm_engine.specs.declared.width.Width.{Width}
-use Rattle.gm_engine.specs.Records.{IsTrueTier, AreTrue, farthest}
-use Rattle.gm_engine.specs.Refusing.{AreDisordered, IsNotNext, HaveTables, IsTierUnchecked, IsUnchecked, IsUnheld, IsUnadded, IsFar, IsTierUnsolved, IsUnsolved, AreUnsolved, IsUnsolvedGame}
-use Rattle.gm_engine.specs.declared.refusal.Refusal.{Refusal}
+use Rattle.gm_engine.proofs.Lower.{◌≡◌, ◌<◌, ℕ, List, Some, slice_get, length, slice_index_or, inr, ◌≢◌, subst, sym, ◌∙◌, Contains-get_or, Solved, Rules}
+use Rattle.gm_engine.proofs.Lower.{TableData, IsTable, IsTierOrder, Width, IsTrueTier, AreTrue, farthest, AreDisordered, IsNotNext, HaveTables, IsTierUnchecked}
+use Rattle.gm_engine.proofs.Lower.{IsUnchecked, IsUnheld, IsUnadded, IsFar, IsTierUnsolved, IsUnsolved, AreUnsolved, IsUnsolvedGame, Refusal}
 use Rattle.gm_engine.specs.declared.refusal.Refusal.TheVariants.{Memory, Order, Records, TooFar, Room, Position as NoPosition, NotSolved}
 use Rattle.gm_engine.proofs.Ordering.{disordered_more, disordered_last, total}
 

@@ -1,16 +1,8 @@
 -- True records, tier by tier.
-use Rattle.std.proofs.Common.{◌≡◌, ◌≤◌, ◌<◌, ◌+◌, ◌++◌, ℕ, suc, List, [], ◌∷◌, map, Option, Some, None, length, min, take, drop, get_or, slice_index_or, subst, sym, ap, arith, ◌∙◌}
-use Rattle.std.proofs.Math.ListN.{drop_of_length-le}
-use Rattle.std.proofs.Math.Seq.{drop-cons}
-use Rattle.std.proofs.lemmas.List.{take_all, length-take, take-append-le, drop-append-le, take_more, map-append, append_assoc, take-append-drop}
-use Rattle.std.proofs.lemmas.Option.{slice_get-get_or}
-use Rattle.gm_game.specs.declared.position.Solved.{Solved}
-use Rattle.gm_game.specs.declared.limits.TheConstants.{REMOTENESS}
-use Rattle.gm_game.specs.Rules.{Rules}
-use Rattle.gm_game.specs.Records.{IsTrueTable}
-use Rattle.gm_table.specs.Tables.{TableData, IsTable, record_at}
-use Rattle.gm_engine.specs.declared.width.Width.{Width}
-use Rattle.gm_engine.specs.Records.{record_with, records_of, times, Stand, room, IsTrueTier, AreTrue}
+use Rattle.gm_engine.proofs.Lower.{◌≡◌, ◌≤◌, ◌<◌, ◌+◌, ◌++◌, ℕ, suc, List, [], ◌∷◌, map, Option, Some, None, length, min, take, drop, get_or, slice_index_or}
+use Rattle.gm_engine.proofs.Lower.{subst, sym, ap, arith, ◌∙◌, drop_of_length-le, drop-cons, take_all, length-take, take-append-le, drop-append-le, take_more}
+use Rattle.gm_engine.proofs.Lower.{map-append, append_assoc, take-append-drop, slice_get-get_or, Solved, REMOTENESS, Rules, IsTrueTable, TableData, IsTable}
+use Rattle.gm_engine.proofs.Lower.{record_at, Width, record_with, records_of, times, Stand, room, IsTrueTier, AreTrue}
 
 -- one more at the end
 pub append_one : (xs more old new : List ℕ) (b : ℕ) → old ≡ xs ++ more → new ≡ old ++ b ∷ [] → new ≡ xs ++ (more ++ b ∷ [])

@@ -1,11 +1,8 @@
 -- Records of four bytes each.
-use Rattle.std.proofs.Common.{◌≡◌, ◌≤◌, ◌<◌, ◌+◌, ◌*◌, ◌/◌, ◌%◌, ◌++◌, ℕ, zero, suc, List, [], ◌∷◌, Option, Some, None, length, map, take, drop, get_or, refl, sym, ap, arith, ◌∙◌}
-use Rattle.std.proofs.lemmas.List.{take_more, map-append, append_assoc, append-nil}
-use Rattle.std.proofs.lemmas.Option.{slice_get-get_or}
-use Rattle.gm_game.specs.declared.position.Solved.{Solved}
-use Rattle.gm_table.specs.Packed.{unpacked}
-use Rattle.gm_table.specs.Tables.{record_at}
-use Rattle.gm_engine.specs.Records.{words_of}
+use Rattle.gm_engine.proofs.Lower.{◌≡◌, ◌≤◌, ◌<◌, ◌+◌, ◌/◌, ◌%◌, ◌++◌, ℕ, zero, suc, List, [], ◌∷◌, Option, Some, None, length, map, take, drop, get_or, refl}
+use Rattle.gm_engine.proofs.Lower.{sym, ap, arith, ◌∙◌, take_more, map-append, append_assoc, append-nil, slice_get-get_or, Solved, unpacked, record_at}
+use Rattle.gm_engine.proofs.Lower.{words_of}
+use Rattle.std.proofs.Common.{◌*◌}
 
 -- four bytes are one word, and the later bytes are the others
 pub words_next : (bytes : List ℕ) → 4 ≤ length bytes → words_of bytes ≡ words_of (take 4 bytes) ++ words_of (drop 4 bytes)

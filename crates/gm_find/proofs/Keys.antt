@@ -1,9 +1,6 @@
 -- Pairs of numbers in a set.
-use Rattle.gm_find.proofs.Lower.{◌≡◌, ℕ, Bool, true, false, nat_eq, List, refl, sym, ap, ◌∙◌, subst, eqb-true, eq-eqb, Contains}
-use Rattle.std.proofs.Common.{◌&&◌, not}
-use Rattle.std.specs.List.{list_any}
-use Rattle.std.proofs.lemmas.Bool.{and_parts, and_from}
-use Rattle.gm_game.proofs.Lists.{any_in, any_from}
+use Rattle.gm_find.proofs.Lower.{◌≡◌, ℕ, Bool, true, nat_eq, List, refl, sym, ap, ◌∙◌, subst, eqb-true, eq-eqb, Contains, ◌&&◌, list_any, and_parts, and_from}
+use Rattle.gm_find.proofs.Lower.{any_in, any_from}
 
 -- the test of a key
 abbrev pub is_key : ℕ → ℕ → ℕ × ℕ → Bool
@@ -20,8 +17,3 @@ key_found t i ks h =
 
 pub key_there : (t i : ℕ) (ks : List (ℕ × ℕ)) → Contains ks (t, i) → list_any (is_key t i) ks ≡ true
 key_there t i ks has = any_from (is_key t i) ks (t, i) has (and_from (nat_eq t t) (nat_eq i i) (eq-eqb t t refl) (eq-eqb i i refl))
-
--- a key that is not new was there
-pub was_there : (b : Bool) → false ≡ not b → b ≡ true
-was_there true e = refl
-was_there false e = absurd (cc)

@@ -1,10 +1,7 @@
 -- The elements of a list that have a property, with one element or list more.
 use Rattle.gm_find.proofs.Lower.{◌≡◌, ℕ, zero, suc, ◌<◌, ◌≤◌, ◌+◌, ◌-◌, inl, inr, List, [], ◌∷◌, ◌++◌, map, take, length, refl, sym, ap, ◌∙◌, subst, arith}
 use Rattle.gm_find.proofs.Lower.{length-append, Contains, range_with_len, IsAscending, contains_none, contains_first, contains_later, contains_cases, AreThose}
-use Rattle.gm_find.proofs.Lower.{IsFirst}
-use Rattle.std.proofs.Common.{append_assoc}
-use Rattle.std.proofs.lemmas.Bool.{cases_lt}
-use Rattle.gm_play.proofs.Wanted.{ascending_above, ascending_rest}
+use Rattle.gm_find.proofs.Lower.{Adds, IsFirst, append_assoc, cases_lt, ascending_above, ascending_rest}
 
 module _ {A : Type 0} (P : A → Type 0) where
   -- one element more, which has the property or not
@@ -51,42 +48,35 @@ module _ {A : Type 0} (P : A → Type 0) where
   first_taken (suc k) (suc n) (x ∷ xs) ys (inl (rest, p, e, t)) l = let f = ap length e in inl (rest, p, e, first_taken k n xs rest t (omega arith))
   first_taken (suc k) (suc n) (x ∷ xs) ys (inr (p, t)) l = inr (p, first_taken k (suc n) xs ys t l)
 
-  at_count : (m n : ℕ) (xs ys : List A) → m ≡ n → IsFirst P m xs ys → IsFirst P n xs ys
-  at_count m n xs ys e h = subst (λ (k : ℕ). IsFirst P k xs ys) e h
-
   -- those of two lists
   pub first_append : (n : ℕ) (xs zs ys ws : List A) → IsFirst P n xs ys → IsFirst P (n - length ys) zs ws → IsFirst P n (xs ++ zs) (ys ++ ws)
   first_append n [] zs ys ws h k =
       let none : length ys ≡ 0 = ap length h in
       let same : n - length ys ≡ n = omega arith in
-      subst (IsFirst P n zs) (ap (λ (l : List A). l ++ ws) (sym h)) (at_count (n - length ys) n zs ws same k)
+      subst (IsFirst P n zs) (ap (λ (l : List A). l ++ ws) (sym h)) (rw same at k)
   first_append zero (x ∷ xs) zs ys ws h k =
       let none : length ys ≡ 0 = ap length h in
       let same : 0 - length ys ≡ 0 = omega arith in
-      ap (λ (l : List A). l ++ ws) h ∙ first_zero zs ws (at_count (0 - length ys) 0 zs ws same k)
+      ap (λ (l : List A). l ++ ws) h ∙ first_zero zs ws (rw same at k)
   first_append (suc n) (x ∷ xs) zs ys ws (inl (rest, p, e, t)) k =
       let long : length ys ≡ suc (length rest) = ap length e in
       let same : suc n - length ys ≡ n - length rest = omega arith in
-      inl (rest ++ ws, p, ap (λ (l : List A). l ++ ws) e, first_append n xs zs rest ws t (at_count (suc n - length ys) (n - length rest) zs ws same k))
+      inl (rest ++ ws, p, ap (λ (l : List A). l ++ ws) e, first_append n xs zs rest ws t (rw same at k))
   first_append (suc n) (x ∷ xs) zs ys ws (inr (p, t)) k = inr (p, first_append (suc n) xs zs ys ws t k)
 
   -- a list that grows by those of some further elements
-  pub first_more : (limit : ℕ) (old cur new more add xs zs : List A) → cur ≡ old ++ more → new ≡ cur ++ add → IsFirst P (limit - length old) xs more →
-      IsFirst P (limit - length cur) zs add
-      → (all : List A) × (new ≡ old ++ all) × IsFirst P (limit - length old) (xs ++ zs) all
-  first_more limit old cur new more add xs zs e f h k =
+  pub adds_more : (limit : ℕ) (old cur new xs zs : List A) → Adds P limit xs old cur → Adds P limit zs cur new → Adds P limit (xs ++ zs) old new
+  adds_more limit old cur new xs zs (more, e, h) (add, f, k) =
       let long : length cur ≡ length old + length more = ap length e ∙ length-append old more in
       let same : limit - length cur ≡ (limit - length old) - length more = omega arith in (
         more ++ add,
         f ∙ ap (λ (l : List A). l ++ add) e ∙ append_assoc old more add,
-        first_append (limit - length old) xs zs more add h (at_count (limit - length cur) ((limit - length old) - length more) zs add same k),
+        first_append (limit - length old) xs zs more add h (rw same at k),
       )
 
   -- the limit is reached before the end of a list
-  pub first_full : (limit : ℕ) (old cur more : List A) (k : ℕ) (xs : List A) → cur ≡ old ++ more → IsFirst P (limit - length old) (take k xs) more → limit ≤
-      length cur
-      → (all : List A) × (cur ≡ old ++ all) × IsFirst P (limit - length old) xs all
-  first_full limit old cur more k xs e h l =
+  pub adds_full : (limit : ℕ) (old cur : List A) (k : ℕ) (xs : List A) → Adds P limit (take k xs) old cur → limit ≤ length cur → Adds P limit xs old cur
+  adds_full limit old cur k xs (more, e, h) l =
       let long : length cur ≡ length old + length more = ap length e ∙ length-append old more in
       (more, e, first_taken k (limit - length old) xs more h (omega arith))
 
@@ -113,9 +103,6 @@ module _ {A : Type 0} (P : A → Type 0) where
       all = λ i a b p. elim (contains_cases k i is (h.all i (omega arith) (omega arith) p)) [ inl e ↦ absurd (omega arith) | inr c ↦ c ];
     }
 
-    absent : (k i : ℕ) (is : List ℕ) → k < i → IsAscending (i ∷ is) → Contains (i ∷ is) k → ⊥
-    absent k i is l h c = elim (contains_cases i k is c) [ inl e ↦ omega arith | inr d ↦ (let m = ascending_above i is h k d in omega arith) ]
-
     above_all : (k i : ℕ) (is : List ℕ) → k < i → IsAscending (i ∷ is) → (j : ℕ) → Contains (i ∷ is) j → k < j
     above_all k i is l h j c = elim (contains_cases i j is c) [ inl e ↦ omega arith | inr d ↦ (let m = ascending_above i is h j d in omega arith) ]
 
@@ -136,7 +123,7 @@ module _ {A : Type 0} (P : A → Type 0) where
     )
     run_first (suc n) (suc m) k (i ∷ is) ys run h = elim (cases_lt k i) [
       | inl l ↦ inr (
-        λ p. absent k i is l run.ascending (run.all k (omega arith) (omega arith) p),
+        λ p. (let m = above_all k i is l run.ascending k (run.all k (omega arith) (omega arith) p) in omega arith),
         run_first n (suc m) (k + 1) (i ∷ is) ys
             (later k n (i ∷ is) (above_all k i is l run.ascending) run) h,
       )
@@ -152,9 +139,3 @@ module _ {A : Type 0} (P : A → Type 0) where
   those_few [] ys h = let e = ap length h in omega arith
   those_few (x ∷ xs) ys (inl (rest, p, e, t)) = let n = ap length e in let m = those_few xs rest t in omega arith
   those_few (x ∷ xs) ys (inr (p, t)) = let m = those_few xs ys t in omega arith
-
--- the first elements of a list of results
-pub take_map : {A : Type 0} (f : ℕ → A) (k : ℕ) (xs : List ℕ) → take k (map f xs) ≡ map f (take k xs)
-take_map f zero xs = refl
-take_map f (suc k) [] = refl
-take_map {A = A} f (suc k) (x ∷ xs) = ap (λ (l : List A). f x ∷ l) (take_map f k xs)

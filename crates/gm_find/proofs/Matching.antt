@@ -1,17 +1,9 @@
 -- What is known of sought positions.
-use Rattle.gm_find.proofs.Lower.{◌≡◌, ℕ, suc, ◌↔◌, inl, inr, eqb-true, Bool, true, false, List, ◌∷◌, [], length, refl, sym, ap, ◌∙◌, subst, arith}
-use Rattle.gm_find.proofs.Lower.{Option, None, Some, Contains, Position, Solved, Value, Win, IsGame, Rules, at, IsAscending, HasValue, IsTrueValue}
-use Rattle.gm_find.proofs.Lower.{HasValue_once, TableData, Aim, Keep, WinIn, Sought, AreThose, IsMatch, Achieves}
-use Rattle.std.proofs.Common.{◌==◌, if◌then◌else◌}
-use Rattle.std.proofs.lemmas.Option.{same_Some}
-use Rattle.gm_game.specs.declared.position.Phase.{Phase}
-use Rattle.gm_game.specs.declared.position.Phase.TheVariants.{WinLose, Ties}
-use Rattle.gm_game.specs.declared.position.Value.TheVariants.{Lose, Draw, Tie}
-use Rattle.gm_game.specs.Places.{StandsAt}
-use Rattle.gm_game.specs.Rules.{IsCanonical}
-use Rattle.gm_table.specs.Tables.{IsHeld}
-use Rattle.gm_find.specs.declared.sought.Span.{Span}
-use Rattle.gm_find.specs.Finding.{IsAskedFor, IsValueOf, IsFitting, level_of, place_for, kept_by, IsAchievedBy, HasOnlyMove}
+use Rattle.gm_find.proofs.Lower.{◌≡◌, ℕ, suc, ◌↔◌, inl, inr, eqb-true, Bool, true, false, List, ◌∷◌, [], length, refl, sym, ap, ◌∙◌, subst, arith, Option, None}
+use Rattle.gm_find.proofs.Lower.{Some, Contains, Position, Solved, Value, Win, IsGame, Rules, at, IsAscending, HasValue, IsTrueValue, HasValue_once, TableData}
+use Rattle.gm_find.proofs.Lower.{Aim, Keep, WinIn, Sought, AreThose, IsMatch, Achieves, ◌==◌, if◌then◌else◌, same_Some, Phase, WinLose, Ties, Lose, Draw, Tie}
+use Rattle.gm_find.proofs.Lower.{StandsAt, IsCanonical, IsHeld, Span, IsAskedFor, IsValueOf, IsFitting, level_of, place_for, kept_by, IsAchievedBy, HasOnlyMove}
+use Rattle.gm_play.specs.BestMoves.{wanted_from}
 use Rattle.gm_find.proofs.ListLemmas.{those_once, IsRun}
 
 -- the one remoteness, if there is one
@@ -30,14 +22,11 @@ asked_level (Some s) n h = pick (s.least == s.most) refl
 -- a position that is sought is at the place that is searched
 stands : (r : Rules) (p : Position) (v : Value) (o : Option ℕ) (place : Phase × ℕ) (s : Solved) → Some place ≡ place_for v o → IsTrueValue r p s → v ≡
     s.value → IsLevel o s.remoteness → StandsAt r place.0 place.1 p
-stands r p v None place s e h w n = absurd (cc)
-stands r p Lose (Some k) place s e h w n = let q = same_Some place (WinLose, k) e in subst (λ (x : Phase × ℕ). StandsAt r x.0 x.1 p) (sym q)
-    (inr (subst (λ (x : Value). HasValue r p x k) (sym w) (subst (λ (x : ℕ). HasValue r p s.value x) (sym n) h)))
+stands r p Lose (Some k) place s e h w n = rw (same_Some place (WinLose, k) e) (inr (rw (sym w, sym n) at h))
+stands r p Tie (Some k) place s e h w n = rw (same_Some place (Ties, k) e) (rw (sym w, sym n) at h)
+stands r p Win (Some k) place s e h w n = rw (same_Some place (WinLose, k) e) (inl (rw (sym w, sym n) at h))
 stands r p Draw (Some k) place s e h w n = absurd (cc)
-stands r p Tie (Some k) place s e h w n = let q = same_Some place (Ties, k) e in subst (λ (x : Phase × ℕ). StandsAt r x.0 x.1 p) (sym q)
-    (subst (λ (x : Value). HasValue r p x k) (sym w) (subst (λ (x : ℕ). HasValue r p s.value x) (sym n) h))
-stands r p Win (Some k) place s e h w n = let q = same_Some place (WinLose, k) e in subst (λ (x : Phase × ℕ). StandsAt r x.0 x.1 p) (sym q)
-    (inl (subst (λ (x : Value). HasValue r p x k) (sym w) (subst (λ (x : ℕ). HasValue r p s.value x) (sym n) h)))
+stands r p v None place s e h w n = absurd (cc)
 
 -- the run of a tier at that place has every index that is sought
 pub run_has : (r : Rules) → IsGame r → (entries : List TableData) (q : Sought) (reached : Bool) (tier level : ℕ) (phase : Phase) (is : List ℕ) → Some
@@ -65,26 +54,21 @@ match_value r q reached p s h m =
 pub fitting : (r : Rules) (q : Sought) (reached : Bool) (p : Position) (s : Solved) → IsTrueValue r p s → IsMatch r q reached p → IsFitting r q reached p s
 fitting r q reached p s h m = (match_value r q reached p s h m, (m.choice, m.only, m.fastest), m.reaches)
 
--- a move achieves an aim by the value of its result
-pub achieves_is : (r : Rules) (p c : Position) (m : ℕ) (aim : Aim) (s : Solved) → c ≡ r.play p m → IsTrueValue r c s → IsAchievedBy aim s → Achieves r aim p m
-achieves_is r p c m (Keep v) s e h w = (
-  s.remoteness,
-  subst (λ (x : Value). HasValue r (r.play p m) x s.remoteness) w
-      (subst (λ (x : Position). HasValue r x s.value s.remoteness) e h),
-)
-achieves_is r p c m (WinIn n) s e h (w, k) = (
-  s.remoteness,
-  subst (λ (x : Value). HasValue r (r.play p m) x s.remoteness) w
-      (subst (λ (x : Position). HasValue r x s.value s.remoteness) e h),
-  k,
-)
+-- the value that keeps this one is that of the result of a best move
+kept_wanted : (v : Value) → wanted_from v ≡ kept_by v
+kept_wanted Lose = refl
+kept_wanted v = refl
 
-pub is_achieved : (r : Rules) (p c : Position) (m : ℕ) (aim : Aim) (s : Solved) → c ≡ r.play p m → IsTrueValue r c s → Achieves r aim p m → IsAchievedBy aim s
-is_achieved r p c m (Keep v) s e h k = (HasValue_once r (r.play p m) s.value (kept_by v) s.remoteness k.0
-    (subst (λ (x : Position). HasValue r x s.value s.remoteness) e h) k.1).0
-is_achieved r p c m (WinIn n) s e h (k, w, q) =
-    let same = HasValue_once r (r.play p m) s.value Lose s.remoteness k (subst (λ (x : Position). HasValue r x s.value s.remoteness) e h) w in
-    (same.0, ap suc same.1 ∙ q)
+-- a move achieves an aim by the value of its result
+pub achieves_is : (r : Rules) (p : Position) (m : ℕ) (aim : Aim) (s : Solved) → IsTrueValue r (r.play p m) s → IsAchievedBy aim s ↔ Achieves r aim p m
+achieves_is r p m (Keep v) s h = (
+  λ w. (s.remoteness, subst (λ (x : Value). HasValue r (r.play p m) x s.remoteness) (w ∙ kept_wanted v) h),
+  λ (k, w). (HasValue_once r (r.play p m) s.value (kept_by v) s.remoteness k h w).0 ∙ sym (kept_wanted v),
+)
+achieves_is r p m (WinIn n) s h = (
+  λ (w, k). (s.remoteness, subst (λ (x : Value). HasValue r (r.play p m) x s.remoteness) w h, k),
+  λ (k, w, q). (let same = HasValue_once r (r.play p m) s.value Lose s.remoteness k h w in (same.0, ap suc same.1 ∙ q)),
+)
 
 -- one move achieves it
 one_element : (ms : List ℕ) → length ms ≡ 1 → (m : ℕ) × (ms ≡ m ∷ [])
@@ -92,8 +76,8 @@ one_element [] e = absurd (omega arith)
 one_element (m ∷ []) e = (m, refl)
 one_element (m ∷ n ∷ ms) e = absurd (omega arith)
 
-pub only_is : (r : Rules) (p : Position) (aim : Aim) (kept : List ℕ) → AreThose (Achieves r aim p) (r.moves p) kept → length kept ≡ 1 → HasOnlyMove r aim p
-only_is r p aim kept h e = let (m, q) = one_element kept e in (m, subst (AreThose (Achieves r aim p) (r.moves p)) q h)
-
-pub is_only : (r : Rules) (p : Position) (aim : Aim) (kept : List ℕ) → AreThose (Achieves r aim p) (r.moves p) kept → HasOnlyMove r aim p → length kept ≡ 1
-is_only r p aim kept h (m, k) = ap length (those_once (Achieves r aim p) (r.moves p) kept (m ∷ []) h k)
+pub only_is : (r : Rules) (p : Position) (aim : Aim) (kept : List ℕ) → AreThose (Achieves r aim p) (r.moves p) kept → (length kept ≡ 1) ↔ HasOnlyMove r aim p
+only_is r p aim kept h = (
+  λ e. (let (m, q) = one_element kept e in (m, subst (AreThose (Achieves r aim p) (r.moves p)) q h)),
+  λ (m, k). ap length (those_once (Achieves r aim p) (r.moves p) kept (m ∷ []) h k),
+)

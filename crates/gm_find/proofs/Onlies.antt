@@ -1,9 +1,8 @@
 -- Moves that achieve an aim, up to symmetry, and wins in which there is one at each turn.
-use Rattle.gm_find.proofs.Lower.{◌≡◌, ℕ, zero, suc, ◌<◌, ◌+◌, ◌-◌, ◌↔◌, ◌⊎◌, inl, inr, Bool, IsTrue, List, [], ◌∷◌, ◌++◌, take, get_or, length, refl, sym}
-use Rattle.gm_find.proofs.Lower.{◌∙◌, subst, arith, Option, None, Some, Contains, is_some, take_more, Contains-push_cases, Contains-append_left, Contains-push}
-use Rattle.gm_find.proofs.Lower.{Position, Solved, Value, Win, Rules, HasValue, IsTrueValue, HasValue_once, contains_none, contains_first, contains_later}
-use Rattle.gm_find.proofs.Lower.{contains_cases, Aim, Keep, Achieves, HasOnly, IsOnlyWin, IsOnlyAfter, IsOnlyLine}
-use Rattle.gm_find.specs.Finding.{AgreesWith, HasOnlyFastest, HasOnlyResult}
+use Rattle.gm_find.proofs.Lower.{◌≡◌, ℕ, zero, suc, ◌<◌, ◌+◌, ◌-◌, ◌↔◌, ◌⊎◌, inl, inr, Bool, IsTrue, List, [], ◌∷◌, ◌++◌, take, get_or, length, refl, sym, ◌∙◌}
+use Rattle.gm_find.proofs.Lower.{subst, arith, Option, None, Some, Contains, is_some, take_more, Contains-push_cases, Contains-append_left, Contains-push}
+use Rattle.gm_find.proofs.Lower.{Position, Solved, Value, Win, Lose, Draw, Tie, Rules, HasValue, IsTrueValue, HasValue_once, Aim, Keep, Achieves, HasOnly}
+use Rattle.gm_find.proofs.Lower.{IsOnlyWin, IsOnlyAfter, IsOnlyLine, AgreesWith, HasOnlyResult}
 
 -- c is the canonical position of the result of one of these moves that achieves the aim
 abbrev pub IsAchievedAmong : Rules → Aim → Position → List ℕ → Position → Type 0
@@ -13,14 +12,6 @@ IsAchievedAmong r aim p ms c = (m : ℕ) × Contains ms m × Achieves r aim p m 
 abbrev pub IsOnlySoFar : Rules → Aim → Position → List ℕ → Option Position → Type 0
 IsOnlySoFar r aim p ms None = (c : Position) → IsAchievedAmong r aim p ms c → ⊥
 IsOnlySoFar r aim p ms (Some c) = IsAchievedAmong r aim p ms c × ((d : Position) → IsAchievedAmong r aim p ms d → d ≡ c)
-
-pub contains_taken : {X : Type 0} (k : ℕ) (xs : List X) (y : X) → Contains (take k xs) y → Contains xs y
-contains_taken zero xs y c = absurd (contains_none y c)
-contains_taken (suc k) [] y c = absurd (contains_none y c)
-contains_taken (suc k) (x ∷ xs) y c = elim (contains_cases x y (take k xs) c) [
-  | inl e ↦ subst (Contains (x ∷ xs)) e (contains_first x xs)
-  | inr d ↦ contains_later x y xs (contains_taken k xs y d)
-]
 
 module _ (r : Rules) (aim : Aim) (p : Position) where
   -- what one of these moves or one more leads to
@@ -87,9 +78,10 @@ each_more P ms k m l e h p n has = elim (Contains-push_cases (take k ms) (get_or
   | inr f ↦ subst P (sym e ∙ f) p
 ]
 
--- what is no win has no such line
-pub no_line : (r : Rules) (d : Bool) (p : Position) (s : Solved) → IsTrueValue r p s → (s.value ≡ Win → ⊥) → IsOnlyLine r d p → ⊥
-no_line r d p s h n (k, w, t) = n (is_win r p s k h w).0
+-- what is no win is a win in no number of moves
+pub no_win : (r : Rules) (p : Position) (s : Solved) → IsTrueValue r p s → (s.value ≡ Lose) ⊎ ((s.value ≡ Draw) ⊎ (s.value ≡ Tie)) → (n : ℕ)
+    → HasValue r p Win n → ⊥
+no_win r p s h e n w = (let v = (is_win r p s n h w).0 in elim e [ inl x ↦ cc | inr y ↦ elim y [ inl x ↦ cc | inr x ↦ cc ] ])
 
 -- a win of this remoteness has such a line if it has one in so many moves
 pub line_is : (r : Rules) (d : Bool) (p : Position) (s : Solved) → IsTrueValue r p s → s.value ≡ Win → IsOnlyWin r d s.remoteness p ↔ IsOnlyLine r d p
@@ -97,10 +89,6 @@ line_is r d p s h v = (
   λ t. (s.remoteness, win_is r p s s.remoteness h v refl, t),
   λ (k, w, t). subst (λ (n : ℕ). IsOnlyWin r d n p) (sym (is_win r p s k h w).1) t,
 )
-
--- what is no win has no fastest move
-pub no_fastest : (r : Rules) (d : Bool) (p : Position) (s : Solved) → IsTrueValue r p s → (s.value ≡ Win → ⊥) → HasOnlyFastest r d p → ⊥
-no_fastest r d p s h n (k, w, o) = n (is_win r p s k h w).0
 
 -- an answer about a fact is one about another that comes to the same
 pub same_answer : (b : Bool) (A B : Type 0) → (A ↔ B) → IsTrue b ↔ A → IsTrue b ↔ B

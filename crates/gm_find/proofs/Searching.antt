@@ -1,13 +1,8 @@
 -- What a search for reached positions keeps.
-use Rattle.gm_find.proofs.Lower.{◌≡◌, ℕ, ◌⊎◌, inl, inr, true, List, [], ◌∷◌, ◌++◌, length, refl, sym, ap, ◌∙◌, subst, arith, Contains}
-use Rattle.gm_find.proofs.Lower.{◌↔◌, Contains-append_left, Contains-push_cases, Contains-push, Position, IsGame, Rules, map_from, map_in, contains_none}
-use Rattle.gm_find.proofs.Lower.{contains_cases, contains_first, contains_later, at, IsSearched, key_of}
-use Rattle.std.specs.Prelude.{IsPermutation}
-use Rattle.std.proofs.lemmas.List.Sorted.{Contains-permutation, IsPermutation-sym}
-use Rattle.gm_game.specs.Rules.{children, IsCanonicalChild}
-use Rattle.gm_play.specs.Lines.{position_after}
-use Rattle.gm_play.proofs.Walking.{after_push}
-use Rattle.gm_find.specs.Reaching.{IsPlay, IsReachedByPlay, AreReached}
+use Rattle.gm_find.proofs.Lower.{◌≡◌, ℕ, ◌⊎◌, inl, inr, true, List, [], ◌∷◌, ◌++◌, length, refl, sym, ap, ◌∙◌, subst, arith, Contains, ◌↔◌}
+use Rattle.gm_find.proofs.Lower.{Contains-append_left, Contains-push_cases, Contains-push, Position, IsGame, Rules, map_from, map_in, contains_none}
+use Rattle.gm_find.proofs.Lower.{contains_cases, contains_first, contains_later, at, IsSearched, key_of, IsPermutation, Contains-permutation, IsPermutation-sym}
+use Rattle.gm_find.proofs.Lower.{children, IsCanonicalChild, position_after, after_push, IsPlay, IsReachedByPlay, AreReached}
 
 -- a line with one move more
 play_more : (r : Rules) (p : Position) (ms : List ℕ) (m : ℕ) → IsPlay r p ms → Contains (r.moves (position_after r p ms)) m → IsPlay r p (ms ++ m ∷ [])

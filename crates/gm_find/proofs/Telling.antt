@@ -1,14 +1,8 @@
 -- What is reported of found positions.
 use Rattle.gm_find.proofs.Lower.{◌≡◌, ℕ, zero, suc, inl, inr, Bool, true, List, [], ◌∷◌, map, get_or, ap, subst, All, Contains, range_with_len, Contains-get_or}
 use Rattle.gm_find.proofs.Lower.{Position, Rules, at, contains_none, contains_first, contains_later, contains_cases, map_in, map_from, TableData, Sought}
-use Rattle.gm_find.proofs.Lower.{IsFirst, IsMatch, positions_in, all_positions, IsKnownAt, IsFound, position_of}
-use Rattle.std.proofs.Common.{Result, Ok, Err, IfOk}
-use Rattle.std.proofs.lemmas.List.Elements.{Contains-append_cases, All-contains}
-use Rattle.gm_play.specs.Reached.{AreAllHeld}
-use Rattle.gm_find.specs.declared.found.Found.{Found}
-use Rattle.gm_find.specs.declared.sought.Choice.{Choice}
-use Rattle.gm_find.specs.declared.sought.Choice.TheVariants.{First, Random}
-use Rattle.gm_find.specs.Founds.{AreFound, AreChosen}
+use Rattle.gm_find.proofs.Lower.{IsFirst, IsMatch, positions_in, all_positions, IsKnownAt, IsFound, position_of, Result, Ok, Err, IfOk, Contains-append_cases}
+use Rattle.gm_find.proofs.Lower.{All-contains, AreAllHeld, Found, Choice, First, Random, AreChosen}
 use Rattle.gm_find.proofs.Picking.{picked_all}
 
 -- the first of those with a property have it, and are in the list
@@ -39,22 +33,14 @@ all_known r entries q reached limit tiers ps held first k d inside =
     let (match, there) = first_in (IsMatch r q reached) limit (all_positions r tiers) ps first p (Contains-get_or ps k d inside) in
     (match.canonical.0, held p.tier (tier_in r tiers p there))
 
--- a found position is one of one of the tiers
-found_in : (r : Rules) (q : Sought) (reached : Bool) (limit : ℕ) (tiers : List ℕ) (xs : List Found) → AreFound r q reached limit tiers xs → All
-    (λ x. Contains tiers x.position.tier) xs
-found_in r q reached limit tiers xs are k d inside =
-    let x = get_or xs k d in
-    let there = first_in (IsMatch r q reached) limit (all_positions r tiers) (map position_of xs) are.positions x.position
-    (map_from position_of xs x (Contains-get_or xs k d inside)) in
-    tier_in r tiers x.position there.1
-
--- and so is one that a choice takes
+-- a position that a choice takes is one of one of the tiers
 pub chosen_in : (r : Rules) (q : Sought) (reached : Bool) (choice : Choice) (tiers : List ℕ) (xs : List Found) → AreChosen r q reached choice tiers xs →
     (x : Found) → Contains xs x
     → (r.is_legal x.position ≡ true) × Contains tiers x.position.tier
 chosen_in r q reached (First n) tiers xs are x has = (
   (All-contains (IsFound r) xs x are.each has).legal,
-  All-contains (λ (y : Found). Contains tiers y.position.tier) xs x (found_in r q reached n tiers xs are) has,
+  tier_in r tiers x.position
+      (first_in (IsMatch r q reached) n (all_positions r tiers) (map position_of xs) are.positions x.position (map_from position_of xs x has)).1,
 )
 chosen_in r q reached (Random n seed) tiers xs (all, are, sample, each) x has =
     let P : Position → Type 0 = λ p. Contains tiers p.tier in

@@ -1,15 +1,8 @@
 -- Positions that are sought.
-use Rattle.std.specs.Prelude.{◌≡◌, ℕ, zero, suc, List, [], ◌∷◌, map, length, Bool, true, IsTrue, Option, None, Some}
-use Rattle.gm_find.specs.Lower.{Contains, flat_map, range_with_len}
-use Rattle.gm_find.specs.Lower.{Position, Win, Rules, at, IsTrueValue}
-use Rattle.std.specs.Prelude.{◌≤◌, ◌==◌, if◌then◌else◌, false}
-use Rattle.gm_game.specs.declared.position.Phase.{Phase}
-use Rattle.gm_game.specs.declared.position.Phase.TheVariants.{WinLose, Ties}
-use Rattle.gm_game.specs.declared.position.Solved.{Solved}
-use Rattle.gm_game.specs.declared.position.Value.{Value}
-use Rattle.gm_game.specs.declared.position.Value.TheVariants.{Lose, Draw, Tie}
-use Rattle.gm_game.specs.Rules.{IsCanonical}
-use Rattle.gm_game.specs.Values.{HasValue}
+use Rattle.std.specs.Prelude.{◌≡◌, ℕ, zero, suc, List, [], ◌∷◌, map, length, Bool, true, IsTrue, Option, None, Some, ◌≤◌, ◌==◌, if◌then◌else◌, false}
+use Rattle.gm_find.specs.Lower.{Contains, flat_map, range_with_len, Position, Win, Rules, at, IsTrueValue, Phase, WinLose, Ties, Solved, Value, Lose, Draw, Tie}
+use Rattle.gm_find.specs.Lower.{IsCanonical, HasValue}
+use Rattle.gm_play.specs.BestMoves.{wanted_from}
 use Rattle.gm_game.specs.Children.{canonical_children_of}
 use Rattle.gm_find.specs.declared.only.Aim.{Aim}
 use Rattle.gm_find.specs.declared.only.Aim.TheVariants.{Keep, WinIn}
@@ -48,7 +41,7 @@ Achieves r (WinIn n) p m = WinsIn r n p m
 
 -- a move to a position of this value achieves the aim
 abbrev pub IsAchievedBy : Aim → Solved → Type 0
-IsAchievedBy (Keep v) s = s.value ≡ kept_by v
+IsAchievedBy (Keep v) s = s.value ≡ wanted_from v
 IsAchievedBy (WinIn n) s = (s.value ≡ Lose) × (suc s.remoteness ≡ n)
 
 -- of the moves of p exactly one achieves the aim

@@ -1,8 +1,6 @@
 -- What is reported of found positions.
-use Rattle.std.specs.Prelude.{◌≡◌, ◌-◌, ℕ, Bool, true, List, map, length}
-use Rattle.gm_find.specs.Lower.{All, Position, Rules, IsTrueValue, AreAllHeld, IsBestMove}
-use Rattle.std.specs.Prelude.{◌^◌}
-use Rattle.gm_table.specs.Tables.{TableData}
+use Rattle.std.specs.Prelude.{◌≡◌, ◌-◌, ℕ, Bool, true, List, map, length, ◌^◌}
+use Rattle.gm_find.specs.Lower.{All, Position, Rules, IsTrueValue, AreAllHeld, IsBestMove, TableData}
 use Rattle.gm_find.specs.declared.found.Found.{Found}
 use Rattle.gm_find.specs.declared.sought.Sought.{Sought}
 use Rattle.gm_find.specs.declared.sought.Choice.{Choice}

@@ -1,8 +1,6 @@
 -- The positions that play from the start reaches.
 use Rattle.std.specs.Prelude.{◌≡◌, ℕ, ◌↔◌, ◌⊎◌, List, [], ◌∷◌}
-use Rattle.gm_find.specs.Lower.{Contains, Position, Rules}
-use Rattle.gm_game.specs.Rules.{IsCanonicalChild}
-use Rattle.gm_play.specs.Lines.{position_after}
+use Rattle.gm_find.specs.Lower.{Contains, Position, Rules, IsCanonicalChild, position_after}
 
 -- these moves can be played from p one after another
 abbrev pub IsPlay : Rules → Position → List ℕ → Type 0

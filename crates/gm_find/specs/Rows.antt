@@ -1,9 +1,6 @@
 -- Found positions as rows of text.
-use Rattle.std.specs.Prelude.{◌≡◌, ℕ, Bool, List, [], ◌++◌, Option, None, Some}
-use Rattle.gm_find.specs.Lower.{flat_map, Position, Rules}
-use Rattle.std.specs.Prelude.{codes}
-use Rattle.std.specs.Fmt.{decimal}
-use Rattle.gm_game.specs.Texts.{text_of}
+use Rattle.std.specs.Prelude.{◌≡◌, ℕ, Bool, List, [], ◌++◌, Option, None, Some, codes}
+use Rattle.gm_find.specs.Lower.{flat_map, Position, Rules, decimal, text_of}
 use Rattle.gm_find.specs.declared.found.Found.{Found}
 use Rattle.gm_find.specs.declared.sought.Sought.{Sought}
 use Rattle.gm_find.specs.declared.sought.Choice.{Choice}

@@ -1,6 +1,5 @@
 -- Some elements of a list, picked out in their order.
-use Rattle.std.specs.Prelude.{◌≡◌, ℕ, ◌⊎◌, List, [], ◌∷◌, length}
-use Rattle.std.specs.Prelude.{min}
+use Rattle.std.specs.Prelude.{◌≡◌, ℕ, ◌⊎◌, List, [], ◌∷◌, length, min}
 
 -- ys are some of the xs, each taken once at most, in their order
 abbrev pub ArePicked : {A : Type 0} → List A → List A → Type 0

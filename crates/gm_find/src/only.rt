@@ -2,10 +2,11 @@
 ghost use Rattle.std.specs.Prelude.{◌↔◌, ◌≡◌, ℕ, List, true, length, IsTrue};
 ghost use Rattle.gm_find.specs.Lower.{Contains, IsTrueValue};
 ghost use Rattle.gm_find.specs.Lists.{AreThose};
-ghost use Rattle.gm_find.specs.Finding.{kept_by, Achieves, HasOnlyMove, HasOnlyResult, HasOnly, HasOnlyFastest, HasMoves, AgreesWith, IsAchievedBy};
+ghost use Rattle.gm_find.specs.Finding.{Achieves, HasOnlyResult, HasOnly, HasOnlyFastest, HasMoves, AgreesWith, IsAchievedBy};
 
 use gm_game::game::Game;
 use gm_game::position::{Position, Solved, Value};
+use gm_play::best_moves::wanted;
 use gm_play::known::Known;
 
 /// What a move has to achieve to count.
@@ -111,21 +112,9 @@ fn is_achieved(aim: Aim, after: Solved) -> bool
     ensures { IsTrue result ↔ IsAchievedBy aim after }
 {
     match aim {
-        Aim::Keep(value) => after.value == kept(value),
+        Aim::Keep(value) => after.value == wanted(value),
         Aim::WinIn(moves) => {
             after.value == Value::Lose && after.remoteness < moves && after.remoteness == moves - 1
         }
-    }
-}
-
-// Returns the value of a result that keeps this one for the side that moves.
-fn kept(value: Value) -> Value
-    ensures { result ≡ kept_by value }
-{
-    match value {
-        Value::Lose => Value::Win,
-        Value::Draw => Value::Draw,
-        Value::Tie => Value::Tie,
-        Value::Win => Value::Lose,
     }
 }

@@ -1,19 +1,13 @@
 //! Positions of a value.
-ghost use Rattle.std.specs.Prelude.{◌≡◌, ◌<◌, ◌-◌, ◌++◌, ◌∷◌, [], ◌↔◌, ℕ, List, true, map, length, IsTrue, IfOk, OnOk, is_some, Some};
-ghost use Rattle.gm_find.specs.Lower.{range_with_len};
-ghost use Rattle.gm_find.specs.Lower.{Position, at, IsTrueValue, AreAllHeld};
-ghost use Rattle.gm_game.specs.declared.limits.TheConstants.{REMOTENESS};
-ghost use Rattle.gm_game.specs.Records.{IsRecord};
-ghost use Rattle.gm_table.specs.Tables.{IsHeld};
-ghost use Rattle.gm_find.specs.Lists.{IsFirst};
-ghost use Rattle.gm_find.specs.Reaching.{IsReachedByPlay};
-ghost use Rattle.gm_find.specs.Finding.{IsMatch, positions_in, all_positions, place_for, level_of};
-ghost use Rattle.gm_find.specs.Finding.{IsValueOf, IsFitting, HasFittingMoves, IsOnlyLine};
+ghost use Rattle.std.specs.Prelude.{◌≡◌, ◌<◌, ◌-◌, ◌∷◌, [], ◌↔◌, true, map, length, IsTrue, IfOk, OnOk, is_some, Some};
+ghost use Rattle.gm_find.specs.Lower.{Position, at, IsTrueValue, AreAllHeld, REMOTENESS, IsRecord, IsHeld};
+ghost use Rattle.gm_find.specs.Lists.{Adds, IsFirst};
+ghost use Rattle.gm_find.specs.Finding.{IsMatch, positions_in, all_positions, place_for, level_of, IsValueOf, IsFitting, HasFittingMoves};
 
 use crate::only::{Aim, has_moves, has_only, has_only_fastest};
 use crate::only_line::is_only_line;
 use crate::reached::{Reached, is_in};
-use crate::sought::{Sought, Span};
+use crate::sought::Sought;
 use gm_game::game::Game;
 use gm_game::position::{Phase, Position, Solved, Value};
 use gm_play::known::Known;
@@ -63,8 +57,8 @@ fn add_tier<G: Game>(
     tier: u64,
 ) -> Result<(), AllocError>
     requires { AreAllHeld G.rules search.now.tables.now tier }
-    ensures { OnOk result ((more : List Position) × (found.new.items ≡ found.old.items ++ more)
-        × IsFirst (IsMatch G.rules search.now.sought (is_some search.now.reached)) (search.now.limit - length found.old.items) (positions_in G.rules tier) more) }
+    ensures { OnOk result (Adds (IsMatch G.rules search.now.sought (is_some search.now.reached)) search.now.limit (positions_in G.rules tier)
+        found.old.items found.new.items) }
 {
     match place(search.sought) {
         Some((phase, level)) => {
@@ -79,22 +73,15 @@ fn add_tier<G: Game>(
 fn place(sought: Sought) -> Option<(Phase, u32)>
     ensures { result ≡ place_for sought.value (level_of sought.remoteness) }
 {
-    let level = one_level(sought.remoteness?)?;
+    let span = sought.remoteness?;
+    if span.least != span.most {
+        return None;
+    }
+    let level = span.least;
     match sought.value {
         Value::Draw => None,
         Value::Tie => Some((Phase::Ties, level)),
         Value::Lose | Value::Win => Some((Phase::WinLose, level)),
-    }
-}
-
-// Returns the one remoteness of a span, if it has only one.
-fn one_level(span: Span) -> Option<u32>
-    ensures { result ≡ level_of (Some span) }
-{
-    if span.least == span.most {
-        Some(span.least)
-    } else {
-        None
     }
 }
 
@@ -106,8 +93,8 @@ fn add_run<G: Game>(
     run: &[u32],
 ) -> Result<(), AllocError>
     requires { AreAllHeld G.rules search.now.tables.now tier }
-    ensures { OnOk result ((more : List Position) × (found.new.items ≡ found.old.items ++ more)
-        × IsFirst (IsMatch G.rules search.now.sought (is_some search.now.reached)) (search.now.limit - length found.old.items) (map (at tier) run.now) more) }
+    ensures { OnOk result (Adds (IsMatch G.rules search.now.sought (is_some search.now.reached)) search.now.limit (map (at tier) run.now)
+        found.old.items found.new.items) }
 {
     for i in run {
         if search.limit <= found.len() {
@@ -126,8 +113,8 @@ fn add_all<G: Game>(
     tier: u64,
 ) -> Result<(), AllocError>
     requires { AreAllHeld G.rules search.now.tables.now tier }
-    ensures { OnOk result ((more : List Position) × (found.new.items ≡ found.old.items ++ more)
-        × IsFirst (IsMatch G.rules search.now.sought (is_some search.now.reached)) (search.now.limit - length found.old.items) (positions_in G.rules tier) more) }
+    ensures { OnOk result (Adds (IsMatch G.rules search.now.sought (is_some search.now.reached)) search.now.limit (positions_in G.rules tier)
+        found.old.items found.new.items) }
 {
     let size = G::tier_size(tier);
     for index in 0..size {
@@ -147,8 +134,8 @@ fn add_position<G: Game>(
 ) -> Result<(), AllocError>
     requires room { length found.old.items < search.now.limit }
     requires held { AreAllHeld G.rules search.now.tables.now p.tier }
-    ensures { OnOk result ((more : List Position) × (found.new.items ≡ found.old.items ++ more)
-        × IsFirst (IsMatch G.rules search.now.sought (is_some search.now.reached)) (search.now.limit - length found.old.items) (p ∷ []) more) }
+    ensures { OnOk result (Adds (IsMatch G.rules search.now.sought (is_some search.now.reached)) search.now.limit (p ∷ [])
+        found.old.items found.new.items) }
 {
     if is_sought(search, p) {
         found.push(p)?;
@@ -168,7 +155,8 @@ fn is_sought<G: Game>(search: &Search<'_, G>, p: Position) -> bool
         tables: search.tables,
         position: p,
     };
-    is_fitting(&known, solved, search) && has_fitting_line(&known, solved, search.sought)
+    is_fitting(&known, solved, search)
+        && (!search.sought.whole_line || is_only_line(&known, solved, search.sought.distinct))
 }
 
 // Returns whether a position of this true value fits in everything but its line.
@@ -189,14 +177,6 @@ fn has_fitting_moves<G: Game>(known: &Known<'_, G>, solved: Solved, sought: Soug
     has_moves::<G>(known.position, sought.min_moves, sought.distinct)
         && (!sought.only_move || has_only(known, Aim::Keep(sought.value), sought.distinct))
         && (!sought.only_fastest || has_only_fastest(known, solved, sought.distinct))
-}
-
-// Returns whether a position has the line that is sought.
-fn has_fitting_line<G: Game>(known: &Known<'_, G>, solved: Solved, sought: Sought) -> bool
-    requires { IsTrueValue G.rules known.now.position solved }
-    ensures { IsTrue result ↔ (IsTrue sought.whole_line → IsOnlyLine G.rules sought.distinct known.now.position) }
-{
-    !sought.whole_line || is_only_line(known, solved, sought.distinct)
 }
 
 /// Returns the true value of a canonical position of a tier that is held; `None` for any other.

@@ -1,5 +1,5 @@
 //! The positions that play from the start reaches.
-ghost use Rattle.std.specs.Prelude.{◌↔◌, ◌≡◌, IsTrue, IfOk, is_some};
+ghost use Rattle.std.specs.Prelude.{◌↔◌, IsTrue, IfOk, is_some};
 ghost use Rattle.gm_find.specs.Reaching.{IsReachedByPlay, AreReached};
 
 use crate::search::search;

@@ -2,7 +2,7 @@
 ghost use Rattle.std.specs.Prelude.{◌≡◌, ◌++◌, true, IfOk, OnOk, is_some};
 ghost use Rattle.gm_find.specs.Lower.{All, flat_map, IsBestMove};
 ghost use Rattle.gm_find.specs.Founds.{IsFound};
-ghost use Rattle.gm_find.specs.Rows.{best_text as best_text_spec, found_row, row, IsFoundText};
+ghost use Rattle.gm_find.specs.Rows.{best_text as best_text_spec, found_row, IsFoundText};
 
 use crate::choice::find_some;
 use crate::found::Found;
@@ -51,13 +51,10 @@ pub fn push_found<G: Shown>(rows: &mut Vec<u8>, x: &Found) -> Result<(), AllocEr
     let x = *x;
     let mut number = Line::new();
     push_decimal(&mut number, x.moves as u64);
-    push_row(
-        rows,
-        G::show(x.position).as_slice(),
-        value_text(x.value).as_slice(),
-        best_text::<G>(x.position, x.best).as_slice(),
-        number.as_slice(),
-    )
+    push_field(rows, G::show(x.position).as_slice(), b"\t")?;
+    push_field(rows, value_text(x.value).as_slice(), b"\t")?;
+    push_field(rows, best_text::<G>(x.position, x.best).as_slice(), b"\t")?;
+    push_field(rows, number.as_slice(), b"\n")
 }
 
 /// Returns the text of a best move; none at an end.
@@ -70,14 +67,4 @@ pub fn best_text<G: Shown>(p: Position, best: Option<u32>) -> Line
         Some(m) => G::move_text(p, m),
         None => Line::new(),
     }
-}
-
-// Appends four fields, with a tab between them.
-fn push_row(rows: &mut Vec<u8>, a: &[u8], b: &[u8], c: &[u8], d: &[u8]) -> Result<(), AllocError>
-    ensures { OnOk result (rows.new.items ≡ rows.old.items ++ row a.now b.now c.now d.now) }
-{
-    push_field(rows, a, b"\t")?;
-    push_field(rows, b, b"\t")?;
-    push_field(rows, c, b"\t")?;
-    push_field(rows, d, b"\n")
 }

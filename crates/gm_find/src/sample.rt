@@ -23,18 +23,10 @@ pub fn sample_of(
     let mut wanted = number.min(positions.len());
     for place in 0..positions.len() {
         let left = positions.len() - place;
-        if number_below(&mut random, left as u64) < wanted as u64 {
+        if random.random_range(0..left as u64) < wanted as u64 {
             chosen.push(positions[place])?;
             wanted -= 1;
         }
     }
     Ok(chosen)
-}
-
-// Returns a random number below this one.
-fn number_below(random: &mut Xoshiro256PlusPlus, bound: u64) -> u64
-    requires { 0 < bound }
-    ensures { result < bound }
-{
-    random.random_range(0..bound)
 }

@@ -15,15 +15,8 @@ pub(crate) fn search<G: Game>(alloc: Global) -> Result<HashSet<(u64, u64)>, Allo
 {
     let mut found = HashSet::new(alloc);
     let mut waiting = Vec::new(alloc);
-    let filled = fill::<G>(&mut found, &mut waiting);
-    drop(waiting);
-    match filled {
-        Ok(()) => Ok(found),
-        Err(error) => {
-            drop(found);
-            Err(error)
-        }
-    }
+    fill::<G>(&mut found, &mut waiting)?;
+    Ok(found)
 }
 
 // Finds them all, from an empty set.

@@ -1,9 +1,7 @@
 -- The tallies of all pieces of a level, as they grow by one.
 use Rattle.gm_frontier.proofs.Lower.{◌≡◌, ℕ, ◌+◌, ◌<◌, inl, inr, List, [], ◌∷◌, ◌++◌, map, length, refl, sym, ap, subst, ◌∙◌, arith, Contains, div_ceil, Rules}
-use Rattle.gm_frontier.proofs.Lower.{contains_none, LevelData, TallyData, AreTallies, AreAllTallies, numbers_from}
+use Rattle.gm_frontier.proofs.Lower.{contains_none, LevelData, TallyData, AreTallies, AreAllTallies, numbers_from, Contains-push_cases, IsTallyOf, IsTile}
 use Rattle.std.proofs.lemmas.List.{map_push}
-use Rattle.std.proofs.lemmas.List.Elements.{Contains-push_cases}
-use Rattle.gm_frontier.specs.Tallies.{IsTallyOf, IsTile}
 use Rattle.gm_frontier.proofs.TalliedLemmas.{numbers_push, tallies_in_order}
 
 -- the tallies of the first k pieces, in order

@@ -1,8 +1,7 @@
 -- Lists without repeats: joined, mapped, filtered, and taken apart.
 use Rattle.gm_frontier.proofs.Lower.{◌≡◌, ◌≢◌, ℕ, zero, suc, ◌<◌, inl, inr, Bool, true, false, List, [], ◌∷◌, ◌++◌, length, get_or, map, filter, refl, sym, ap}
 use Rattle.gm_frontier.proofs.Lower.{subst, ◌∙◌, arith, if◌then◌else◌, Contains, flat_map, Contains-append_left, Contains-append_right, Contains-append_cases}
-use Rattle.gm_frontier.proofs.Lower.{IsAscending, contains_none, contains_first, contains_later, contains_cases, map_from, map_in, HasNoRepeats}
-use Rattle.std.proofs.Common.{AllPairs}
+use Rattle.gm_frontier.proofs.Lower.{IsAscending, contains_none, contains_first, contains_later, contains_cases, map_from, map_in, HasNoRepeats, AllPairs}
 
 -- by places, and back
 pub no_repeats_from : {X : Type 0} (xs : List X) → AllPairs (λ x y. x ≢ y) xs → HasNoRepeats xs

@@ -3,10 +3,7 @@ use Rattle.gm_frontier.proofs.Lower.{◌≡◌, ◌≢◌, ℕ, ◌<◌, ◌≤�
 use Rattle.gm_frontier.proofs.Lower.{Contains, flat_map, Contains-append_left, Contains-append_right, Contains-append_cases, cases_lt, nat_tests, Position}
 use Rattle.gm_frontier.proofs.Lower.{Place, Rules, IsCanonical, IsAscending, IsGame, is_before, StandsAt, contains_none, contains_first, contains_later}
 use Rattle.gm_frontier.proofs.Lower.{contains_cases, NoteData, RunData, positions, IsInTier, AreInOrder, AreNotesOf, comes_first, IsRun, IsLevel, AreRuns}
-use Rattle.gm_frontier.proofs.Lower.{AreTiles}
-use Rattle.std.proofs.lemmas.List.{map-append}
-use Rattle.gm_game.specs.Places.{IsAtLevel}
-use Rattle.gm_frontier.specs.Levels.{IsInRun}
+use Rattle.gm_frontier.proofs.Lower.{AreTiles, map-append, IsAtLevel, IsInRun}
 use Rattle.gm_frontier.proofs.Distinct.{ascending_above}
 use Rattle.gm_frontier.proofs.OrderLemmas.{in_order_append}
 

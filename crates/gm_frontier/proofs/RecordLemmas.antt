@@ -4,8 +4,7 @@ use Rattle.gm_frontier.proofs.Lower.{Some, IsSome, slice_get, unwrap_or, AllByRe
 use Rattle.gm_frontier.proofs.Lower.{Draw, Tie, Win, Phase, WinLose, Ties, Place, Rules, at, IsCanonical, IsAscending, IsGame, HasValue, IsTrueValue, solved}
 use Rattle.gm_frontier.proofs.Lower.{is_before, StandsAt, contains_first, contains_later, map_from, map_in, HasValue_once, TableData, IsTable, record_at}
 use Rattle.gm_frontier.proofs.Lower.{table_of, AreTables, IsNote, IsNoteAt, phase_of, positions, IsInTier, AreInOrder, AreNotesOf, IsChildPart, note_of}
-use Rattle.gm_frontier.proofs.Lower.{notes_at, IsRecorded, AreRecorded}
-use Rattle.gm_table.specs.Tables.{IsHeld}
+use Rattle.gm_frontier.proofs.Lower.{notes_at, IsRecorded, AreRecorded, IsHeld}
 use Rattle.gm_frontier.proofs.Distinct.{ascending_above}
 
 -- what the place of a position says of its value

@@ -4,10 +4,8 @@ use Rattle.gm_frontier.proofs.Lower.{[], ◌∷◌, ◌++◌, map, length, get_o
 use Rattle.gm_frontier.proofs.Lower.{sum_by-cons, div_ceil_times, cases_lt, nat_tests, Place, TIER_SIZE, Rules, IsGame, ListsExactly, contains_none}
 use Rattle.gm_frontier.proofs.Lower.{contains_first, contains_later, map_from, map_in, HasNoRepeats, NoteData, LevelData, IsLevel, is_within, pairs_with}
 use Rattle.gm_frontier.proofs.Lower.{pairs_of_note, pairs_of, piece_of, TallyData, IsTally, AreCounts, AreTallies, tile_start, tile_end, number_into}
-use Rattle.gm_frontier.proofs.Lower.{numbers_from}
+use Rattle.gm_frontier.proofs.Lower.{numbers_from, mul-div_cancel, flat_map-append}
 use Rattle.std.proofs.Common.{◌*◌}
-use Rattle.std.proofs.Math.Nat.{mul-div_cancel}
-use Rattle.std.proofs.lemmas.List.Concat.{flat_map-append}
 use Rattle.gm_frontier.proofs.CountLemmas.{notes_few, numbers_have}
 use Rattle.gm_frontier.proofs.Distinct.{no_repeats_from, no_repeats_to}
 use Rattle.gm_frontier.proofs.LevelOnce.{level_once}

@@ -1,11 +1,6 @@
 -- Levels, and the runs that they are made of.
-use Rattle.std.specs.Prelude.{◌≡◌, ℕ, ◌<◌, ◌≤◌, ◌↔◌, Bool, List, [], ◌∷◌, map, length, nat_lt, ◌==◌, if◌then◌else◌}
-use Rattle.gm_frontier.specs.Lower.{Contains, Position, Phase, Place}
-use Rattle.gm_frontier.specs.Lower.{TIER_SIZE, Rules, IsCanonical}
-use Rattle.std.specs.Prelude.{true, false}
-use Rattle.std.specs.List.{AllByRecursion}
-use Rattle.gm_game.specs.Children.{is_before}
-use Rattle.gm_game.specs.Places.{StandsAt, IsAtLevel}
+use Rattle.std.specs.Prelude.{◌≡◌, ℕ, ◌<◌, ◌≤◌, ◌↔◌, Bool, List, [], ◌∷◌, map, length, nat_lt, ◌==◌, if◌then◌else◌, true, false}
+use Rattle.gm_frontier.specs.Lower.{Contains, Position, Phase, Place, TIER_SIZE, Rules, IsCanonical, AllByRecursion, is_before, StandsAt, IsAtLevel}
 use Rattle.gm_frontier.specs.Notes.{NoteData, IsNoteAt}
 
 -- what a run shows: the notes of a place in an index range

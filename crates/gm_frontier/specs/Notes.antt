@@ -1,11 +1,6 @@
 -- Notes: positions with their values.
-use Rattle.std.specs.Prelude.{◌≡◌, List}
-use Rattle.gm_frontier.specs.Lower.{flat_map, Position, Draw, Phase, WinLose, Ties, Place, Rules, IsCanonical}
-use Rattle.std.specs.Prelude.{◌≢◌}
-use Rattle.gm_game.specs.declared.position.Solved.{Solved}
-use Rattle.gm_game.specs.declared.position.Value.{Value}
-use Rattle.gm_game.specs.declared.position.Value.TheVariants.{Lose, Tie, Win}
-use Rattle.gm_game.specs.Values.{IsTrueValue}
+use Rattle.std.specs.Prelude.{◌≡◌, List, ◌≢◌}
+use Rattle.gm_frontier.specs.Lower.{flat_map, Position, Draw, Phase, WinLose, Ties, Place, Rules, IsCanonical, Solved, Value, Lose, Tie, Win, IsTrueValue}
 
 -- what a note shows
 pub record NoteData : Type 0 where

@@ -1,11 +1,7 @@
 -- Notes as records of a table.
-use Rattle.std.specs.Prelude.{ℕ, List, [], map, None, Some, IsSome}
-use Rattle.gm_frontier.specs.Lower.{Contains, Draw, Place, Rules}
-use Rattle.std.specs.Prelude.{unwrap_or}
-use Rattle.gm_game.specs.Rules.{at}
-use Rattle.gm_game.specs.Records.{solved}
+use Rattle.std.specs.Prelude.{ℕ, List, [], map, None, Some, IsSome, unwrap_or}
+use Rattle.gm_frontier.specs.Lower.{Contains, Draw, Place, Rules, at, solved, TableData, table_of, record_at}
 use Rattle.gm_table.specs.Levels.{indexes_at}
-use Rattle.gm_table.specs.Tables.{TableData, table_of, record_at}
 use Rattle.gm_frontier.specs.Notes.{NoteData, IsNote}
 
 -- the note of an index by its record

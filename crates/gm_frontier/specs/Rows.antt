@@ -1,6 +1,5 @@
 -- What an iterator over pairs has left.
-use Rattle.std.specs.Prelude.{ℕ, List, [], map, take, drop, Option, None, Some}
-use Rattle.std.specs.Prelude.{◌-◌}
+use Rattle.std.specs.Prelude.{ℕ, List, [], map, take, drop, Option, None, Some, ◌-◌}
 use Rattle.gm_frontier.specs.Notes.{NoteData}
 
 -- the note in hand with each of these indexes

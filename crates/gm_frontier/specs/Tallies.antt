@@ -1,9 +1,6 @@
 -- Tallies: the number of a piece's pairs into each tile of a tier.
-use Rattle.std.specs.Prelude.{◌≡◌, ℕ, ◌+◌, ◌/◌, ◌<◌, ◌≤◌, ◌⊎◌, ◌==◌, if◌then◌else◌, List, [], ◌∷◌, map, length, slice_index}
-use Rattle.gm_frontier.specs.Lower.{Contains, flat_map, div_ceil}
-use Rattle.gm_frontier.specs.Lower.{Place, Rules}
-use Rattle.std.specs.Prelude.{zero, suc, ◌*◌, min}
-use Rattle.gm_game.specs.Numbers.{ListsExactly}
+use Rattle.std.specs.Prelude.{◌≡◌, ℕ, ◌+◌, ◌/◌, ◌<◌, ◌≤◌, ◌⊎◌, ◌==◌, if◌then◌else◌, List, [], ◌∷◌, map, length, slice_index, zero, suc, ◌*◌, min}
+use Rattle.gm_frontier.specs.Lower.{Contains, flat_map, div_ceil, Place, Rules, ListsExactly}
 use Rattle.gm_frontier.specs.Notes.{NoteData}
 use Rattle.gm_frontier.specs.Levels.{LevelData, IsLevel}
 use Rattle.gm_frontier.specs.Pairs.{pairs_of, piece_of}

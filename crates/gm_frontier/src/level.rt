@@ -1,7 +1,6 @@
 //! All notes of one place in a tier and its child tiers.
-ghost use Rattle.std.specs.Prelude.{ℕ, ◌≡◌, ◌<◌, ◌≤◌, length, slice_get, Some, IfOk, IsSome, ◌↔◌, []};
+ghost use Rattle.std.specs.Prelude.{ℕ, ◌≡◌, ◌<◌, ◌≤◌, length, slice_get, Some, IfOk, IsSome, ◌↔◌, [], IfSome};
 ghost use Rattle.gm_frontier.specs.Lower.{div_ceil};
-ghost use Rattle.std.specs.Prelude.{IfSome};
 
 use crate::last::{Last, are_below};
 use crate::note::Note;

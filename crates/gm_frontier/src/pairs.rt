@@ -1,6 +1,6 @@
 //! The pairs of a level's notes, one after another.
 ghost use Rattle.std.specs.Prelude.{◌≡◌, ◌≤◌, length};
-ghost use Rattle.std.specs.Iterator.{YieldsFirst, item_count};
+ghost use Rattle.gm_frontier.specs.Lower.{YieldsFirst, item_count};
 ghost use Rattle.gm_frontier.specs.Pairs.{pairs_of};
 ghost use Rattle.gm_frontier.specs.Rows.{stretch};
 

@@ -1,7 +1,6 @@
 //! The parts that a level is made of.
-ghost use Rattle.std.specs.Prelude.{◌≡◌, ℕ, ◌<◌, ◌^◌, length, slice_get, Some};
+ghost use Rattle.std.specs.Prelude.{◌≡◌, ℕ, ◌<◌, ◌^◌, length, slice_get, Some, ◌++◌, OnOk};
 ghost use Rattle.gm_frontier.specs.Lower.{Contains, flat_map, IsHeld};
-ghost use Rattle.std.specs.Prelude.{◌++◌, OnOk};
 ghost use Rattle.gm_frontier.specs.Notes.{joined};
 ghost use Rattle.gm_frontier.specs.Levels.{IsChildPart, AreRuns};
 ghost use Rattle.gm_frontier.specs.Records.{notes_at, notes_of_tier, AreRecorded};

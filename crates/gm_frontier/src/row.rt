@@ -1,6 +1,5 @@
 //! One note with its parents in a range.
-ghost use Rattle.std.specs.Prelude.{◌≡◌, ◌≤◌, length, [], ◌∷◌, filter};
-ghost use Rattle.std.specs.Prelude.{MatchOption};
+ghost use Rattle.std.specs.Prelude.{◌≡◌, ◌≤◌, length, [], ◌∷◌, filter, MatchOption};
 ghost use Rattle.gm_frontier.specs.Pairs.{is_within, pairs_of_note};
 
 use crate::note::Note;

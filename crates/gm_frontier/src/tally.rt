@@ -1,7 +1,6 @@
 //! How many pairs a piece of a level has into each tile of its tier.
-ghost use Rattle.std.specs.Prelude.{◌≡◌, ℕ, ◌+◌, ◌/◌, ◌<◌, ◌≤◌, ◌^◌, length, slice_index, IfOk};
+ghost use Rattle.std.specs.Prelude.{◌≡◌, ℕ, ◌+◌, ◌/◌, ◌<◌, ◌≤◌, ◌^◌, length, slice_index, IfOk, vec_len};
 ghost use Rattle.gm_frontier.specs.Lower.{Contains};
-ghost use Rattle.std.specs.Prelude.{vec_len};
 ghost use Rattle.gm_frontier.specs.Notes.{NoteData};
 ghost use Rattle.gm_frontier.specs.Pairs.{pairs_of, piece_of};
 ghost use Rattle.gm_frontier.specs.Tallies.{AreCounts, AreTallies, tile_count, number_into};

@@ -1,11 +1,7 @@
 -- The answer about a position, put together.
 use Rattle.gm_json.proofs.Lower.{◌≡◌, ℕ, Bool, true, false, List, refl, sym, ap, ◌∙◌, if◌then◌else◌, Members, member, compact_text, Position, Solved, Rules}
-use Rattle.gm_json.proofs.Lower.{MoveValue, AreMovesOf, move_trees, position_members, extras}
+use Rattle.gm_json.proofs.Lower.{MoveValue, AreMovesOf, move_trees, position_members, extras, object, chosen, Asked, answer_members, IsPositionJson, IsTold}
 use Rattle.std.specs.Prelude.{codes}
-use Rattle.serde_json.specs.Data.{object}
-use Rattle.gm_play.specs.Firsts.{chosen}
-use Rattle.gm_json.specs.declared.asked.Asked.{Asked}
-use Rattle.gm_json.specs.Answers.{answer_members, IsPositionJson, IsTold}
 
 not_both : (b : Bool) → b ≡ true → b ≡ false → ⊥
 not_both true e h = let z : ⊥ = cc in z

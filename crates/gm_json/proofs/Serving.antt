@@ -1,16 +1,11 @@
 -- A service in its midst.
 use Rattle.gm_json.proofs.Lower.{◌≡◌, ℕ, ◌+◌, ◌≤◌, ◌<◌, true, false, List, [], ◌∷◌, ◌++◌, length, take, codes, Option, refl, sym, ap, subst, ◌∙◌, append_assoc}
-use Rattle.gm_json.proofs.Lower.{arith, ◌==◌, length-take, length-append, Consumes, Keeps, GoesOn, Midst, kept_bytes, block_bytes, IsOfOutput}
-use Rattle.std.proofs.Common.{inl, inr}
+use Rattle.gm_json.proofs.Lower.{arith, ◌==◌, length-take, length-append, Consumes, Keeps, GoesOn, Midst, kept_bytes, block_bytes, IsOfOutput, inl, inr}
+use Rattle.gm_json.proofs.Lower.{Appends, IsAtEnd, Consumes-trans, Consumes-kept, Consumes-nil, Appends-trans, Appends-nil, Appends-kept, AskError, OutOfMemory}
+use Rattle.gm_json.proofs.Lower.{NotHeld, ReadFailed, WriteFailed, OutputClosed, AppendsPart, lines_from, lines_of, AreAnswers, IsServed, IsUnread}
+use Rattle.gm_json.proofs.Lower.{IsUnanswered, IsUnwritten, IsBroken, IsOfLine, IsLineDone, IsCut, IsLineBroken}
 use Rattle.std.proofs.Common.{append-nil}
-use Rattle.std.specs.Io.KnownBytes.{Appends, IsAtEnd}
-use Rattle.std.proofs.KnownBytes.{Consumes-trans, Consumes-kept, Consumes-nil, Appends-trans, Appends-nil, Appends-kept}
-use Rattle.gm_json.specs.declared.ask_error.AskError.{AskError}
-use Rattle.gm_json.specs.declared.ask_error.AskError.TheVariants.{OutOfMemory, NotHeld, ReadFailed, WriteFailed, OutputClosed}
-use Rattle.gm_play.specs.Sessions.{AppendsPart}
 use Rattle.gm_json.proofs.Splitting.{lines_more, lines_next, lines_end, lines_none, none_kept, kept_push, kept_full, one_begun}
-use Rattle.gm_json.specs.Asking.{lines_from, lines_of, AreAnswers, IsServed, IsUnread, IsUnanswered, IsUnwritten, IsBroken}
-use Rattle.gm_json.specs.Asking.{IsOfLine, IsLineDone, IsCut, IsLineBroken}
 
 module _ (Says : List ℕ → ℕ → List ℕ → Type 0) where
   -- the answers to some lines, and to those after them
@@ -220,33 +215,12 @@ module _ (Says : List ℕ → ℕ → List ℕ → Type 0) where
       writes = subst (Appends w0 w2) (append_assoc h.text h.done pending) (Appends-trans w0 w1 w2 (h.text ++ h.done) pending h.writes written);
     }
 
-    cut_after : (w2 : Option (List ℕ)) → (b == 10) ≡ true → (out : List ℕ) × Says kept number out × AppendsPart w1 w2 (pending ++ (out ++ codes "\n")) →
-        IsUnwritten Says r0 r1 w0 w2
-    cut_after w2 e (out, is, (done, rest, all, written)) = record {
-      bytes = h.bytes;
-      lines = h.lines;
-      begun = h.begun;
-      text = h.text;
-      parts = h.goes;
-      answers = h.answers;
-      block = h.block ++ b ∷ [];
-      ahead = ahead;
-      few = still_few;
-      reads = subst (Consumes r0 r1) moved h.reads;
-      later = h.later ++ h.line ∷ [];
-      others = [];
-      later_parts = ended e ∙ ap (λ (ls : List (List ℕ)). h.lines ++ ls) (sym (append-nil (h.later ++ h.line ∷ [])));
-      one = omega arith;
-      done = h.done ++ done;
-      rest = rest;
-      later_answers = subst (AreAnswers Says (1 + length h.lines) (h.later ++ h.line ∷ []))
-          (append_assoc h.done pending (out ++ codes "\n") ∙ ap (λ (l : List ℕ). h.done ++ l) all ∙ sym (append_assoc h.done done rest)) (answered out is);
-      writes = subst (Appends w0 w2) (append_assoc h.text h.done done) (Appends-trans w0 w1 w2 (h.text ++ h.done) done h.writes written);
-    }
-
     cut : (w2 : Option (List ℕ)) → (b == 10) ≡ true → IsCut Says kept number pending w1 w2 → IsUnwritten Says r0 r1 w0 w2
     cut w2 e (inl part) = unwritten number kept pending (b ∷ ahead) r0 r1 w0 w1 h w2 part
-    cut w2 e (inr after) = cut_after w2 e after
+    cut w2 e (inr (out, is, part)) =
+        let all = pending ++ (out ++ codes "\n") in
+        let done = line_done w1 [] all (number + 1) e refl refl (out, [], is, refl, Appends-nil w1) in
+        unwritten (number + 1) [] all ahead r0 r1 w0 w1 done w2 part
 
     pub line_broken : (w2 : Option (List ℕ)) (e : AskError) → (b == 10) ≡ true → IsLineBroken Says e kept number pending w1 w2 → IsBroken Says e r0 r1 w0 w2
     line_broken w2 OutOfMemory e written = inr (unanswered w2 e written)
@@ -308,17 +282,6 @@ module _ (Says : List ℕ → ℕ → List ℕ → Type 0) where
       last_answer out is = one_answer (1 + length h.lines) h.line out (subst (λ (k : ℕ). Says (take kept_bytes h.line) k out) h.numbered
           (subst (λ (l : List ℕ). Says l number out) h.keeps is))
 
-      pub last_served : (out : List ℕ) → Says kept number out → IsAtEnd r2 → Appends w1 w2 (out ++ codes "\n") → IsServed Says r0 r2 w0 w2
-      last_served out is end written = record {
-        bytes = h.bytes;
-        text = h.text ++ (out ++ codes "\n");
-        reads = all_read;
-        end = end;
-        answers = subst (λ (ls : List (List ℕ)). AreAnswers Says 1 ls (h.text ++ (out ++ codes "\n"))) (sym last_lines)
-            (answers_join 1 h.lines (h.line ∷ []) h.text (out ++ codes "\n") h.answers (last_answer out is));
-        writes = Appends-trans w0 w1 w2 h.text (out ++ codes "\n") h.writes written;
-      }
-
       last_unanswered : Keeps w1 w2 → IsUnanswered Says r0 r2 w0 w2
       last_unanswered kept_out = record {
         bytes = h.bytes;
@@ -362,18 +325,25 @@ module _ (Says : List ℕ → ℕ → List ℕ → Type 0) where
       last_refused WriteFailed k kept_out = absurd k
       last_refused OutputClosed k kept_out = absurd k
 
-      pub last_cut : (e : AskError) → IsOfOutput e → (out : List ℕ) → Says kept number out → AppendsPart w1 w2 (out ++ codes "\n") → IsBroken Says e r0 r2 w0 w2
-      last_cut e k out is part = broken_output e r0 r2 w0 w2 k (last_unwritten out is part)
-
       -- with what is answered and written in one
       pub last_done : (none all : List ℕ) → none ≡ [] → (out : List ℕ) × Says kept number out × (all ≡ none ++ (out ++ codes "\n")) → IsAtEnd r2 → Appends
           w1 w2 all → IsServed Says r0 r2 w0 w2
-      last_done none all e (out, is, a) end written = last_served out is end (subst (Appends w1 w2) (a ∙ ap (λ (l : List ℕ). l ++ (out ++ codes "\n")) e)
-          written)
+      last_done none all e (out, is, a) end written =
+          let answer = out ++ codes "\n" in
+          record {
+            bytes = h.bytes;
+            text = h.text ++ answer;
+            reads = all_read;
+            end = end;
+            answers = subst (λ (ls : List (List ℕ)). AreAnswers Says 1 ls (h.text ++ answer)) (sym last_lines)
+                (answers_join 1 h.lines (h.line ∷ []) h.text answer h.answers (last_answer out is));
+            writes = Appends-trans w0 w1 w2 h.text answer h.writes (subst (Appends w1 w2) (a ∙ ap (λ (l : List ℕ). l ++ answer) e) written);
+          }
 
       pub last_failed : (e : AskError) (none all : List ℕ) → none ≡ [] → (out : List ℕ) × Says kept number out × (all ≡ none ++ (out ++ codes "\n")) →
           IsOfOutput e → AppendsPart w1 w2 all → IsBroken Says e r0 r2 w0 w2
-      last_failed e none all n (out, is, a) k part = last_cut e k out is (subst (AppendsPart w1 w2) (a ∙ ap (λ (l : List ℕ). l ++ (out ++ codes "\n")) n) part)
+      last_failed e none all n (out, is, a) k part = broken_output e r0 r2 w0 w2 k
+          (last_unwritten out is (subst (AppendsPart w1 w2) (a ∙ ap (λ (l : List ℕ). l ++ (out ++ codes "\n")) n) part))
 
   -- the answers to a line, of which a first part is written
   pub line_said : (line : List ℕ) (n : ℕ) (answers all left : List ℕ) (w1 w2 : Option (List ℕ)) → (out : List ℕ) × Says line n out ×
@@ -394,12 +364,3 @@ module _ (Says : List ℕ → ℕ → List ℕ → Type 0) where
   line_cut ReadFailed line n answers w1 w2 k h = absurd k
   line_cut WriteFailed line n answers w1 w2 k h = h
   line_cut OutputClosed line n answers w1 w2 k h = h
-
-  -- a line is refused, and what was pending is written
-  pub line_refused : (e : AskError) (line : List ℕ) (n : ℕ) (answers : List ℕ) (w1 w2 : Option (List ℕ)) → IsOfLine e → Appends w1 w2 answers → IsLineBroken
-      Says e line n answers w1 w2
-  line_refused OutOfMemory line n answers w1 w2 k h = h
-  line_refused NotHeld line n answers w1 w2 k h = h
-  line_refused ReadFailed line n answers w1 w2 k h = absurd k
-  line_refused WriteFailed line n answers w1 w2 k h = absurd k
-  line_refused OutputClosed line n answers w1 w2 k h = absurd k

@@ -1,16 +1,8 @@
 -- Objects and arrays, written part by part.
 use Rattle.gm_json.proofs.Lower.{◌≡◌, ℕ, ◌<◌, ◌≤◌, Bool, true, List, [], ◌∷◌, ◌++◌, refl, sym, ap, ap₂, ◌∙◌, append_assoc, arith, list_all, utf8_lossy, quoted}
-use Rattle.gm_json.proofs.Lower.{Data, Members, member, comma_if, compact_text, items_text, members_text, value_word, is_clear, member_text, item_text}
-use Rattle.std.proofs.Common.{zero, suc}
-use Rattle.std.specs.Str.{IsAscii}
-use Rattle.std.proofs.lemmas.Bool.{and_parts}
-use Rattle.std.proofs.lemmas.Str.{utf8_lossy-IsUtf8, IsUtf8-from_ascii}
-use Rattle.json.specs.Print.{escape}
-use Rattle.json.proofs.Printed.Strings.{escape_byte_plain}
-use Rattle.serde_json.specs.Data.{Items, item}
-use Rattle.gm_game.specs.declared.position.Value.{Value}
-use Rattle.gm_game.specs.declared.position.Value.TheVariants.{Lose, Draw, Tie, Win}
-use Rattle.gm_json.specs.Parts.{key_text}
+use Rattle.gm_json.proofs.Lower.{Data, Members, member, comma_if, compact_text, items_text, members_text, value_word, is_clear, member_text, item_text, zero}
+use Rattle.gm_json.proofs.Lower.{suc, IsAscii, and_parts, utf8_lossy-IsUtf8, IsUtf8-from_ascii, escape, Items, item, Value, Lose, Draw, Tie, Win, key_text, ◌+◌}
+use Rattle.gm_json.proofs.Lower.{length, get_or, drop, map, items_of, drop_more, drop_all, escape_byte_plain}
 
 -- ---- strings
 -- what the test of a byte says
@@ -71,6 +63,20 @@ item_next old new later d ds e =
     let rest = items_text true ds in
     ap (λ (l : List ℕ). l ++ rest) e ∙ append_assoc old (item_text later d) rest ∙ ap (λ (l : List ℕ). old ++ l)
     (append_assoc (comma_if later) (compact_text d) rest)
+
+-- one more of some things, whose trees are the items of an array
+pub items_more : {X : Type 0} (tree : X → Data) (xs : List X) (k : ℕ) (d : X) (old new : List ℕ) (later : Bool) (all : List ℕ) → k < length xs
+    → new ≡ old ++ item_text later (tree (get_or xs k d)) → old ++ items_text later (items_of (map tree (drop k xs))) ≡ all
+    → new ++ items_text true (items_of (map tree (drop (k + 1) xs))) ≡ all
+items_more tree xs k d old new later all l n h =
+    item_next old new later (tree (get_or xs k d)) (items_of (map tree (drop (k + 1) xs))) n
+    ∙ ap (λ (ys : List _). old ++ items_text later (items_of (map tree ys))) (sym (drop_more xs k d l)) ∙ h
+
+-- the bracket after all of them
+pub items_end : {X : Type 0} (tree : X → Data) (xs : List X) (k : ℕ) (old new : List ℕ) (later : Bool) (all : List ℕ) → length xs ≤ k → new ≡ old ++ 93 ∷ []
+    → old ++ items_text later (items_of (map tree (drop k xs))) ≡ all → new ≡ all
+items_end tree xs k old new later all l n h =
+    n ∙ ap (λ (ys : List _). old ++ items_text later (items_of (map tree ys))) (sym (drop_all k xs l)) ∙ h
 
 -- a key and then its value
 pub value_after : (old mid new : List ℕ) (later : Bool) (k v : List ℕ) (d : Data) → mid ≡ old ++ key_text later k → new ≡ mid ++ v → v ≡ compact_text d →

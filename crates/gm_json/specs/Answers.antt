@@ -1,9 +1,7 @@
 -- The answer to a line that should be the text of a position.
 use Rattle.std.specs.Prelude.{◌≡◌, ℕ, ◌⊎◌, true, false, List, take, codes, if◌then◌else◌}
-use Rattle.gm_json.specs.Lower.{Data, string, object, Members, member, no_members, compact_text}
-use Rattle.gm_json.specs.Lower.{Position, Solved, Rules, IsTrueValue, MoveValue, chosen, AreMoveValues, BeginsBest, IsReadAs}
-use Rattle.gm_play.specs.Dialogue.{without_return}
-use Rattle.gm_play.specs.PlayTexts.{IsNoPosition}
+use Rattle.gm_json.specs.Lower.{Data, string, object, Members, member, no_members, compact_text, Position, Solved, Rules, IsTrueValue, MoveValue, chosen}
+use Rattle.gm_json.specs.Lower.{AreMoveValues, BeginsBest, IsReadAs, without_return, IsNoPosition}
 use Rattle.gm_json.specs.declared.asked.Asked.{Asked}
 use Rattle.gm_json.specs.Words.{whole, text}
 use Rattle.gm_json.specs.Moves.{move_trees, position_members}

@@ -1,7 +1,6 @@
 -- A service that reads positions, one on each line, and answers each line with a line.
 use Rattle.std.specs.Prelude.{◌≡◌, ℕ, ◌+◌, ◌≤◌, ◌==◌, ◌⊎◌, List, [], ◌∷◌, ◌++◌, length, take, codes, if◌then◌else◌, Option}
-use Rattle.gm_json.specs.Lower.{Appends, Consumes, Keeps, IsAtEnd}
-use Rattle.gm_json.specs.Lower.{AppendsPart}
+use Rattle.gm_json.specs.Lower.{Appends, Consumes, Keeps, IsAtEnd, AppendsPart}
 use Rattle.gm_json.specs.declared.ask_error.AskError.{AskError}
 use Rattle.gm_json.specs.declared.ask_error.AskError.TheVariants.{OutOfMemory, NotHeld, ReadFailed, WriteFailed, OutputClosed}
 

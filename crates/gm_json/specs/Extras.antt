@@ -1,10 +1,7 @@
 -- What is reported of a position besides its value and its moves.
-use Rattle.std.specs.Prelude.{◌≡◌, ℕ, ◌+◌, Bool, true, false, List, [], ◌∷◌, ◌++◌, map, codes, if◌then◌else◌}
-use Rattle.gm_json.specs.Lower.{flat_map, Data, array, object, Members, member}
-use Rattle.gm_json.specs.Lower.{no_members, items_of, members_text, Position, Rules, BestLine, IsBestLine, IsWhole}
-use Rattle.std.specs.Prelude.{zero, suc}
-use Rattle.gm_game.specs.Rules.{at}
-use Rattle.gm_play.specs.Firsts.{is_same}
+use Rattle.std.specs.Prelude.{◌≡◌, ℕ, ◌+◌, Bool, true, false, List, [], ◌∷◌, ◌++◌, map, codes, if◌then◌else◌, zero, suc}
+use Rattle.gm_json.specs.Lower.{flat_map, Data, array, object, Members, member, no_members, items_of, members_text, Position, Rules, BestLine, IsBestLine}
+use Rattle.gm_json.specs.Lower.{IsWhole, at, is_same}
 use Rattle.gm_json.specs.declared.asked.With.{With}
 use Rattle.gm_json.specs.Words.{whole, text}
 

@@ -1,10 +1,7 @@
 -- Found positions, as JSON trees.
 use Rattle.std.specs.Prelude.{◌≡◌, ℕ, Bool, List, codes}
-use Rattle.gm_json.specs.Lower.{flat_map, Data, string, object, member, no_members, Position, Rules, value_word}
-use Rattle.gm_find.specs.declared.found.Found.{Found}
-use Rattle.gm_find.specs.declared.sought.Sought.{Sought}
+use Rattle.gm_json.specs.Lower.{flat_map, Data, string, object, member, no_members, Position, Rules, value_word, Found, Sought, AreChosen}
 use Rattle.gm_find.specs.declared.sought.Choice.{Choice}
-use Rattle.gm_find.specs.Founds.{AreChosen}
 use Rattle.gm_json.specs.Words.{whole, text, move_or_null, line_of}
 
 -- a found position: its best move, the number of its moves, its text and its value; the members in alphabetical order

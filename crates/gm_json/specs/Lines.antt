@@ -1,10 +1,7 @@
 -- Lines of best play, as JSON trees.
 use Rattle.std.specs.Prelude.{◌≡◌, ℕ, List, [], ◌∷◌, ◌++◌, codes}
-use Rattle.gm_json.specs.Lower.{Data, null, string, object, member, no_members, Position, Solved, Rules, IsTrueValue}
-use Rattle.gm_json.specs.Lower.{BestLine, IsBestLine, IsWhole, value_word, IsReadAs}
-use Rattle.gm_play.specs.declared.best_line.LineEnd.{LineEnd}
-use Rattle.gm_play.specs.declared.best_line.LineEnd.TheVariants.{Over, Again, Cut}
-use Rattle.gm_play.specs.PlayTexts.{after_best}
+use Rattle.gm_json.specs.Lower.{Data, null, string, object, member, no_members, Position, Solved, Rules, IsTrueValue, BestLine, IsBestLine, IsWhole, value_word}
+use Rattle.gm_json.specs.Lower.{IsReadAs, LineEnd, Over, Again, Cut, after_best}
 use Rattle.gm_json.specs.Words.{whole, text, line_of}
 
 -- the tree with the place where the last position has come before

@@ -1,7 +1,7 @@
 -- What the moves of a position are worth, as a JSON tree.
 use Rattle.std.specs.Prelude.{◌≡◌, ℕ, Bool, List, map, codes}
-use Rattle.gm_json.specs.Lower.{Data, string, array, object, Members, member, no_members, items_of, compact_text, Position}
-use Rattle.gm_json.specs.Lower.{Solved, Rules, IsTrueValue, MoveValue, chosen, AreMoveValues, BeginsBest, value_word, IsReadAs}
+use Rattle.gm_json.specs.Lower.{Data, string, array, object, Members, member, no_members, items_of, compact_text, Position, Solved, Rules, IsTrueValue}
+use Rattle.gm_json.specs.Lower.{MoveValue, chosen, AreMoveValues, BeginsBest, value_word, IsReadAs}
 use Rattle.gm_json.specs.Words.{whole, text}
 
 module _ (r : Rules) (shown : Position → List ℕ) (move_shown : Position → ℕ → List ℕ) where

@@ -1,7 +1,6 @@
 -- The texts of JSON, part by part.
-use Rattle.std.specs.Prelude.{ℕ, Bool, ◌==◌, List, [], ◌∷◌, ◌++◌}
+use Rattle.std.specs.Prelude.{ℕ, Bool, ◌==◌, List, [], ◌∷◌, ◌++◌, not, ◌&&◌, nat_le, nat_lt}
 use Rattle.gm_json.specs.Lower.{quoted, Data, comma_if, compact_text}
-use Rattle.std.specs.Prelude.{not, ◌&&◌, nat_le, nat_lt}
 
 -- a byte that stands for itself in a string: visible ASCII or a space, but no quote and no backslash
 abbrev pub is_clear : ℕ → Bool

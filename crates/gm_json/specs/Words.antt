@@ -1,8 +1,6 @@
 -- Texts and values in JSON.
-use Rattle.std.specs.Prelude.{ℕ, List, ◌++◌, codes, Option}
-use Rattle.gm_json.specs.Lower.{utf8_lossy, Data, null, string, compact_text, Position}
-use Rattle.std.specs.Prelude.{None, Some}
-use Rattle.serde_json.specs.Data.{number, unsigned}
+use Rattle.std.specs.Prelude.{ℕ, List, ◌++◌, codes, Option, None, Some}
+use Rattle.gm_json.specs.Lower.{utf8_lossy, Data, null, string, compact_text, Position, number, unsigned}
 
 abbrev pub whole : ℕ → Data
 whole n = number (unsigned n)

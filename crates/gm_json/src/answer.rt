@@ -1,10 +1,8 @@
 //! The answer to one line that should be the text of a position.
-ghost use Rattle.std.specs.Prelude.{◌≡◌, ◌++◌, ◌∷◌, true, false, take, IfOk, IfErr, OnOk, IsErrOf};
-ghost use Rattle.gm_json.specs.Lower.{All, Position, Members, compact_text, members_text};
-ghost use Rattle.gm_json.specs.Lower.{IsNotHeld, IsMoveOf, IsReadAs};
-ghost use Rattle.std.specs.Prelude.{◌↔◌};
+ghost use Rattle.std.specs.Prelude.{◌≡◌, ◌++◌, ◌∷◌, true, false, take, IfOk, IfErr, OnOk, IsErrOf, ◌↔◌};
+ghost use Rattle.gm_json.specs.Lower.{All, Position, Members, compact_text, members_text, IsNotHeld, IsMoveOf, IsReadAs};
 ghost use Rattle.gm_play.specs.Dialogue.{without_return as without_return_spec};
-ghost use Rattle.gm_json.specs.Answers.{IsAnswer, IsPositionJson, IsTold, answer_members, read_bytes, unread_tree, error_tree};
+ghost use Rattle.gm_json.specs.Answers.{IsAnswer, IsPositionJson, IsTold, answer_members, read_bytes, error_tree};
 ghost use Rattle.gm_json.specs.Asking.{IsOfLine};
 
 use crate::ask_error::AskError;
@@ -115,7 +113,11 @@ fn no_position(alloc: Global, number: u64, line: &[u8]) -> Result<Vec<u8>, Alloc
     ensures { IfOk result (λ out. out.items ≡ compact_text (error_tree number line.now)) }
 {
     let mut out = Vec::new(alloc);
-    push_no_position(alloc, &mut out, number, first_bytes(line))?;
+    push_bytes(&mut out, b"{")?;
+    push_text_member(alloc, &mut out, false, "error", b"no such position")?;
+    push_number_member(&mut out, true, "line", number)?;
+    push_text_member(alloc, &mut out, true, "read", first_bytes(line))?;
+    push_bytes(&mut out, b"}")?;
     Ok(out)
 }
 
@@ -128,19 +130,4 @@ fn first_bytes(line: &[u8]) -> &[u8]
     } else {
         &line[..READ]
     }
-}
-
-fn push_no_position(
-    alloc: Global,
-    out: &mut Vec<u8>,
-    number: u64,
-    read: &[u8],
-) -> Result<(), AllocError>
-    ensures { OnOk result (out.new.items ≡ out.old.items ++ compact_text (unread_tree number read.now)) }
-{
-    push_bytes(out, b"{")?;
-    push_text_member(alloc, out, false, "error", b"no such position")?;
-    push_number_member(out, true, "line", number)?;
-    push_text_member(alloc, out, true, "read", read)?;
-    push_bytes(out, b"}")
 }

@@ -1,8 +1,6 @@
 //! A service that reads positions, one per line, and answers each with a line of JSON.
-ghost use Rattle.std.specs.Prelude.{◌≡◌, ◌+◌, ◌≤◌, ◌∷◌, ◌++◌, [], List, ℕ, Option, codes, length, IfOk, OnOk, IfErr, IsErrOf};
-ghost use Rattle.gm_json.specs.Lower.{Appends, Consumes, Keeps};
-ghost use Rattle.gm_json.specs.Lower.{IsAtEnd, Position, AppendsPart, IsNotHeld};
-ghost use Rattle.std.specs.Prelude.{◌<◌, ◌^◌, OnErr};
+ghost use Rattle.std.specs.Prelude.{◌≡◌, ◌+◌, ◌≤◌, ◌∷◌, ◌++◌, [], List, ℕ, Option, codes, length, IfOk, OnOk, IfErr, IsErrOf, ◌<◌, ◌^◌, OnErr};
+ghost use Rattle.gm_json.specs.Lower.{Appends, Consumes, Keeps, IsAtEnd, Position, AppendsPart, IsNotHeld};
 ghost use Rattle.gm_json.specs.Answers.{IsAnswer};
 ghost use Rattle.gm_json.specs.Asking.{IsServed, IsBroken, IsLineDone, IsLineBroken, IsOfOutput, IsOfLine};
 ghost use Rattle.gm_json.specs.Midst.{GoesOn, Midst};

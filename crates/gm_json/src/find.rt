@@ -1,9 +1,6 @@
 //! Found positions, in JSON.
-ghost use Rattle.std.specs.Prelude.{◌≡◌, [], true, IfOk, OnOk};
-ghost use Rattle.gm_json.specs.Lower.{All, flat_map, object, view, members_view};
-ghost use Rattle.std.specs.Prelude.{is_some};
-ghost use Rattle.gm_play.specs.BestMoves.{IsBestMove};
-ghost use Rattle.gm_find.specs.Founds.{IsFound};
+ghost use Rattle.std.specs.Prelude.{◌≡◌, [], true, IfOk, OnOk, is_some};
+ghost use Rattle.gm_json.specs.Lower.{All, flat_map, object, view, members_view, IsBestMove, IsFound};
 ghost use Rattle.gm_json.specs.Words.{move_or_null};
 ghost use Rattle.gm_json.specs.Founds.{found_tree, found_line, IsFoundJson};
 
@@ -42,19 +39,11 @@ pub fn found_lines<G: Shown>(alloc: Global, found: &[Found]) -> Result<Vec<u8>, 
 {
     let mut lines = Vec::new(alloc);
     for x in found {
-        let tree = found_value::<G>(alloc, x)?;
-        push_line(alloc, &mut lines, tree)?;
+        let mut members = Map::new(alloc);
+        put_found::<G>(alloc, &mut members, *x)?;
+        push_line(alloc, &mut lines, Json::Object(members))?;
     }
     Ok(lines)
-}
-
-fn found_value<G: Shown>(alloc: Global, x: &Found) -> Result<Json, AllocError>
-    requires { IsFound G.Game.rules x.now }
-    ensures { IfOk result (λ v. view v ≡ found_tree G.shown G.move_shown x.now) }
-{
-    let mut members = Map::new(alloc);
-    put_found::<G>(alloc, &mut members, *x)?;
-    Ok(Json::Object(members))
 }
 
 // Puts the members of a found position into an empty object.

@@ -1,8 +1,8 @@
 //! Lines of best play, in JSON.
 ghost use Rattle.std.specs.Prelude.{◌≡◌, ◌++◌, [], true, false, IfOk, OnOk};
-ghost use Rattle.gm_json.specs.Lower.{null, object, view, members_view, has_float, IsTrueValue, AreBest};
+ghost use Rattle.gm_json.specs.Lower.{null, object, view, members_view, has_float};
 ghost use Rattle.gm_json.specs.Words.{line_of};
-ghost use Rattle.gm_json.specs.Lines.{again_tree, end_line, step_tree, steps_from, IsLineJson};
+ghost use Rattle.gm_json.specs.Lines.{again_tree, end_line, step_tree, IsLineJson};
 
 use crate::words::{push_line, put_text, put_word, text_value};
 use gm_game::position::{Position, Solved};
@@ -24,40 +24,17 @@ pub fn line_json<G: Shown>(
     ensures { IfOk result (λ v. IsLineJson G.Game.rules G.shown G.move_shown (G.shown start.now.position) limit v.items) }
 {
     let line = best_line(alloc, start, limit)?;
-    line_lines::<G>(
-        alloc,
-        start.position,
-        start.value(),
-        line.moves.as_slice(),
-        line.end,
-    )
-}
-
-// Returns the lines of best moves from a position of this value.
-fn line_lines<G: Shown>(
-    alloc: Global,
-    start: Position,
-    value: Solved,
-    moves: &[u32],
-    end: LineEnd,
-) -> Result<Vec<u8>, AllocError>
-    requires legal { G.Game.rules.is_legal start ≡ true }
-    requires value { IsTrueValue G.Game.rules start value }
-    requires best { AreBest G.Game.rules start moves.now }
-    ensures { IfOk result (λ v. v.items ≡ line_of (step_tree G.shown null start value) ++ steps_from G.Game.rules G.shown G.move_shown start value moves.now
-        ++ end_line end) }
-{
     let mut lines = Vec::new(alloc);
-    push_step::<G>(alloc, &mut lines, Json::Null, start, value)?;
-    let mut p = start;
-    let mut value = value;
-    for number in moves {
+    let mut p = start.position;
+    let mut value = start.value();
+    push_step::<G>(alloc, &mut lines, Json::Null, p, value)?;
+    for number in line.moves.as_slice() {
         let name = text_value(alloc, G::move_text(p, *number).as_slice())?;
         p = G::play(p, *number);
         value = value_after(value);
         push_step::<G>(alloc, &mut lines, name, p, value)?;
     }
-    push_end(alloc, &mut lines, end)?;
+    push_end(alloc, &mut lines, line.end)?;
     Ok(lines)
 }
 

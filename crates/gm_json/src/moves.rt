@@ -2,7 +2,7 @@
 ghost use Rattle.std.specs.Prelude.{◌≡◌, ◌++◌, true, false, codes, IfOk, OnOk};
 ghost use Rattle.gm_json.specs.Lower.{All, Members, compact_text, members_text, IsMoveOf};
 ghost use Rattle.gm_json.specs.Parts.{member_text};
-ghost use Rattle.gm_json.specs.Moves.{move_tree, move_trees, moves_tree, position_members, IsMovesJson};
+ghost use Rattle.gm_json.specs.Moves.{move_tree, move_trees, position_members, IsMovesJson};
 
 use crate::parts::{
     push_bytes, push_comma, push_key, push_number_member, push_text_member, push_value_member,
@@ -26,32 +26,11 @@ pub fn moves_json<G: Shown>(
 {
     let list = moves_of(known, distinct);
     let mut line = Vec::new(alloc);
-    push_position::<G>(
-        alloc,
-        &mut line,
-        known.position,
-        known.value(),
-        list.as_slice(),
-    )?;
+    push_bytes(&mut line, b"{")?;
+    push_moves::<G>(alloc, &mut line, known.position, list.as_slice())?;
+    push_value::<G>(alloc, &mut line, true, known.position, known.value())?;
+    push_bytes(&mut line, b"}")?;
     Ok(line)
-}
-
-// Appends a legal position with some of its moves.
-fn push_position<G: Shown>(
-    alloc: Global,
-    out: &mut Vec<u8>,
-    p: Position,
-    value: Solved,
-    list: &[MoveValue],
-) -> Result<(), AllocError>
-    requires legal { G.Game.rules.is_legal p ≡ true }
-    requires each { All (IsMoveOf G.Game.rules p) list.now }
-    ensures { OnOk result (out.new.items ≡ out.old.items ++ compact_text (moves_tree G.Game.rules G.shown G.move_shown p value list.now)) }
-{
-    push_bytes(out, b"{")?;
-    push_moves::<G>(alloc, out, p, list)?;
-    push_value::<G>(alloc, out, true, p, value)?;
-    push_bytes(out, b"}")
 }
 
 /// Appends the members that have a position, its value and its remoteness.
@@ -83,19 +62,6 @@ pub(crate) fn push_moves<G: Shown>(
     ensures { OnOk result (out.new.items ≡ out.old.items ++ member_text false (codes "moves") (move_trees G.Game.rules G.shown G.move_shown p list.now)) }
 {
     push_key(out, false, "moves")?;
-    push_list::<G>(alloc, out, p, list)
-}
-
-fn push_list<G: Shown>(
-    alloc: Global,
-    out: &mut Vec<u8>,
-    p: Position,
-    list: &[MoveValue],
-) -> Result<(), AllocError>
-    requires legal { G.Game.rules.is_legal p ≡ true }
-    requires each { All (IsMoveOf G.Game.rules p) list.now }
-    ensures { OnOk result (out.new.items ≡ out.old.items ++ compact_text (move_trees G.Game.rules G.shown G.move_shown p list.now)) }
-{
     push_bytes(out, b"[")?;
     let mut later = false;
     for x in list {

@@ -1,8 +1,6 @@
 //! The texts of JSON, appended part by part.
 ghost use Rattle.std.specs.Prelude.{◌≡◌, ◌++◌, true, OnOk};
-ghost use Rattle.gm_json.specs.Lower.{utf8_lossy, quoted, string, comma_if, value_word};
-ghost use Rattle.std.specs.List.{list_all};
-ghost use Rattle.std.specs.Fmt.{decimal};
+ghost use Rattle.gm_json.specs.Lower.{utf8_lossy, quoted, string, comma_if, value_word, list_all, decimal};
 ghost use Rattle.gm_json.specs.Parts.{is_clear as is_clear_spec, key_text, member_text};
 ghost use Rattle.gm_json.specs.Words.{whole, text as text_spec};
 

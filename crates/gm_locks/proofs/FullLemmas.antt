@@ -1,7 +1,7 @@
 -- A pass is full exactly if it has delivered all pairs of the level.
-use Rattle.std.proofs.Common.{◌≡◌, ℕ, ◌+◌, ◌↔◌, inl, inr, length, List, sym, arith, Some, IsTrue, ◌==◌}
-use Rattle.gm_locks.proofs.Lower.{Decides-eqb, Phase, Place, Rules, IsGame, AreThere, no_longer, NoteData, IsLevel, ExpectedData, IsExpected, IsNumberBefore}
-use Rattle.gm_locks.proofs.Lower.{Follows, no_repeats_from, level_added, ties_begin, Spot, pairs_into, place_of_spot, IsForSpot}
+use Rattle.gm_locks.proofs.Lower.{◌≡◌, ℕ, ◌+◌, ◌↔◌, inl, inr, length, List, sym, arith, Some, IsTrue, ◌==◌, Decides-eqb, Phase, Place, Rules, IsGame, AreThere}
+use Rattle.gm_locks.proofs.Lower.{no_longer, NoteData, IsLevel, ExpectedData, IsExpected, IsNumberBefore, Follows, no_repeats_from, level_added, ties_begin}
+use Rattle.gm_locks.proofs.Lower.{Spot, pairs_into, place_of_spot, IsForSpot}
 
 -- there is one number of things of a kind
 pub there_once : {A : Type 0} (Is : A → Type 0) (m n : ℕ) → AreThere m Is → AreThere n Is → m ≡ n

@@ -1,8 +1,8 @@
 -- What a delivery answers by where the shard stands, and by how much it raises the number of pairs.
-use Rattle.std.proofs.Common.{◌≡◌, ℕ, ◌+◌, ◌≤◌, ◌⊎◌, ◌↔◌, inl, inr, List, sym, refl, ap, subst, ◌∙◌, arith, Result, Ok, Err}
-use Rattle.gm_locks.proofs.Lower.{Contains, REMOTENESS, Position, Rules, has_new, has_old, with_cases, NoteData, Delivery, Fresh, FreshSettled, Repeat, Refused}
-use Rattle.gm_locks.proofs.Lower.{NotThisLevel, NotMine, NotAParent, TooFar, ShardState, IsInRange, delivered_to, with_pair, pairs_in, IsPairHere, Delivers}
-use Rattle.gm_locks.proofs.Lower.{IsAdded, Spot, spot_of, gain, IsAnswer, count_same, cases_at, pairs_more, outcome}
+use Rattle.gm_locks.proofs.Lower.{◌≡◌, ℕ, ◌+◌, ◌≤◌, ◌⊎◌, ◌↔◌, inl, inr, List, sym, refl, ap, subst, ◌∙◌, arith, Result, Ok, Err, Contains, REMOTENESS, Position}
+use Rattle.gm_locks.proofs.Lower.{Rules, has_new, has_old, with_cases, NoteData, Delivery, Fresh, FreshSettled, Repeat, Refused, NotThisLevel, NotMine}
+use Rattle.gm_locks.proofs.Lower.{NotAParent, TooFar, ShardState, IsInRange, delivered_to, with_pair, pairs_in, IsPairHere, Delivers, IsAdded, Spot, spot_of}
+use Rattle.gm_locks.proofs.Lower.{gain, IsAnswer, count_same, cases_at, pairs_more, outcome}
 
 -- what is delivered with a pair more: what was, and the pair
 pub delivered_more : (s : ShardState) (x : NoteData × ℕ) → IsInRange s x.1 → (y : NoteData × ℕ) → IsInRange s y.1

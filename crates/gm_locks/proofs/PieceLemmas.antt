@@ -1,12 +1,12 @@
 -- A shard to which the pieces of a level are delivered, each pair once.
-use Rattle.std.proofs.Common.{◌≡◌, ℕ, zero, suc, ◌+◌, ◌-◌, ◌<◌, ◌≤◌, ◌==◌, max, inl, inr, Bool, true, false, List, [], ◌∷◌, ◌++◌, length, take, drop, replicate}
-use Rattle.std.proofs.Common.{get_or, set, slice_get, refl, sym, ap, subst, ◌∙◌, arith, Some, Result, get_or-set_same, get_or-set_other, length-set, ◌⊎◌}
-use Rattle.gm_locks.proofs.Lower.{Contains, div_ceil, IsOk, cases_eq, Decides-eqb, length-take-le, length-drop, length-replicate, take_more, get_or-drop}
-use Rattle.gm_locks.proofs.Lower.{slice_get-get_or, slice_get_within, get_or_from_slice_get, Position, Rules, IsParent, IsGame, map_in, NoteData, IsLevel}
-use Rattle.gm_locks.proofs.Lower.{piece_of, same_image, no_repeats_before, in_pairs, in_piece, pairs_have, positions_once, near_of_pair, contains_taken}
-use Rattle.gm_locks.proofs.Lower.{one_piece, in_some_piece, Delivery, Refused, ShardState, IsInRange, delivered_to, with_pair, pairs_in, IsGood, Delivers}
-use Rattle.gm_locks.proofs.Lower.{IsAdded, IsWhole, place_of, Spot, spot_of, pairs_into, place_of_spot, AreFirst, HasNoneHere, PiecedData, piece_pairs}
-use Rattle.gm_locks.proofs.Lower.{IsPieced, AreNew, IsTurnAt, stands_now, get_or-set_at}
+use Rattle.gm_locks.proofs.Lower.{◌≡◌, ℕ, zero, suc, ◌+◌, ◌-◌, ◌<◌, ◌≤◌, ◌==◌, max, inl, inr, Bool, true, false, List, [], ◌∷◌, ◌++◌, length, take, drop}
+use Rattle.gm_locks.proofs.Lower.{replicate, get_or, set, slice_get, refl, sym, ap, subst, ◌∙◌, arith, Some, Result, get_or-set_same, get_or-set_other}
+use Rattle.gm_locks.proofs.Lower.{length-set, ◌⊎◌, Contains, div_ceil, IsOk, cases_eq, Decides-eqb, length-take-le, length-drop, length-replicate, take_more}
+use Rattle.gm_locks.proofs.Lower.{get_or-drop, slice_get-get_or, slice_get_within, get_or_from_slice_get, Position, Rules, IsParent, IsGame, map_in, NoteData}
+use Rattle.gm_locks.proofs.Lower.{IsLevel, piece_of, same_image, no_repeats_before, in_pairs, in_piece, pairs_have, positions_once, near_of_pair}
+use Rattle.gm_locks.proofs.Lower.{contains_taken, one_piece, in_some_piece, Delivery, Refused, ShardState, IsInRange, delivered_to, with_pair, pairs_in, IsGood}
+use Rattle.gm_locks.proofs.Lower.{Delivers, IsAdded, IsWhole, place_of, Spot, spot_of, pairs_into, place_of_spot, AreFirst, HasNoneHere, PiecedData}
+use Rattle.gm_locks.proofs.Lower.{piece_pairs, IsPieced, AreNew, IsTurnAt, stands_now, get_or-set_at}
 use Rattle.gm_locks.proofs.Gains.{gained, gain_is, stays, delivered_more}
 use Rattle.gm_locks.proofs.RoundLemmas.{AreHere, item_in, next_here, first_none, of_piece}
 pub use Rattle.gm_locks.proofs.Gains.{added_is, ok_added}

@@ -1,6 +1,6 @@
 -- Where positions stand, by their values.
-use Rattle.std.proofs.Common.{◌≡◌, ℕ, inl, inr, subst}
-use Rattle.gm_locks.proofs.Lower.{Position, Solved, Value, Lose, Draw, Tie, Win, Phase, WinLose, Ties, Rules, HasValue, IsTrueValue, StandsAt, HasValue_once}
+use Rattle.gm_locks.proofs.Lower.{◌≡◌, ℕ, inl, inr, subst, Position, Solved, Value, Lose, Draw, Tie, Win, Phase, WinLose, Ties, Rules, StandsAt, HasValue_once}
+use Rattle.gm_game.specs.Values.{HasValue, IsTrueValue}
 pub use Rattle.gm_shard.proofs.AddedLemmas.{value_stands}
 
 -- what is at a level has that remoteness

@@ -1,13 +1,12 @@
 -- A shard to which the pairs of a level are delivered in their order.
-use Rattle.std.proofs.Common.{◌≡◌, ℕ, zero, suc, ◌+◌, ◌<◌, inl, inr, List, [], ◌∷◌, length, slice_get, refl, sym, ap, ap₂, subst, ◌∙◌, arith, Some, Result, Ok}
-use Rattle.std.proofs.Common.{Err, Option, true, false}
-use Rattle.gm_locks.proofs.Lower.{Contains, SkipsThenYields, YieldsFirst, nth_from_yields_List, YieldsList-from_first, option_map_id, cases_lt}
-use Rattle.gm_locks.proofs.Lower.{slice_get_within, get_or_from_slice_get, Contains-get_or, Place, Rules, at, IsParent, IsGame, HasNoRepeats, NoteData}
-use Rattle.gm_locks.proofs.Lower.{IsNoteAt, LevelData, IsLevel, positions, pairs_once, in_pairs, in_piece, positions_once, piece_positions_once, pairs_of}
-use Rattle.gm_locks.proofs.Lower.{piece_of, ExpectedData, IsExpected, same_image, now_stands, Delivery, Fresh, FreshSettled, Repeat, Refused, NotThisLevel}
-use Rattle.gm_locks.proofs.Lower.{NotMine, NotAParent, TooFar, ShardState, IsInRange, delivered_to, with_pair, pairs_in, IsGood, Delivers, IsWhole, whole_from}
-use Rattle.gm_locks.proofs.Lower.{Spot, spot_of, gain, IsDeliverable, pairs_into, place_of_spot, AreFirst, IsRound, HasNoneHere, IsForSpot, IsLevelAt}
-use Rattle.gm_locks.proofs.Lower.{IsNextAnswer, note_stands, slice_get_cases, is_err, outcome, IsAdded, IsRefusedAt}
+use Rattle.gm_locks.proofs.Lower.{◌≡◌, ℕ, zero, suc, ◌+◌, ◌<◌, inl, inr, List, [], ◌∷◌, length, slice_get, refl, sym, ap, ap₂, subst, ◌∙◌, arith, Some, Result}
+use Rattle.gm_locks.proofs.Lower.{Ok, Err, Option, true, false, Contains, SkipsThenYields, YieldsFirst, nth_from_yields_List, YieldsList-from_first}
+use Rattle.gm_locks.proofs.Lower.{option_map_id, cases_lt, slice_get_within, get_or_from_slice_get, Contains-get_or, Place, Rules, at, IsParent, IsGame}
+use Rattle.gm_locks.proofs.Lower.{HasNoRepeats, NoteData, IsNoteAt, LevelData, IsLevel, positions, pairs_once, in_pairs, in_piece, positions_once}
+use Rattle.gm_locks.proofs.Lower.{piece_positions_once, pairs_of, piece_of, ExpectedData, IsExpected, same_image, now_stands, Delivery, Fresh, FreshSettled}
+use Rattle.gm_locks.proofs.Lower.{Repeat, Refused, NotThisLevel, NotMine, NotAParent, TooFar, ShardState, IsInRange, delivered_to, with_pair, pairs_in, IsGood}
+use Rattle.gm_locks.proofs.Lower.{Delivers, IsWhole, whole_from, Spot, spot_of, gain, IsDeliverable, pairs_into, place_of_spot, AreFirst, IsRound, HasNoneHere}
+use Rattle.gm_locks.proofs.Lower.{IsForSpot, IsLevelAt, IsNextAnswer, note_stands, slice_get_cases, is_err, outcome, IsAdded, IsRefusedAt}
 use Rattle.gm_locks.proofs.Gains.{gained, delivered_more, gain_is, ok_added}
 
 -- the item at a place of a list without repeats is at no other place

@@ -2,11 +2,7 @@
 use Rattle.gm_page.proofs.Lower.{◌≡◌, ℕ, ◌+◌, ◌<◌, ◌≤◌, Bool, true, false, cond, eqb-true, List, [], ◌∷◌, ◌++◌, length, Option, None, Some, is_some, refl, sym}
 use Rattle.gm_page.proofs.Lower.{ap, ◌∙◌, subst, ◌⊎◌, inl, inr, arith, get, Contains, cases_Bool, cond-true, cond-false, and_parts, and_from, false≢true}
 use Rattle.gm_page.proofs.Lower.{Position, at, contains_none, contains_first, contains_later, contains_cases, is_same, place_from, place_of, is_key, Tells}
-use Rattle.gm_page.proofs.Lower.{with_new}
-use Rattle.std.proofs.Common.{nat_eq, eq-eqb, leb, leb-true, le-leb, ◌↔◌}
-use Rattle.std.specs.HashMap.{HashMap}
-use Rattle.std.proofs.lemmas.Bool.Decides.{nat_tests}
-use Rattle.gm_game.proofs.SetLemmas.{same_position}
+use Rattle.gm_page.proofs.Lower.{with_new, nat_eq, eq-eqb, leb, leb-true, ◌↔◌, HashMap, nat_tests, same_position}
 
 -- the test for equal positions
 same_is : (p q : Position) → is_same p q ≡ true → p ≡ q
@@ -64,16 +60,10 @@ place_kept n (x ∷ xs) p q e = ap (λ (o : Option ℕ). cond (is_same q x) (Som
 key_apart : (p : Position) (k : ℕ × ℕ) → is_key (p.tier, p.index) k ≡ false → is_same (at k.0 k.1) p ≡ false
 key_apart p k e = elim (cases_Bool (is_same (at k.0 k.1) p)) [
   | inl f ↦ (
-      let g : at k.0 k.1 ≡ p = same_is (at k.0 k.1) p f in
-      let t : p.tier ≡ k.0 = ap (λ (q : Position). q.tier) (sym g) in
-      let i : p.index ≡ k.1 = ap (λ (q : Position). q.index) (sym g) in
-      let h : is_key (p.tier, p.index) k ≡ true = and_from _ _ (eq-eqb p.tier k.0 t) (eq-eqb p.index k.1 i) in
+      let g : is_same p (at k.0 k.1) ≡ true = subst (λ (q : Position). is_same p q ≡ true) (sym (same_is (at k.0 k.1) p f)) (same_self p) in
       absurd (let z : ⊥ = cc in z))
   | inr f ↦ f
 ]
-
-key_same : (p : Position) (k : ℕ × ℕ) → is_key (p.tier, p.index) k ≡ true → at k.0 k.1 ≡ p
-key_same p k e = let (a, b) = and_parts (nat_eq p.tier k.0) (nat_eq p.index k.1) e in same_position (at k.0 k.1) p (sym (eqb-true _ _ a)) (sym (eqb-true _ _ b))
 
 module _ {S : Type 0} where
   -- a map with one more position
@@ -81,7 +71,7 @@ module _ {S : Type 0} where
       → ((k : ℕ × ℕ) → get is_key new k ≡ cond (is_key (p.tier, p.index) k) (Some (length ps)) (get is_key old k)) → Tells new (ps ++ p ∷ [])
   tells_more old new ps p tells none updates k = elim (cases_Bool (is_key (p.tier, p.index) k)) [
     | inl f ↦ updates k ∙ cond-true _ _ _ f ∙ sym (place_added 0 ps p none ∙ ap Some (let z : 0 + length ps ≡ length ps = omega arith in z)) ∙ ap
-        (place_from 0 (ps ++ p ∷ [])) (sym (key_same p k f))
+        (place_from 0 (ps ++ p ∷ [])) (same_is p (at k.0 k.1) f)
     | inr f ↦ updates k ∙ cond-false _ _ _ f ∙ tells k ∙ sym (place_kept 0 ps p (at k.0 k.1) (key_apart p k f))
   ]
 
@@ -93,30 +83,14 @@ added limit old p o = cond (is_some o) old (cond (leb limit (length old)) old (o
 not_le : (a b : ℕ) → leb a b ≡ false → b < a
 not_le a b e = grind (arith, nat_tests)
 
-pub new_listed : (limit : ℕ) (old : List Position) (p : Position) (k : ℕ) → place_of old p ≡ Some k → with_new limit old p ≡ old
-new_listed limit old p k e = ap (added limit old p) e
-
-new_missing : (limit : ℕ) (old : List Position) (p : Position) → place_of old p ≡ None → with_new limit old p ≡ cond (leb limit (length old)) old
-    (old ++ p ∷ [])
-new_missing limit old p e = ap (added limit old p) e
-
-pub new_full : (limit : ℕ) (old : List Position) (p : Position) → place_of old p ≡ None → limit ≤ length old → with_new limit old p ≡ old
-new_full limit old p e l = new_missing limit old p e ∙ cond-true _ _ _ (le-leb _ _ l)
-
-pub new_room : (limit : ℕ) (old : List Position) (p : Position) → place_of old p ≡ None → length old < limit → with_new limit old p ≡ old ++ p ∷ []
-new_room limit old p e l = elim (cases_Bool (leb limit (length old))) [
-  | inl f ↦ (let h = leb-true _ _ f in absurd (omega arith))
-  | inr f ↦ new_missing limit old p e ∙ cond-false _ _ _ f
-]
-
 pub new_cases : (limit : ℕ) (old : List Position) (p : Position)
     → ((with_new limit old p ≡ old) × (Contains old p ⊎ (limit ≤ length old))) ⊎ ((with_new limit old p ≡ old ++ p ∷ []) × (Contains old p → ⊥) ×
     (length old < limit))
 new_cases limit old p = elim (place_cases old p) [
-  | inl h ↦ inl (new_listed limit old p h.0 h.1, inl h.2)
+  | inl h ↦ inl (ap (added limit old p) h.1, inl h.2)
   | inr h ↦ elim (cases_Bool (leb limit (length old))) [
-    | inl f ↦ inl (new_full limit old p h.0 (leb-true _ _ f), inr (leb-true _ _ f))
-    | inr f ↦ (let room = not_le limit (length old) f in inr (new_room limit old p h.0 room, h.1, room))
+    | inl f ↦ inl (ap (added limit old p) h.0 ∙ cond-true _ _ _ f, inr (leb-true _ _ f))
+    | inr f ↦ inr (ap (added limit old p) h.0 ∙ cond-false _ _ _ f, h.1, not_le limit (length old) f)
   ]
 ]
 

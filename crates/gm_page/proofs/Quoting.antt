@@ -1,14 +1,12 @@
 -- Strings in texts that open no tag are read back unchanged.
 use Rattle.gm_page.proofs.Lower.{◌≡◌, ℕ, zero, suc, ◌<◌, ◌≤◌, Bool, true, false, cond, List, [], ◌∷◌, ◌++◌, Some, inl, inr, ◌⊎◌, refl, sym, ap, ◌∙◌, subst}
-use Rattle.gm_page.proofs.Lower.{arith, flat_map, cases_lt, ne_eqb, flat_map-append, Lexeme, between, escape, script_byte}
-use Rattle.std.proofs.Common.{append_assoc, rules}
-use Rattle.std.proofs.lemmas.Bool.{cases_eq, le-ltb}
-use lib.Utf8.{encode}
+use Rattle.gm_page.proofs.Lower.{arith, flat_map, cases_lt, ne_eqb, flat_map-append, script_byte, rules, cases_eq, le-ltb, is_operator, is_space}
+use Rattle.gm_page.proofs.Lower.{escape_byte_plain}
+use Rattle.json.specs.Print.{escape, escape_byte}
+use Rattle.json.specs.Lex.{Lexeme, between, Mode, lex, lex_byte, in_string, operator, space, other}
+use Rattle.std.proofs.Common.{append_assoc}
 use Rattle.json.specs.Text.{content, plain, prepend, code_unit, short_escape}
-use Rattle.json.specs.Word.{is_operator, is_space}
-use Rattle.json.specs.Lex.{Mode, lex, lex_byte, in_string, operator, space, other}
-use Rattle.json.specs.Print.{escape_byte}
-use Rattle.json.proofs.Printed.Strings.{escape_byte_plain}
+use lib.Utf8.{encode}
 
 abbrev pub script : List ℕ → List ℕ
 script = flat_map script_byte
@@ -31,48 +29,30 @@ each_sound P (suc n) h x lt = go (each_sound P n h.1 x) (cases_eq x n)
     go below (inl e) = subst P (sym e) h.0
     go below (inr ne) = below (omega arith)
 
-controls : Each Passes 32
+first_passes : Each Passes 93
 unfolding escape_byte content lex code_unit short_escape encode
-controls = search rules
-
-quote_passes : Passes 34
-unfolding escape_byte content lex short_escape
-quote_passes = record { read = λ r. refl; lexed = λ r. refl }
-
-backslash_passes : Passes 92
-unfolding escape_byte content lex short_escape
-backslash_passes = record { read = λ r. refl; lexed = λ r. refl }
-
-tag_passes : Passes 60
-unfolding escape_byte content lex code_unit short_escape encode
-tag_passes = record { read = λ r. refl; lexed = λ r. refl }
+first_passes = search rules
 
 stays_inside : (o s : Bool) (x : ℕ) (r : List ℕ) (k : Mode → List Lexeme) → lex_byte in_string (cond o operator (cond s space other)) x r k ≡ k in_string
 stays_inside true s x r k = refl
 stays_inside false true x r k = refl
 stays_inside false false x r k = refl
 
-plain_same : (x : ℕ) → (x ≡ 34 → ⊥) → (x ≡ 92 → ⊥) → (x ≡ 60 → ⊥) → 32 ≤ x → script (escape_byte x) ≡ x ∷ []
-plain_same x q b t l = ap script (escape_byte_plain x q b l) ∙ rw (ne_eqb x 60 t) refl
-
-plain_passes : (x : ℕ) → (x ≡ 34 → ⊥) → (x ≡ 92 → ⊥) → (x ≡ 60 → ⊥) → 32 ≤ x → Passes x
+later_passes : (x : ℕ) → 93 ≤ x → Passes x
 unfolding content lex
-plain_passes x q b t l =
-    let same = plain_same x q b t l in
+later_passes x l =
+    let not : (k : ℕ) → k < 93 → (x ≡ k → ⊥) = λ k m e. omega arith in
+    let plain = escape_byte_plain x (not 34 (omega arith)) (not 92 (omega arith)) (omega arith) in
+    let same : script (escape_byte x) ≡ x ∷ [] = ap script plain ∙ rw (ne_eqb x 60 (not 60 (omega arith))) refl in
+    let quote = ne_eqb x 34 (not 34 (omega arith)) in
+    let backslash = ne_eqb x 92 (not 92 (omega arith)) in
     record {
-      read = λ r. rw (same, ne_eqb x 34 q, ne_eqb x 92 b, le-ltb x 32 l);
-      lexed = λ r. rw (same, ne_eqb x 34 q, ne_eqb x 92 b) (stays_inside (is_operator x) (is_space x) x r (λ m. lex m r));
+      read = λ r. rw (same, quote, backslash, le-ltb x 32 (omega arith));
+      lexed = λ r. rw (same, quote, backslash) (stays_inside (is_operator x) (is_space x) x r (λ m. lex m r));
     }
 
 passes : (x : ℕ) → Passes x
-passes x = go (cases_eq x 34) (cases_eq x 92) (cases_eq x 60) (cases_lt x 32)
-  where
-    go : (x ≡ 34) ⊎ (x ≡ 34 → ⊥) → (x ≡ 92) ⊎ (x ≡ 92 → ⊥) → (x ≡ 60) ⊎ (x ≡ 60 → ⊥) → (x < 32) ⊎ (32 ≤ x) → Passes x
-    go (inl e) b t c = subst Passes (sym e) quote_passes
-    go (inr q) (inl e) t c = subst Passes (sym e) backslash_passes
-    go (inr q) (inr b) (inl e) c = subst Passes (sym e) tag_passes
-    go (inr q) (inr b) (inr t) (inl c) = each_sound Passes 32 controls x c
-    go (inr q) (inr b) (inr t) (inr l) = plain_passes x q b t l
+passes x = elim (cases_lt x 93) [ inl l ↦ each_sound Passes 93 first_passes x l | inr l ↦ later_passes x l ]
 
 script_more : (x : ℕ) (s r : List ℕ) → script (escape (x ∷ s)) ++ r ≡ script (escape_byte x) ++ (script (escape s) ++ r)
 script_more x s r = ap (λ l. l ++ r) (flat_map-append script_byte (escape_byte x) (escape s)) ∙ append_assoc (script (escape_byte x)) (script (escape s)) r

@@ -1,19 +1,16 @@
 -- The rows of a page, and its first line, are read as their trees.
 use Rattle.gm_page.proofs.Lower.{◌≡◌, ℕ, suc, ◌+◌, ◌<◌, ◌≤◌, ◌^◌, Bool, List, [], ◌∷◌, ◌++◌, length, map, Option, None, Some, refl, sym, ap, ◌∙◌, arith, inl}
-use Rattle.gm_page.proofs.Lower.{inr, flat_map, unwrap_or, cases_Bool, cond-true, cond-false, Data, number, array, read, of_json, items_of, outline}
-use Rattle.gm_page.proofs.Lower.{items_outline, Position, Solved, MoveValue, text, PictureSpec, head_tree, is_same, place_from, place_of, Group, place_cells}
-use Rattle.gm_page.proofs.Lower.{move_cells, group_tree, row_tree, script_line}
-use Rattle.std.proofs.Common.{option_map}
-use Rattle.json.specs.Tree.{depth, items_depth}
-use Rattle.serde_json.specs.Read.{of_items}
-use Rattle.serde_json.proofs.Numbers.{number_of-decimal}
-use Rattle.gm_json.specs.Words.{whole}
-use Rattle.gm_page.specs.Rows.{group_cells, row_cells}
-use Rattle.gm_page.proofs.ReadingBack.{IsSmall, AreSmall, read_line}
+use Rattle.gm_page.proofs.Lower.{inr, flat_map, cases_Bool, cond-true, cond-false, Data, number, array, read, of_json, items_of, outline, items_outline}
+use Rattle.gm_page.proofs.Lower.{Position, Solved, MoveValue, text, PictureSpec, head_tree, is_same, place_from, place_of, Group, place_cells, move_cells}
+use Rattle.gm_page.proofs.Lower.{group_tree, row_tree, script_line, option_map, depth, items_depth, of_items, number_of-decimal, whole, group_cells, row_cells}
+use Rattle.gm_page.proofs.Lower.{subst, append_assoc, append-nil, Token, json_tokens, IsNumber-decimal, decimal, decimal_is_IsNumeral, items_tokens, ⊤}
+use Rattle.std.specs.Option.{unwrap_or}
+use Rattle.gm_page.proofs.Quoting.{script}
+use Rattle.gm_page.proofs.ReadingBack.{AreFine, digits_same, read_line}
 
 -- the text of a tree is read as this tree, which has at most this depth
 pub record Reads (n : ℕ) (d : Data) : Type 0 where
-  pub small : IsSmall d
+  pub fine : (more : List Token) → AreFine more → AreFine (json_tokens (outline d) ++ more)
   pub same : of_json (outline d) ≡ Some d
   pub shallow : depth (outline d) ≤ n
 
@@ -25,9 +22,9 @@ two_read : (n : ℕ) (ds es : List Data) → AllRead n ds → AllRead n es → A
 two_read n [] es h k = k
 two_read n (d ∷ ds) es h k = (h.0, two_read n ds es h.1 k)
 
-items_small : (n : ℕ) (ds : List Data) → AllRead n ds → AreSmall (items_of ds)
-items_small n [] h = tt
-items_small n (d ∷ ds) h = (h.0.small, items_small n ds h.1)
+items_fine : (n : ℕ) (ds : List Data) → AllRead n ds → (more : List Token) → AreFine more → AreFine (items_tokens (items_outline (items_of ds)) ++ more)
+items_fine n [] h more k = ((tt, refl), k)
+items_fine n (d ∷ ds) h more k = subst AreFine (sym (append_assoc (json_tokens (outline d)) _ more)) (h.0.fine _ (items_fine n ds h.1 more k))
 
 items_same : (n : ℕ) (ds : List Data) → AllRead n ds → of_items (items_outline (items_of ds)) ≡ Some (items_of ds)
 items_same n [] h = refl
@@ -39,17 +36,20 @@ items_shallow n (d ∷ ds) h = let a = h.0.shallow in let b = items_shallow n ds
 
 pub reads_array : (n : ℕ) (ds : List Data) → AllRead n ds → Reads (suc n) (array (items_of ds))
 reads_array n ds h = record {
-  small = items_small n ds h;
+  fine = λ more k. ((tt, refl), items_fine n ds h more k);
   same = ap (option_map array) (items_same n ds h);
-  shallow = let a = items_shallow n ds h in omega
-      arith;
+  shallow = let a = items_shallow n ds h in omega arith;
 }
 
 pub reads_text : (n : ℕ) (bs : List ℕ) → Reads n (text bs)
-reads_text n bs = record { small = tt; same = refl; shallow = omega arith }
+reads_text n bs = record { fine = λ more k. ((tt, refl), k); same = refl; shallow = omega arith }
 
 reads_whole : (n k : ℕ) → k < 2 ^ 64 → Reads n (whole k)
-reads_whole n k l = record { small = l; same = ap (option_map number) (number_of-decimal k l); shallow = omega arith }
+reads_whole n k l = record {
+  fine = λ more h. ((IsNumber-decimal k l, digits_same (decimal k) (decimal_is_IsNumeral k l).0.1), h);
+  same = ap (option_map number) (number_of-decimal k l);
+  shallow = omega arith;
+}
 
 -- ---- rows
 place_below : (ps : List Position) (n : ℕ) (p : Position) (k : ℕ) → place_from n ps p ≡ Some k → k < n + length ps
@@ -81,12 +81,16 @@ module _ (shown : Position → List ℕ) (move_shown : Position → ℕ → List
   row_read p s gs =
       let d = row_tree shown move_shown all p s gs in
       let is : Reads 2 d = reads_array 1 (row_cells shown move_shown all p s gs) (reads_text 1 _, (reads_text 1 _, groups_read p gs)) in
-      read_line d is.small (let a = is.shallow in omega arith) is.same
+      read_line d (subst AreFine (append-nil (json_tokens (outline d))) (is.fine [] tt)) (let a = is.shallow in omega arith) is.same
 
 -- ---- the first line
 texts_read : (ts : List (List ℕ)) → AllRead 0 (map text ts)
 texts_read [] = tt
 texts_read (t ∷ ts) = (reads_text 0 t, texts_read ts)
+
+-- a token that is no number is fine
+ok : {P : Type 0} → P → (⊤ × (script [] ≡ [])) × P
+ok h = ((tt, refl), h)
 
 pub head_read : (name : List ℕ) (picture : PictureSpec) (start : List ℕ) (whole : Bool)
     → read (script_line (head_tree name picture start whole)) ≡ Some (head_tree name picture start whole)
@@ -94,4 +98,6 @@ head_read name picture start whole =
     let names = reads_array 0 (map text picture.points) (texts_read picture.points) in
     let d = head_tree name picture start whole in
     let a = names.shallow in
-    read_line d (tt, (tt, (tt, (tt, (names.small, ((tt, (tt, tt)), (tt, (tt, (tt, (tt, tt)))))))))) (omega arith) (rw names.same refl)
+    read_line d
+    (ok (ok (ok (ok (ok (ok (ok (ok (ok (ok (names.fine _ (ok (ok (ok (ok (ok (ok (ok (ok (ok (ok (ok (ok (ok (ok tt)))))))))))))))))))))))))
+    (omega arith) (rw names.same refl)

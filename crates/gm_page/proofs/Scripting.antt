@@ -1,9 +1,6 @@
 -- Texts that open no tag.
-use Rattle.gm_page.proofs.Lower.{◌≡◌, ℕ, true, eqb, not, List, [], ◌∷◌, refl, ap, ◌∙◌, inl, inr, flat_map}
-use Rattle.gm_page.proofs.Lower.{list_all, cases_Bool, cond-true, cond-false, and_from}
-use Rattle.gm_page.proofs.Lower.{list_all-append, Data, opens_none, script_byte, script_line}
-use Rattle.gm_json.specs.Words.{line_of}
-use Rattle.gm_page.specs.Pages.{script_lines}
+use Rattle.gm_page.proofs.Lower.{◌≡◌, ℕ, true, eqb, not, List, [], ◌∷◌, refl, ap, ◌∙◌, inl, inr, flat_map, list_all, cases_Bool, cond-true, cond-false}
+use Rattle.gm_page.proofs.Lower.{and_from, list_all-append, Data, opens_none, script_byte, script_line, line_of, script_lines}
 use Rattle.gm_page.specs.Scripts.{script_text}
 
 byte_opens_none : (b : ℕ) → list_all opens_none (script_byte b) ≡ true
@@ -12,21 +9,16 @@ byte_opens_none b = elim (cases_Bool (eqb b 60)) [
   | inr e ↦ ap (list_all opens_none) (cond-false _ _ _ e) ∙ and_from _ _ (ap not e) refl
 ]
 
-bytes_open_none : (xs : List ℕ) → list_all opens_none (flat_map script_byte xs) ≡ true
-bytes_open_none [] = refl
-bytes_open_none (x ∷ xs) = list_all-append opens_none (script_byte x) (flat_map script_byte xs) ∙ and_from _ _ (byte_opens_none x) (bytes_open_none xs)
+each_opens_none : {X : Type 0} (f : X → List ℕ) → ((x : X) → list_all opens_none (f x) ≡ true) → (xs : List X) → list_all opens_none (flat_map f xs) ≡ true
+each_opens_none f each [] = refl
+each_opens_none f each (x ∷ xs) = list_all-append opens_none (f x) (flat_map f xs) ∙ and_from _ _ (each x) (each_opens_none f each xs)
 
 -- no byte of a text opens a tag
 pub text_opens_none : (xs : List ℕ) → list_all opens_none (script_text xs) ≡ true
 unfolding script_text
-text_opens_none xs = bytes_open_none xs
+text_opens_none xs = each_opens_none script_byte byte_opens_none xs
 
 -- no byte of the lines of a page opens a tag
 pub lines_open_none : (head : Data) (rows : List Data) → list_all opens_none (script_lines head rows) ≡ true
 lines_open_none head rows = list_all-append opens_none (script_line head) (flat_map script_line rows) ∙ and_from _ _ (text_opens_none (line_of head))
-    (each_opens_none rows)
-  where
-    each_opens_none : (ds : List Data) → list_all opens_none (flat_map script_line ds) ≡ true
-    each_opens_none [] = refl
-    each_opens_none (d ∷ ds) = list_all-append opens_none (script_line d) (flat_map script_line ds) ∙ and_from _ _ (text_opens_none (line_of d))
-        (each_opens_none ds)
+    (each_opens_none script_line (λ d. text_opens_none (line_of d)) rows)

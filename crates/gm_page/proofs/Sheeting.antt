@@ -1,10 +1,6 @@
 -- Sheets: entries one by one, and solutions move by move.
-use Rattle.gm_page.proofs.Lower.{◌≡◌, ℕ, ◌+◌, ◌<◌, List, [], ◌∷◌, ◌++◌, length, take, get_or, sym, ap, subst, ◌∙◌, codes}
-use Rattle.gm_page.proofs.Lower.{flat_map, flat_map-append, append_assoc, append-nil, take_more, Position, Rules, Found, PictureSpec, Entry, entry_text}
-use Rattle.gm_page.proofs.Lower.{answer_text, IsEntry, AreEntries, steps_text}
-use Rattle.std.proofs.Common.{Result, Ok, Err}
-use Rattle.std.specs.Prelude.{OnOk}
-use Rattle.gm_draw.specs.Diagrams.{escaped}
+use Rattle.gm_page.proofs.Lower.{◌≡◌, ℕ, List, ◌∷◌, ◌++◌, ap, ◌∙◌, codes, flat_map, append_assoc, Position, Rules, Found, PictureSpec, Entry, entry_text}
+use Rattle.gm_page.proofs.Lower.{answer_text, AreEntries, steps_text, escaped}
 
 -- ---- moves
 -- one more move
@@ -23,44 +19,7 @@ line_parts t0 front steps moves end t1 t2 t3 a b e c =
     c ∙ ap (λ (t : List ℕ). t ++ end) (b ∙ ap (λ (t : List ℕ). t ++ moves) a ∙ ap (λ (t : List ℕ). (t0 ++ front) ++ t) e) ∙ simp append_assoc
 
 -- ---- entries
--- the text of an entry, and that of its solution
-pub both_parts : {X E : Type 0} → (m : Result (Unit {0}) E) (P A B : X → Type 0) (x : X) → P x → OnOk m (A x) → OnOk m (B x) → OnOk m
-    ((e : X) × P e × A e × B e)
-both_parts (Ok u) P A B x p a b = (x, p, a, b)
-both_parts (Err e) P A B x p a b = tt
-
-module _ (r : Rules) (shown : Position → List ℕ) (move_shown : Position → ℕ → List ℕ) (picture : PictureSpec) where
-  abbrev All : List Found → List Entry → Type 0
-  All = AreEntries r shown move_shown picture
-
-  two_lists : (xs ys : List Found) (ds es : List Entry) → All xs ds → All ys es → All (xs ++ ys) (ds ++ es)
-  two_lists [] ys [] es h k = k
-  two_lists [] ys (d ∷ ds) es h k = absurd h
-  two_lists (x ∷ xs) ys [] es h k = absurd h
-  two_lists (x ∷ xs) ys (d ∷ ds) es h k = (h.0, two_lists xs ys ds es h.1 k)
-
-  -- the entries of the first positions, after the earlier text
-  pub record HasEntries (xs : List Found) (old now old_answers answers : List ℕ) : Type 0 where
-    pub list : List Entry
-    pub are_entries : All xs list
-    pub entries : now ≡ old ++ flat_map entry_text list
-    pub answers_are : answers ≡ old_answers ++ flat_map answer_text list
-
-  one_more : (f : Entry → List ℕ) (es : List Entry) (e : Entry) (old now new : List ℕ) → now ≡ old ++ flat_map f es → new ≡ now ++ f e → new ≡ old ++
-      flat_map f (es ++ e ∷ [])
-  one_more f es e old now new h n =
-      n ∙ ap (λ (t : List ℕ). t ++ f e) h ∙ append_assoc old (flat_map f es) (f e)
-      ∙ ap (λ (t : List ℕ). old ++ t) (ap (λ (t : List ℕ). flat_map f es ++ t) (sym (append-nil (f e))) ∙ sym (flat_map-append f es (e ∷ [])))
-
-  pub more_entries : (xs : List Found) (i : ℕ) (d : Found) (old now new old_answers answers more : List ℕ) → i < length xs → HasEntries (take i xs) old now
-      old_answers answers
-      → ((e : Entry) × IsEntry r shown move_shown picture (get_or xs i d) e × (new ≡ now ++ entry_text e) ×
-      (more ≡ answers ++ answer_text e))
-      → HasEntries (take (i + 1) xs) old new old_answers more
-  more_entries xs i d old now new old_answers answers more l h (e, is, n, m) = record {
-    list = h.list ++ e ∷ [];
-    are_entries = subst (λ (ys : List Found). All ys (h.list ++ e ∷ [])) (sym (take_more xs i d l))
-        (two_lists (take i xs) (get_or xs i d ∷ []) h.list (e ∷ []) h.are_entries (is, tt));
-    entries = one_more entry_text h.list e old now new h.entries n;
-    answers_are = one_more answer_text h.list e old_answers answers more h.answers_are m;
-  }
+-- the entries of these positions, and their solutions, after the earlier texts
+abbrev pub HasEntries : Rules → (Position → List ℕ) → (Position → ℕ → List ℕ) → PictureSpec → List Found → List ℕ → List ℕ → List ℕ → List ℕ → Type 0
+HasEntries r shown move_shown picture xs old old_answers new answers =
+    (es : List Entry) × AreEntries r shown move_shown picture xs es × (new ≡ old ++ flat_map entry_text es) × (answers ≡ old_answers ++ flat_map answer_text es)

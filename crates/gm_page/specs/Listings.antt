@@ -1,11 +1,7 @@
 -- The positions of a page: those of best play, and then those that play reaches, the near ones first.
 use Rattle.std.specs.Prelude.{◌≡◌, ℕ, ◌-◌, ◌<◌, Bool, ◌&&◌, nat_le, List, [], ◌∷◌, ◌++◌, map, length, take, slice_get, if◌then◌else◌, Option, None, Some}
 use Rattle.std.specs.Prelude.{is_some, zero, suc, ◌+◌, nat_eq, get_or}
-use Rattle.gm_page.specs.Lower.{get, Contains, Position, Rules, BestLine, MoveValue, IsBestLine, AreMoveValues}
-use Rattle.std.specs.HashMap.{HashMap}
-use Rattle.gm_game.specs.Rules.{at}
-use Rattle.gm_find.specs.Reaching.{IsPlay}
-use Rattle.gm_play.specs.Lines.{position_after}
+use Rattle.gm_page.specs.Lower.{get, Contains, Position, Rules, BestLine, MoveValue, IsBestLine, AreMoveValues, HashMap, at, IsPlay, position_after}
 
 -- ---- places
 -- whether two positions are equal

@@ -1,7 +1,6 @@
 -- Pages: the viewer with its lines of data, and the engine's text, between its parts.
 use Rattle.std.specs.Prelude.{◌≡◌, ◌↔◌, ℕ, Bool, false, List, ◌++◌, IsTrue}
-use Rattle.gm_page.specs.Lower.{flat_map, Data, Position, Rules, PictureSpec}
-use Rattle.gm_play.specs.PlayTexts.{IsReadAs}
+use Rattle.gm_page.specs.Lower.{flat_map, Data, Position, Rules, PictureSpec, IsReadAs}
 use Rattle.gm_page.specs.declared.front.TheConstants.{OPENING, STYLE, PARTS}
 use Rattle.gm_page.specs.declared.engine.TheConstants.{BETWEEN}
 use Rattle.gm_page.specs.declared.viewer_asking.TheConstants.{ASKING}

@@ -1,9 +1,6 @@
 -- Rows: the lines of a page that describe its positions.
 use Rattle.std.specs.Prelude.{◌≡◌, ℕ, ◌<◌, List, [], ◌∷◌, ◌++◌, map, length, slice_get, IfSome, Option, None, Some}
-use Rattle.gm_page.specs.Lower.{All, flat_map, Data, array, items_of, Position, Solved, Rules, MoveValue, AreMoveValues, text}
-use Rattle.gm_game.specs.Texts.{text_of}
-use Rattle.gm_game.specs.Values.{IsTrueValue}
-use Rattle.gm_json.specs.Words.{whole}
+use Rattle.gm_page.specs.Lower.{All, flat_map, Data, array, items_of, Position, Solved, Rules, MoveValue, AreMoveValues, text, text_of, IsTrueValue, whole}
 use Rattle.gm_page.specs.Listings.{place_of}
 
 -- ---- groups

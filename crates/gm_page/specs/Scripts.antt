@@ -1,8 +1,6 @@
 -- Texts in an element of a page: no byte of them opens a tag.
 use Rattle.std.specs.Prelude.{◌≡◌, ℕ, Some, Bool, ◌==◌, List, [], ◌∷◌, codes, if◌then◌else◌, not}
-use Rattle.gm_page.specs.Lower.{flat_map, Data}
-use Rattle.serde_json.specs.Read.{read}
-use Rattle.gm_json.specs.Words.{line_of}
+use Rattle.gm_page.specs.Lower.{flat_map, Data, read, line_of}
 
 -- whether a byte opens no tag
 abbrev pub opens_none : ℕ → Bool

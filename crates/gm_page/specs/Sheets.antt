@@ -1,15 +1,8 @@
 -- Sheets: diagrams of found positions, with their solutions.
 use Rattle.std.specs.Prelude.{◌≡◌, ◌==◌, ℕ, Bool, true, List, [], ◌∷◌, ◌++◌, codes, if◌then◌else◌, Option, None, Some}
-use Rattle.gm_page.specs.Lower.{flat_map, Position, Rules, BestLine, IsBestLine, IsFound, PictureSpec, escaped}
-use Rattle.std.specs.Fmt.{decimal}
-use Rattle.gm_table.specs.Tables.{TableData}
-use Rattle.gm_play.specs.declared.best_line.LineEnd.{LineEnd}
+use Rattle.gm_page.specs.Lower.{flat_map, Position, Rules, BestLine, IsBestLine, IsFound, PictureSpec, escaped, decimal, TableData, LineEnd, AreAllHeld, Found}
+use Rattle.gm_page.specs.Lower.{Sought, Choice, AreChosen}
 use Rattle.gm_play.specs.declared.best_line.LineEnd.TheVariants.{Over, Again, Cut}
-use Rattle.gm_play.specs.Reached.{AreAllHeld}
-use Rattle.gm_find.specs.declared.found.Found.{Found}
-use Rattle.gm_find.specs.declared.sought.Sought.{Sought}
-use Rattle.gm_find.specs.declared.sought.Choice.{Choice}
-use Rattle.gm_find.specs.Founds.{AreChosen}
 use Rattle.gm_page.specs.ShowTexts.{IsDiagram}
 use Rattle.gm_page.specs.declared.solution.TheConstants.{SOLUTION_MOVES}
 use Rattle.gm_page.specs.declared.parts.TheConstants.{SHEET_FRONT, SHEET_DIAGRAMS, SHEET_SOLUTIONS, SHEET_BACK}

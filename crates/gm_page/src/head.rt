@@ -1,10 +1,8 @@
 //! The first line of a page, which describes the game.
-ghost use Rattle.std.specs.Prelude.{◌≡◌, ◌==◌, ◌<◌, ◌++◌, ◌∷◌, [], length, map, IfOk, OnOk, IfSome};
-ghost use Rattle.gm_page.specs.Lower.{array, object, items_of, view, members_view, text};
-ghost use Rattle.std.specs.List.{position};
+ghost use Rattle.std.specs.Prelude.{◌≡◌, ◌==◌, ◌<◌, ◌++◌, [], length, map, IfOk, OnOk, IfSome};
+ghost use Rattle.gm_page.specs.Lower.{array, object, items_of, view, members_view, text, position, texts};
 ghost use Rattle.gm_page.specs.Heads.{head_tree, head_members, men_of, first_side, second_side, sides_tree, swaps as swaps_spec, name_text};
 ghost use Rattle.gm_page.specs.Scripts.{script_line};
-ghost use Rattle.gm_draw.specs.Pictures.{texts};
 
 use crate::words::{push_script_line, put_text, text_value, word_value};
 use gm_draw::pictured::{Pictured, Style};
@@ -22,16 +20,9 @@ pub(crate) fn push_head<G: Pictured>(
     ensures { OnOk result (page.new.items
         ≡ page.old.items ++ script_line (head_tree G.Game.rules.name G.picture start.now whole)) }
 {
-    let tree = head_value::<G>(alloc, start, whole)?;
-    push_script_line(alloc, page, tree)
-}
-
-fn head_value<G: Pictured>(alloc: Global, start: &[u8], whole: bool) -> Result<Json, AllocError>
-    ensures { IfOk result (λ v. view v ≡ head_tree G.Game.rules.name G.picture start.now whole) }
-{
     let mut members = Map::new(alloc);
     put_head::<G>(alloc, &mut members, start, whole)?;
-    Ok(Json::Object(members))
+    push_script_line(alloc, page, Json::Object(members))
 }
 
 // Puts the members of the first line into an empty object.
@@ -81,22 +72,14 @@ fn first_zero(name: &[u8]) -> Option<usize>
 }
 
 // Returns the names of points.
-#[tactic(auto, using(crate::proofs::Rowing::names_all))]
 fn points_value(alloc: Global, points: &[&[u8]]) -> Result<Json, AllocError>
     ensures { IfOk result (λ v. view v ≡ array (items_of (map text (texts points.now)))) }
 {
     let mut cells = Vec::new(alloc);
     for point in points {
-        push_point(alloc, &mut cells, point)?;
+        push(&mut cells, text_value(alloc, point)?)?;
     }
     Ok(Json::Array(cells))
-}
-
-// Appends the name of a point.
-fn push_point(alloc: Global, cells: &mut Vec<Json>, point: &[u8]) -> Result<(), AllocError>
-    ensures { OnOk result (map view cells.new.items ≡ map view cells.old.items ++ text point.now ∷ []) }
-{
-    push(cells, text_value(alloc, point)?)
 }
 
 // Returns the names of the two sides.

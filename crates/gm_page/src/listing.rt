@@ -1,7 +1,6 @@
 //! The positions of a page.
 ghost use Rattle.std.specs.Prelude.{◌≡◌, ◌≤◌, ◌-◌, ◌↔◌, ◌++◌, ◌∷◌, ℕ, [], List, true, length, map, IsTrue, IfOk, OnOk, slice_get, Some, None};
-ghost use Rattle.gm_page.specs.Lower.{get, All, Contains, Position, BestLine, MoveValue, IsBestLine, AreMoveValues};
-ghost use Rattle.gm_play.specs.BestLines.{AreFresh};
+ghost use Rattle.gm_page.specs.Lower.{get, All, Contains, Position, MoveValue, AreFresh};
 ghost use Rattle.gm_page.specs.Listings.{place_of, with_new, with_all, result_of, Tells, IsListing, IsReachedFrom, ComesFromEarlier, IsClosed, is_key};
 
 use gm_game::game::{Game, laws};
@@ -122,64 +121,21 @@ pub fn listing_of<G: Game>(
     requires { 1 ≤ limit }
     ensures { IfOk result (IsListing G.rules start.now.position limit) }
 {
+    laws::<G>();
     let mut list = Listing {
         positions: Vec::new(alloc),
         places: HashMap::new(alloc),
     };
-    fill(alloc, start, limit, &mut list)?;
-    Ok(list)
-}
-
-// Fills an empty listing.
-fn fill<G: Game>(
-    alloc: Global,
-    start: &Known<'_, G>,
-    limit: usize,
-    list: &mut Listing,
-) -> Result<(), AllocError>
-    requires some { 1 ≤ limit }
-    requires empty { list.old ≡ [] }
-    ensures { OnOk result (IsListing G.rules start.now.position limit list.new) }
-{
-    laws::<G>();
-    list_line(alloc, start, limit, list)?;
+    let line = best_line(alloc, start, limit - 1)?;
+    list.list_all(line.positions.as_slice(), limit)?;
+    drop(line);
     let mut next = 0;
     while next < list.positions().len() {
-        let p = list.positions()[next];
-        list_results(&start.at(p), limit, list)?;
+        let known = start.at(list.positions()[next]);
+        list.list_moves(move_values(&known).as_slice(), limit)?;
         next += 1;
     }
-    Ok(())
-}
-
-// Lists the positions of the line of best play in an empty listing.
-fn list_line<G: Game>(
-    alloc: Global,
-    start: &Known<'_, G>,
-    limit: usize,
-    list: &mut Listing,
-) -> Result<(), AllocError>
-    requires some { 1 ≤ limit }
-    requires empty { list.old ≡ [] }
-    ensures { OnOk result ((line : BestLine) × IsBestLine G.rules start.now.position (limit - 1) line
-        × (list.new ≡ with_all limit [] line.positions.items)) }
-{
-    let line = best_line(alloc, start, limit - 1)?;
-    let listed = list.list_all(line.positions.as_slice(), limit);
-    drop(line);
-    listed
-}
-
-// Lists the results of the moves of a position.
-fn list_results<G: Game>(
-    known: &Known<'_, G>,
-    limit: usize,
-    list: &mut Listing,
-) -> Result<(), AllocError>
-    ensures { OnOk result ((xs : List MoveValue) × AreMoveValues G.rules known.now.position xs
-        × (list.new ≡ with_all limit list.old (map result_of xs))) }
-{
-    list.list_moves(move_values(known).as_slice(), limit)
+    Ok(list)
 }
 
 /// Tests whether each result of a move of a listed position is listed. Allocates no memory.

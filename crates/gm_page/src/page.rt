@@ -1,15 +1,15 @@
 //! Pages: explorers of the positions that play reaches from a position. With the engine they solve the game in the browser.
-ghost use Rattle.std.specs.Prelude.{◌≡◌, ◌<◌, ◌≤◌, ◌++◌, [], true, List, length, IfOk, OnOk, ◌^◌};
-ghost use Rattle.gm_page.specs.Lower.{All, list_all, Data, Position, Solved, IsReached};
+ghost use Rattle.std.specs.Prelude.{◌≡◌, ◌<◌, ◌≤◌, ◌++◌, true, List, length, IfOk, OnOk, ◌^◌};
+ghost use Rattle.gm_page.specs.Lower.{list_all, Data, Position, Solved};
 ghost use Rattle.gm_page.specs.Heads.{head_tree};
-ghost use Rattle.gm_page.specs.Pages.{page_front, page_back, game_tree, script_lines, IsListedPage, IsPage};
+ghost use Rattle.gm_page.specs.Pages.{page_front, page_back, game_tree, script_lines, IsPage};
 ghost use Rattle.gm_page.specs.Rows.{Group, row_tree};
 ghost use Rattle.gm_page.specs.Scripts.{opens_none, script_line, IsReadBack};
 
 use crate::engine::BETWEEN;
 use crate::front::{OPENING, PARTS, STYLE};
 use crate::head::push_head;
-use crate::listing::{Listing, is_whole, listing_of};
+use crate::listing::{is_whole, listing_of};
 use crate::rows::push_rows;
 use crate::viewer_asking::ASKING;
 use crate::viewer_boards::BOARDS;
@@ -39,50 +39,13 @@ pub fn page_text<G: Pictured>(
         limit digits.now v.items) }
 {
     let list = listing_of(alloc, start, limit)?;
-    let page = page_of_listing(alloc, start, &list, digits);
-    drop(list);
-    page
-}
-
-// Returns the page of listed positions.
-fn page_of_listing<G: Pictured>(
-    alloc: Global,
-    start: &Known<'_, G>,
-    list: &Listing,
-    digits: &[u8],
-) -> Result<Vec<u8>, AllocError>
-    requires { All (IsReached G.Game.rules start.now.position.tier) list.now }
-    ensures { IfOk result (λ v. IsListedPage G.Game.rules G.shown G.move_shown G.picture
-        (G.shown start.now.position) list.now digits.now v.items) }
-{
+    let whole = is_whole::<G>(&list);
     let mut page = Vec::new(alloc);
-    match push_page(alloc, start, list, digits, &mut page) {
-        Ok(()) => Ok(page),
-        Err(error) => {
-            drop(page);
-            Err(error)
-        }
-    }
-}
-
-// Writes the page of listed positions into an empty text.
-fn push_page<G: Pictured>(
-    alloc: Global,
-    start: &Known<'_, G>,
-    list: &Listing,
-    digits: &[u8],
-    page: &mut Vec<u8>,
-) -> Result<(), AllocError>
-    requires reached { All (IsReached G.Game.rules start.now.position.tier) list.now }
-    requires empty { page.old.items ≡ [] }
-    ensures { OnOk result (IsListedPage G.Game.rules G.shown G.move_shown G.picture
-        (G.shown start.now.position) list.now digits.now page.new.items) }
-{
-    let whole = is_whole::<G>(list);
-    push_front(page)?;
-    push_head::<G>(alloc, page, G::show(start.position).as_slice(), whole)?;
-    push_rows(alloc, start, list, page)?;
-    push_back(page, digits)
+    push_front(&mut page)?;
+    push_head::<G>(alloc, &mut page, G::show(start.position).as_slice(), whole)?;
+    push_rows(alloc, start, &list, &mut page)?;
+    push_back(&mut page, digits)?;
+    Ok(page)
 }
 
 /// Appends the first part of a page, up to its lines.

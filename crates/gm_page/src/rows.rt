@@ -1,8 +1,7 @@
 //! The rows of a page, each of which describes one position.
-ghost use Rattle.std.specs.Prelude.{◌≡◌, ◌≤◌, ◌++◌, [], List, length, map, take, slice_get, IfOk, OnOk, IfSome};
-ghost use Rattle.gm_page.specs.Lower.{All, flat_map, Data, view, IsReached, MoveValue};
-ghost use Rattle.gm_play.specs.PlayTexts.{IsMoveOf};
-ghost use Rattle.gm_page.specs.Rows.{Group, AreGroups, AreRows, IsRow, move_cells, group_tree, row_tree};
+ghost use Rattle.std.specs.Prelude.{◌≡◌, ◌≤◌, ◌++◌, List, length, map, take, slice_get, IfOk, OnOk, IfSome};
+ghost use Rattle.gm_page.specs.Lower.{All, flat_map, Data, view, IsReached, MoveValue, IsMoveOf};
+ghost use Rattle.gm_page.specs.Rows.{AreRows, IsRow, move_cells, group_tree};
 ghost use Rattle.gm_page.specs.Scripts.{script_line};
 
 use crate::listing::Listing;
@@ -44,52 +43,20 @@ fn push_row<G: Shown>(
 {
     let value = known.value();
     let moves = move_values(known);
-    let tree = row_value(alloc, list, known, value, moves.as_slice())?;
-    push_script_line(alloc, page, tree)
-}
-
-// Returns the row of a position of this value, with these moves.
-fn row_value<G: Shown>(
-    alloc: Global,
-    list: &Listing,
-    known: &Known<'_, G>,
-    value: Solved,
-    moves: &[MoveValue],
-) -> Result<Json, AllocError>
-    requires { All (IsMoveOf G.Game.rules known.now.position) moves.now }
-    ensures { IfOk result (λ v. (groups : List Group) × AreGroups moves.now groups
-        × (view v ≡ row_tree G.shown G.move_shown list.now known.now.position value groups)) }
-{
     let mut cells = Vec::new(alloc);
     push(
         &mut cells,
         text_value(alloc, G::show(known.position).as_slice())?,
     )?;
     push(&mut cells, text_value(alloc, value_text(value).as_slice())?)?;
-    push_groups(alloc, list, known, moves, &mut cells)?;
-    Ok(Json::Array(cells))
-}
-
-// Appends the moves in groups.
-fn push_groups<G: Shown>(
-    alloc: Global,
-    list: &Listing,
-    known: &Known<'_, G>,
-    moves: &[MoveValue],
-    cells: &mut Vec<Json>,
-) -> Result<(), AllocError>
-    requires { All (IsMoveOf G.Game.rules known.now.position) moves.now }
-    ensures { OnOk result ((groups : List Group) × AreGroups moves.now groups
-        × (map view cells.new.items ≡ map view cells.old.items ++ map (group_tree G.shown G.move_shown list.now known.now.position) groups)) }
-{
-    let mut rest = moves;
+    let mut rest = moves.as_slice();
     while let Some(x) = rest.first() {
         let worth = x.worth;
         let (run, others) = rest.split_at(run_length(rest, worth));
-        push(cells, group_value(alloc, list, known, worth, run)?)?;
+        push(&mut cells, group_value(alloc, list, known, worth, run)?)?;
         rest = others;
     }
-    Ok(())
+    push_script_line(alloc, page, Json::Array(cells))
 }
 
 // Returns the number of moves at the beginning of the list that have this worth.

@@ -1,7 +1,7 @@
 //! Sheets: diagrams of found positions, with their solutions.
 ghost use Rattle.std.specs.Prelude.{◌≡◌, ◌++◌, ℕ, List, IfOk, OnOk, is_some};
 ghost use Rattle.gm_page.specs.Lower.{All, flat_map};
-ghost use Rattle.gm_page.specs.Sheets.{Entry, entry_text, answer_text, heading, lists, sheet_of, IsEntry, AreEntries, IsSheet, IsKnownAt};
+ghost use Rattle.gm_page.specs.Sheets.{Entry, entry_text, answer_text, heading, lists, IsEntry, AreEntries, IsSheet, IsKnownAt};
 
 use crate::parts::{SHEET_BACK, SHEET_DIAGRAMS, SHEET_FRONT, SHEET_SOLUTIONS};
 use crate::show::diagram_text;
@@ -33,22 +33,15 @@ pub fn sheet_text<G: Pictured>(
         known.now.tiers.now v.items) }
 {
     let found = find_some(alloc, known, sought, reached, choice)?;
-    sheet_of_found(alloc, known.tables, found.as_slice())
-}
-
-// Returns the sheet of found positions.
-fn sheet_of_found<G: Pictured>(
-    alloc: Global,
-    tables: &Tables<G>,
-    found: &[Found],
-) -> Result<Vec<u8>, AllocError>
-    requires { All (IsKnownAt G.Game.rules tables.now) found.now }
-    ensures { IfOk result (λ v. (es : List Entry)
-        × AreEntries G.Game.rules G.shown G.move_shown G.picture found.now es × (v.items ≡ sheet_of G.picture.title es)) }
-{
     let mut entries = Vec::new(alloc);
     let mut answers = Vec::new(alloc);
-    push_entries(alloc, tables, found, &mut entries, &mut answers)?;
+    push_entries(
+        alloc,
+        known.tables,
+        found.as_slice(),
+        &mut entries,
+        &mut answers,
+    )?;
     sheet_with::<G>(alloc, entries.as_slice(), answers.as_slice())
 }
 
@@ -89,30 +82,9 @@ fn push_entry<G: Pictured>(
     let text = G::show(x.position);
     let diagram = diagram_text(alloc, &known, true)?;
     let solution = solution_text(alloc, &known, x)?;
-    push_parts(
-        entries,
-        answers,
-        text.as_slice(),
-        diagram.as_slice(),
-        solution.as_slice(),
-    )
-}
-
-// Appends an entry of these parts, and its solution for paper.
-fn push_parts(
-    entries: &mut Vec<u8>,
-    answers: &mut Vec<u8>,
-    text: &[u8],
-    diagram: &[u8],
-    solution: &[u8],
-) -> Result<(), AllocError>
-    ensures entry { OnOk result (entries.new.items
-        ≡ entries.old.items ++ entry_text (record { text = text.now; diagram = diagram.now; solution = solution.now })) }
-    ensures answer { OnOk result (answers.new.items
-        ≡ answers.old.items ++ answer_text (record { text = text.now; diagram = diagram.now; solution = solution.now })) }
-{
-    push_unfolding(entries, text, diagram, solution)?;
-    push_answer(answers, solution)
+    let answer = solution.as_slice();
+    push_unfolding(entries, text.as_slice(), diagram.as_slice(), answer)?;
+    push_answer(answers, answer)
 }
 
 // Appends a diagram, with its solution and its text to unfold.

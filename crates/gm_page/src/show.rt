@@ -1,11 +1,11 @@
 //! A position for people: the text with its board, the side to move and the value, and its diagram.
 ghost use Rattle.std.specs.Prelude.{◌≡◌, ◌++◌, codes, true, OnOk, IfOk};
-ghost use Rattle.gm_page.specs.ShowTexts.{board_text, naming_text, first_move, explained_text, IsShowText, IsDiagram};
+ghost use Rattle.gm_page.specs.ShowTexts.{naming_text, first_move, IsShowText, IsDiagram};
 
 use gm_draw::diagram::diagram;
 use gm_draw::drawn::{draw, mover};
 use gm_draw::pictured::Pictured;
-use gm_game::position::{Position, Solved};
+use gm_game::position::Position;
 use gm_game::text::value_text;
 use gm_play::known::Known;
 use std::alloc::{AllocError, Global};
@@ -19,7 +19,20 @@ pub fn show_text<G: Pictured>(
 ) -> Result<Vec<u8>, AllocError>
     ensures { IfOk result (λ v. IsShowText G.Game.rules G.shown G.move_shown G.picture explained (G.shown known.now.position) v.items) }
 {
-    board_and_naming::<G>(alloc, known.position, known.value(), explained)
+    let p = known.position;
+    let mut text = Vec::new(alloc);
+    text.extend_from_slice(draw::<G>(p).as_slice())?;
+    text.extend_from_slice(b"\n")?;
+    text.extend_from_slice(mover::<G>(p))?;
+    push_line(
+        &mut text,
+        b" to move: ",
+        value_text(known.value()).as_slice(),
+    )?;
+    if explained {
+        push_naming::<G>(&mut text, p)?;
+    }
+    Ok(text)
 }
 
 /// Returns the SVG document of a position: its board with the men in their places, and under it the side to move. If `valued` is
@@ -33,28 +46,6 @@ pub fn diagram_text<G: Pictured>(
         (G.shown known.now.position) v.items) }
 {
     diagram::<G>(alloc, known.position, known.value(), valued)
-}
-
-// Returns the text for a legal position of this value.
-fn board_and_naming<G: Pictured>(
-    alloc: Global,
-    p: Position,
-    value: Solved,
-    explained: bool,
-) -> Result<Vec<u8>, AllocError>
-    requires { G.Game.rules.is_legal p ≡ true }
-    ensures { IfOk result (λ v. v.items ≡ board_text G.Game.rules G.shown G.move_shown G.picture p value ++ explained_text G.Game.rules
-        G.shown G.move_shown G.picture explained p) }
-{
-    let mut text = Vec::new(alloc);
-    text.extend_from_slice(draw::<G>(p).as_slice())?;
-    text.extend_from_slice(b"\n")?;
-    text.extend_from_slice(mover::<G>(p))?;
-    push_line(&mut text, b" to move: ", value_text(value).as_slice())?;
-    if explained {
-        push_naming::<G>(&mut text, p)?;
-    }
-    Ok(text)
 }
 
 // Appends a line of two texts.

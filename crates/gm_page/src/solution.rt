@@ -1,8 +1,7 @@
 //! The solutions of a sheet: the best move of a position, and best play from it.
-ghost use Rattle.std.specs.Prelude.{◌≡◌, ◌++◌, true, codes, IfOk, OnOk};
-ghost use Rattle.gm_page.specs.Lower.{Contains, IsFound, escaped};
-ghost use Rattle.gm_play.specs.BestLines.{AreBest};
-ghost use Rattle.gm_page.specs.Sheets.{choice_words, end_words, steps_text, best_words, line_words, solution_of, IsSolution};
+ghost use Rattle.std.specs.Prelude.{◌≡◌, ◌++◌, true, IfOk, OnOk};
+ghost use Rattle.gm_page.specs.Lower.{Contains, IsFound, AreBest};
+ghost use Rattle.gm_page.specs.Sheets.{choice_words, end_words, steps_text, best_words, line_words, IsSolution};
 
 use gm_draw::markup::push_escaped;
 use gm_find::found::Found;
@@ -28,41 +27,15 @@ pub(crate) fn solution_text<G: Shown>(
     ensures { IfOk result (λ v. IsSolution G.Game.rules G.move_shown x v.items) }
 {
     let line = best_line(alloc, known, SOLUTION_MOVES)?;
-    let solution = solution_with::<G>(alloc, x, &line);
-    drop(line);
-    solution
-}
-
-// Returns the solution with this line of best play.
-fn solution_with<G: Shown>(alloc: Global, x: Found, line: &BestLine) -> Result<Vec<u8>, AllocError>
-    requires found { IsFound G.Game.rules x }
-    requires best { AreBest G.Game.rules x.position line.now.moves.items }
-    ensures { IfOk result (λ v. v.items ≡ solution_of G.Game.rules G.move_shown x.position x.best x.moves line.now) }
-{
     let mut text = Vec::new(alloc);
     match x.best {
-        Some(m) => push_best::<G>(&mut text, x.position, m, x.moves, line)?,
+        Some(m) => {
+            push_move::<G>(&mut text, x.position, m, x.moves)?;
+            push_line::<G>(&mut text, x.position, &line)?;
+        }
         None => text.extend_from_slice(b"The game has ended.")?,
     }
     Ok(text)
-}
-
-// Appends the best move and the line of best play.
-fn push_best<G: Shown>(
-    text: &mut Vec<u8>,
-    p: Position,
-    m: u32,
-    count: usize,
-    line: &BestLine,
-) -> Result<(), AllocError>
-    requires legal { G.Game.rules.is_legal p ≡ true }
-    requires listed { Contains (G.Game.rules.moves p) m }
-    requires best { AreBest G.Game.rules p line.now.moves.items }
-    ensures { OnOk result (text.new.items
-        ≡ text.old.items ++ (best_words G.Game.rules G.move_shown p m count ++ line_words G.Game.rules G.move_shown p line.now)) }
-{
-    push_move::<G>(text, p, m, count)?;
-    push_line::<G>(text, p, line)
 }
 
 // Appends the best move and the number of moves.
@@ -122,20 +95,11 @@ fn push_steps<G: Shown>(
 {
     let mut p = start;
     for number in moves {
-        push_step::<G>(text, p, *number)?;
+        text.extend_from_slice(b" ")?;
+        push_escaped(text, G::move_text(p, *number).as_slice())?;
         p = G::play(p, *number);
     }
     Ok(())
-}
-
-// Appends a move of a legal position.
-fn push_step<G: Shown>(text: &mut Vec<u8>, p: Position, m: u32) -> Result<(), AllocError>
-    requires legal { G.Game.rules.is_legal p ≡ true }
-    requires listed { Contains (G.Game.rules.moves p) m }
-    ensures { OnOk result (text.new.items ≡ text.old.items ++ (codes " " ++ escaped (G.move_shown p m))) }
-{
-    text.extend_from_slice(b" ")?;
-    push_escaped(text, G::move_text(p, m).as_slice())
 }
 
 // Appends how the line of best play ends.

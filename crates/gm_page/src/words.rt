@@ -1,9 +1,7 @@
 //! Texts as trees, and trees as lines of a page.
 ghost use Rattle.std.specs.Prelude.{◌≡◌, ◌++◌, false, IfOk, OnOk};
-ghost use Rattle.gm_page.specs.Lower.{string, view, members_view, text};
-ghost use Rattle.std.specs.Str.Lossy.{utf8_lossy};
+ghost use Rattle.gm_page.specs.Lower.{string, view, members_view, text, utf8_lossy, has_float};
 ghost use Rattle.serde_json.specs.Data.{put as with_member};
-ghost use Rattle.serde_json.specs.Written.{has_float};
 ghost use Rattle.gm_page.specs.Scripts.{script_line};
 
 use crate::script::push_script;

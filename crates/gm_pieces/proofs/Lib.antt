@@ -1,1 +1,2 @@
 pub mod TextSteps
+pub mod Lower

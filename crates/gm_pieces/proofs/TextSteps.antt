@@ -1,10 +1,9 @@
 -- Steps on the texts of boards.
-use Rattle.std.specs.Prelude.{◌≡◌, ◌+◌, ◌<◌, ◌&&◌, ◌∷◌, ◌++◌}
-use Rattle.gm_pieces.specs.Lower.{ℕ, Bool, eqb, lt-ltb, List, [], map, length, get_or, refl, sym, ap, ap₂, ◌∙◌, arith}
-use Rattle.gm_pieces.specs.Lower.{zero-add, range_with_len, ext_get_or, get_or-map, map_push, map-range_with_len_more, Cell, Empty, has_cell, cell_by}
-use Rattle.gm_pieces.specs.Lower.{board_of, board_length, board_get, IsRead}
-use Rattle.gm_pieces.specs.SideTexts.{cell_char, board_text}
-use Rattle.gm_pieces.specs.laws.SideTextFacts.{text_length, cell_back}
+use Rattle.gm_pieces.proofs.Lower.{◌≡◌, ◌+◌, ◌<◌, ◌&&◌, ◌∷◌, ◌++◌, ℕ, Bool, eqb, lt-ltb, List, [], map, length, get_or, refl, sym, ap, ap₂, ◌∙◌, arith}
+use Rattle.gm_pieces.proofs.Lower.{zero-add, range_with_len, ext_get_or, get_or-map, map_push, map-range_with_len_more, Cell, Empty, has_cell, cell_by}
+use Rattle.gm_pieces.proofs.Lower.{board_length, board_get, IsRead, cell_char, text_length, cell_back}
+use Rattle.gm_pieces.specs.Lower.{board_of}
+use Rattle.gm_pieces.specs.SideTexts.{board_text}
 
 -- ---- boards
 -- the text of no cell

@@ -30,14 +30,8 @@ pub trait MoveLists: MoveRules {
         ensures { result ≡ (board_game Self.game).ended (Self.cells board) }
     {
         match Self::end_by_last_move(board) {
-            Some(end) => Some(end),
-            None => {
-                if Self::is_stuck(board) {
-                    Some(Self::end_if_no_move(board))
-                } else {
-                    None
-                }
-            }
+            None if Self::is_stuck(board) => Some(Self::end_if_no_move(board)),
+            end => end,
         }
     }
 
@@ -105,10 +99,7 @@ pub trait MoveLists: MoveRules {
         if !Self::is_canonical(p, board) {
             return Kind::Hole;
         }
-        match Self::end(board) {
-            Some(end) => Kind::Ended(end),
-            None => Kind::Inner,
-        }
+        Self::end(board).map_or(Kind::Inner, |end| Kind::Ended(end))
     }
 
     /// Returns the first canonical legal position of the tier with an index from `lo` up to `hi`: its index and its board; `None` if there is no such position.

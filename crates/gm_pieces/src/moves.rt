@@ -78,11 +78,7 @@ pub fn before<T: MoveRules>(tier: u64, board: T::Board, number: u32) -> Option<T
         return None;
     }
     let earlier = T::undo(tier, board, number);
-    if T::goes_on(tier, earlier, number) {
-        Some(earlier)
-    } else {
-        None
-    }
+    T::goes_on(tier, earlier, number).then_some(earlier)
 }
 
 /// Writes the least indexes of the boards of the tier from which a move leads to this one, ascending and once each, over what the list holds.

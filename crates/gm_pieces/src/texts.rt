@@ -13,14 +13,6 @@ use crate::rules::MoveRules;
 use gm_game::position::Position;
 use gm_game::shown::{Line, Shown};
 
-// Returns whether this is the text of a board.
-fn is_shown<T: MoveRules>(board: T::Board, text: &[u8]) -> bool
-    requires { T.game.legal (T.cells board) ≡ true }
-    ensures { IsTrue result ↔ (T.text (T.cells board) ≡ text.now) }
-{
-    T::board_text(board).as_slice() == text
-}
-
 // Returns the legal board with this text, if there is one.
 fn read_board<T: MoveRules>(text: &[u8]) -> Option<T::Board>
     ensures { MatchOption result
@@ -28,11 +20,7 @@ fn read_board<T: MoveRules>(text: &[u8]) -> Option<T::Board>
         (λ b. (T.game.legal (T.cells b) ≡ true) × (T.text (T.cells b) ≡ text.now)) }
 {
     let board = T::board_in(text);
-    if T::is_legal_board(board) && is_shown::<T>(board, text) {
-        Some(board)
-    } else {
-        None
-    }
+    (T::is_legal_board(board) && T::board_text(board).as_slice() == text).then_some(board)
 }
 
 // Returns whether this is the text of a move.
@@ -76,10 +64,8 @@ impl<T: MoveLists> Shown for OnBoards<T> {
     }
 
     fn read(text: &[u8]) -> Option<Position> {
-        match read_board::<T>(text) {
-            Some(board) => Some(position::<T>(board)),
-            None => None,
-        }
+        let board = read_board::<T>(text)?;
+        Some(position::<T>(board))
     }
 
     fn move_text(p: Position, m: u32) -> Line {

@@ -1,6 +1,6 @@
 -- If every table is held, a look-up of all values and best moves exists.
-use Rattle.gm_play.proofs.Lower.{ℕ, ◌≤◌, List, Option, None, Some, IsSome, IfSome, sym, arith, REMOTENESS, Position, Draw, Solved, solved, Rules, IsGame, IsTrueValue}
-use Rattle.gm_play.proofs.Lower.{TableData, AreTables, value_in, value_known, value_true, map_in, AreAllHeld, IsReached, Advice, IsKnown}
+use Rattle.gm_play.proofs.Lower.{ℕ, ◌≤◌, List, Option, None, Some, IsSome, IfSome, sym, arith, REMOTENESS, Position, Draw, Solved, solved, Rules, IsGame}
+use Rattle.gm_play.proofs.Lower.{IsTrueValue, TableData, AreTables, value_in, value_known, value_true, map_in, AreAllHeld, IsReached, Advice, IsKnown}
 use Rattle.gm_play.proofs.Existing.{best_at}
 use Rattle.gm_play.proofs.Held.{held_own}
 use Rattle.gm_play.proofs.Reaching.{held_from, reached_by, reached_reached}

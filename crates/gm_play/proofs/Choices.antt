@@ -1,9 +1,8 @@
 -- Distinct moves: of those that lead to the same canonical position, only the first.
 use Rattle.gm_play.proofs.Lower.{◌≡◌, ◌+◌, ◌<◌, ◌≤◌, Bool, true, false, List, [], ◌∷◌, ◌++◌, ℕ, length, drop, get_or, sym, ap, subst, ◌∙◌, arith, All}
-use Rattle.gm_play.proofs.Lower.{length-append, drop_more, All-push, Rules, MoveValue, leads_alike, firsts_onto}
+use Rattle.gm_play.proofs.Lower.{length-append, drop_more, All-push, Rules, MoveValue, leads_alike, firsts_onto, All-head, All-tail, with_first, chosen}
+use Rattle.gm_play.proofs.Lower.{All-nil}
 use Rattle.std.proofs.Common.{if◌then◌else◌}
-use Rattle.std.proofs.lemmas.List.Elements.{All-head, All-tail}
-use Rattle.gm_play.specs.Firsts.{with_first, chosen}
 
 kept_if : (P : MoveValue → Type 0) (b : Bool) (kept : List MoveValue) (x : MoveValue) → All P kept → P x → All P (if b then kept else kept ++ x ∷ [])
 kept_if P true kept x h p = h
@@ -13,11 +12,8 @@ all_firsts : (r : Rules) (P : MoveValue → Type 0) (kept xs : List MoveValue) �
 all_firsts r P kept [] h t = h
 all_firsts r P kept (x ∷ xs) h t = all_firsts r P (with_first r kept x) xs (kept_if P (leads_alike r kept x) kept x h (All-head P x xs t)) (All-tail P x xs t)
 
-none : (P : MoveValue → Type 0) → All P []
-none P k d inside = absurd (omega arith)
-
 pub all_chosen : (r : Rules) (P : MoveValue → Type 0) (distinct : Bool) (list : List MoveValue) → All P list → All P (chosen r distinct list)
-all_chosen r P true list h = all_firsts r P [] list (none P) h
+all_chosen r P true list h = all_firsts r P [] list (All-nil P) h
 all_chosen r P false list h = h
 
 -- one more move

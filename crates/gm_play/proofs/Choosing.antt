@@ -1,40 +1,25 @@
 -- The choice among some moves, and one more.
 use Rattle.gm_play.proofs.Lower.{◌≡◌, ℕ, ◌<◌, inl, inr, List, [], ◌∷◌, ◌++◌, Option, None, Some, refl, sym, subst, arith, Contains, cases_lt, Position, Value}
-use Rattle.gm_play.proofs.Lower.{Lose, Draw, Tie, Win, Rules, HasValue, HasValue_once, Choice, wanted_from, IsNearer, IsNoFarther, IsBestOf, IsChoice}
-use Rattle.gm_play.proofs.Lower.{Considers}
-use Rattle.std.proofs.lemmas.List.Elements.{Contains-append_left, Contains-push, Contains-push_cases}
-use Rattle.gm_play.specs.BestMoves.{Chooses}
+use Rattle.gm_play.proofs.Lower.{Lose, Draw, Rules, HasValue, HasValue_once, Choice, wanted_from, IsNearer, IsNoFarther, IsBestOf, IsChoice, Considers}
+use Rattle.gm_play.proofs.Lower.{Contains-append_left, Contains-push, Contains-push_cases, Chooses}
 
 -- the order of remotenesses
 farther_unless : (value : Value) (k than : ℕ) → (IsNearer value k than → ⊥) → IsNoFarther value than k
 farther_unless Lose k than h = elim (cases_lt than k) [ inl l ↦ absurd (h l) | inr l ↦ l ]
 farther_unless Draw k than h = tt
-farther_unless Tie k than h = elim (cases_lt k than) [ inl l ↦ absurd (h l) | inr l ↦ l ]
-farther_unless Win k than h = elim (cases_lt k than) [ inl l ↦ absurd (h l) | inr l ↦ l ]
+farther_unless v k than h = elim (cases_lt k than) [ inl l ↦ absurd (h l) | inr l ↦ l ]
 
 nearer_all : (value : Value) (k than other : ℕ) → IsNearer value k than → IsNoFarther value than other → IsNearer value k other
-nearer_all Lose k than other a b = omega arith
 nearer_all Draw k than other a b = absurd a
-nearer_all Tie k than other a b = omega arith
-nearer_all Win k than other a b = omega arith
+nearer_all v k than other a b = omega arith
 
 nearer_no_farther : (value : Value) (k than : ℕ) → IsNearer value k than → IsNoFarther value k than
-nearer_no_farther Lose k than a = omega arith
 nearer_no_farther Draw k than a = tt
-nearer_no_farther Tie k than a = omega arith
-nearer_no_farther Win k than a = omega arith
+nearer_no_farther v k than a = omega arith
 
 never_nearer : (value : Value) (k : ℕ) → IsNearer value k k → ⊥
-never_nearer Lose k a = omega arith
 never_nearer Draw k a = a
-never_nearer Tie k a = omega arith
-never_nearer Win k a = omega arith
-
-same_far : (value : Value) (k : ℕ) → IsNoFarther value k k
-same_far Lose k = omega arith
-same_far Draw k = tt
-same_far Tie k = omega arith
-same_far Win k = omega arith
+never_nearer v k a = omega arith
 
 module _ (r : Rules) (p : Position) (value : Value) (front : List ℕ) (m : ℕ) (above : (n : ℕ) → Contains front n → n < m) where
   abbrev Goes : ℕ → ℕ → Type 0
@@ -65,28 +50,20 @@ module _ (r : Rules) (p : Position) (value : Value) (front : List ℕ) (m : ℕ)
     reaches = goes;
     no_better = λ n l has v. elim (Contains-push_cases front m n has) [
       | inl i ↦ nearer_no_farther value k l (before n l i v)
-      | inr e ↦ subst (IsNoFarther value k) (goes_once n k l e goes v) (same_far value k)
+      | inr e ↦ subst (IsNoFarther value k) (goes_once n k l e goes v) (farther_unless value k k (never_nearer value k))
     ];
     first = λ n has v. elim (Contains-push_cases front m n has) [ inl i ↦ absurd (never_nearer value k (before n k i v)) | inr e ↦ omega arith ];
   }
 
   chosen : (best : Option Choice) (c : Choice) (k : ℕ) → IsChoice r p value front best → Goes m k → Chooses value best m k c → IsBestOf r p value
       (front ++ m ∷ []) c.number c.remoteness
-  chosen None c k before goes e = subst (λ (x : Choice). IsBestOf r p value (front ++ m ∷ []) x.number x.remoteness) (sym e) (best_new k (λ n l i v. absurd (before n l i v)) goes)
-  chosen (Some old) c k b goes (inl (near, e)) = subst (λ (x : Choice). IsBestOf r p value (front ++ m ∷ []) x.number x.remoteness) (sym e)
-      (best_new k (λ n l i v. nearer_all value k old.remoteness l near (b.no_better n l i v)) goes)
-  chosen (Some old) c k b goes (inr (far, e)) = subst (λ (x : Choice). IsBestOf r p value (front ++ m ∷ []) x.number x.remoteness) (sym e)
-      (best_stays old.number old.remoteness b (λ l v. subst (IsNoFarther value old.remoteness) (goes_once m k l refl goes v)
-      (farther_unless value k old.remoteness far)))
+  chosen None c k before goes e = rw e (best_new k (λ n l i v. absurd (before n l i v)) goes)
+  chosen (Some old) c k b goes (inl (near, e)) = rw e (best_new k (λ n l i v. nearer_all value k old.remoteness l near (b.no_better n l i v)) goes)
+  chosen (Some old) c k b goes (inr (far, e)) = rw e (best_stays old.number old.remoteness b
+      (λ l v. subst (IsNoFarther value old.remoteness) (goes_once m k l refl goes v) (farther_unless value k old.remoteness far)))
 
   -- the choice after the move
   pub considered : (best new : Option Choice) → IsChoice r p value front best → Considers r p value m best new → IsChoice r p value (front ++ m ∷ []) new
-  considered best None b (e, none) = none_kept (subst (IsChoice r p value front) e b) none
-  considered best (Some c) b (inl (e, none)) = best_stays c.number c.remoteness (subst (IsChoice r p value front) e b) (λ l v. absurd (none l v))
-  considered best (Some c) b (inr (k, goes, chooses)) = chosen best c k b goes chooses
-
--- a move that goes elsewhere changes nothing
-pub goes_elsewhere : (r : Rules) (p : Position) (value : Value) (m : ℕ) (best : Option Choice) →
-    ((k : ℕ) → HasValue r (r.play p m) (wanted_from value) k → ⊥) → Considers r p value m best best
-goes_elsewhere r p value m None none = (refl, none)
-goes_elsewhere r p value m (Some c) none = inl (refl, none)
+  considered None new b (inl (e, none)) = rw e (none_kept b none)
+  considered (Some c) new b (inl (e, none)) = rw e (best_stays c.number c.remoteness b (λ l v. absurd (none l v)))
+  considered best new b (inr (k, c, e, goes, chooses)) = rw e (chosen best c k b goes chooses)

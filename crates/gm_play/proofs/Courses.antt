@@ -1,18 +1,55 @@
 -- What holds of a dialogue for any input: its last line is that of its end, and what the computer's best moves guarantee.
-use Rattle.gm_play.proofs.Lower.{◌≡◌, ◌≢◌, ℕ, ◌+◌, ◌≤◌, Bool, true, false, List, [], ◌∷◌, ◌++◌, length, codes, Option, None, Some, IfSome, refl, sym, subst, arith}
-use Rattle.gm_play.proofs.Lower.{append_assoc, append-nil, inl, inr, ◌==◌, if◌then◌else◌, Contains, find, bytes_eq, Position, End, Rules, IsGame, text_of, Side}
-use Rattle.gm_play.proofs.Lower.{You, Computer, IsBestMove, IsWonIn, IsEven, IsReached, Advice, IsKnown, Said, Course, before, after_move, ends, asks, game_over}
-use Rattle.gm_play.proofs.Lower.{place, asks_or_ends, persons_turn, moves_or_ends, computers_turn, turn, without_return, answer_to, reply, closing, dialogue}
-use Rattle.gm_play.proofs.Lower.{text_after, unmoved, course_with, course_after, course, First, Again, Question}
-use Rattle.gm_game.specs.declared.position.End.TheVariants.{Lose as EndLose, Tie as EndTie, Win as EndWin}
-use Rattle.gm_play.specs.Endings.{winner, over}
+use Rattle.gm_play.proofs.Lower.{◌≡◌, ◌≢◌, ℕ, ◌+◌, ◌≤◌, Bool, true, false, List, [], ◌∷◌, ◌++◌, length, codes, Option, None, Some, IfSome, refl, sym, subst}
+use Rattle.gm_play.proofs.Lower.{arith, append_assoc, append-nil, inl, inr, ◌==◌, if◌then◌else◌, Contains, find, bytes_eq, Position, End, Rules, IsGame}
+use Rattle.gm_play.proofs.Lower.{text_of, Side, You, Computer, IsBestMove, IsWonIn, IsEven, IsReached, Advice, IsKnown, Said, Course, before, after_move, ends}
+use Rattle.gm_play.proofs.Lower.{asks, game_over, place, asks_or_ends, persons_turn, moves_or_ends, computers_turn, turn, without_return, answer_to, reply}
+use Rattle.gm_play.proofs.Lower.{closing, dialogue, text_after, unmoved, course_with, course_after, course, First, Again, Question, winner, over, IsWonCourse}
+use Rattle.gm_play.proofs.Lower.{IsUnlostCourse, EndsWon, EndsUnlost, ◌⊎◌, ap, ◌∙◌, over_line, IsLastLine}
+use Rattle.gm_game.specs.declared.position.End.TheVariants.{Lose as EndLose, Win as EndWin}
 use Rattle.gm_play.specs.Dialogue.{talk, course_from}
-use Rattle.gm_play.specs.Courses.{IsWonCourse, IsUnlostCourse}
-use Rattle.gm_play.specs.LastLines.{EndsWon, EndsUnlost}
-use Rattle.gm_play.proofs.Ending.{EndsLine, IsClosed, closed_after, ends_after, won_line, unlost_line}
 use Rattle.gm_play.proofs.Keeping.{reply_won, best_won, won_at, IsSafe, even_safe, reply_safe, best_safe, not_lost}
 use Rattle.gm_play.proofs.Reaching.{reached_reached, played_reached}
 use Rattle.gm_play.proofs.Reading.{find_is}
+
+abbrev newline : List ℕ
+newline = codes "\n"
+
+-- a text of whole lines
+abbrev EndsLine : List ℕ → Type 0
+EndsLine t = (front : List ℕ) × (t ≡ front ++ newline)
+
+-- the last line, by the end of the game: the line of the result, or that of the session if the game goes on
+abbrev IsClosed : Option (Option Side) → List ℕ → Type 0
+IsClosed None t = IsLastLine t (codes "bye\n") ⊎ IsLastLine t (codes "input ended\n")
+IsClosed (Some w) t = IsLastLine t (over_line w)
+
+last_after : (pre t line : List ℕ) → EndsLine pre → IsLastLine t line → IsLastLine (pre ++ t) line
+last_after pre t line (front, e) (inl h) = inr (front, ap (λ (x : List ℕ). x ++ t) e ∙ ap (λ (x : List ℕ). front ++ newline ++ x) h)
+last_after pre t line e (inr (front, h)) = inr (
+  pre ++ front,
+  ap (λ (x : List ℕ). pre ++ x) h ∙ sym (append_assoc pre (front ++ newline) line) ∙ ap
+      (λ (x : List ℕ). x ++ line) (sym (append_assoc pre front newline)),
+)
+
+closed_after : (pre t : List ℕ) (e : Option (Option Side)) → EndsLine pre → IsClosed e t → IsClosed e (pre ++ t)
+closed_after pre t None l (inl h) = inl (last_after pre t (codes "bye\n") l h)
+closed_after pre t None l (inr h) = inr (last_after pre t (codes "input ended\n") l h)
+closed_after pre t (Some w) l h = last_after pre t (over_line w) l h
+
+ends_after : (pre t : List ℕ) → EndsLine t → EndsLine (pre ++ t)
+ends_after pre t (front, e) = (pre ++ front, ap (λ (x : List ℕ). pre ++ x) e ∙ sym (append_assoc pre front newline))
+
+-- the last lines from a win of the computer's side, and if the computer's side does not lose
+won_line : (e : Option (Option Side)) (t : List ℕ) → IfSome e (λ w. w ≡ Some Computer) → IsClosed e t → EndsWon t
+won_line None t h c = inr c
+won_line (Some (Some Computer)) t h c = inl c
+won_line e t h c = absurd (cc)
+
+unlost_line : (e : Option (Option Side)) (t : List ℕ) → IfSome e (λ w. w ≢ Some You) → IsClosed e t → EndsUnlost t
+unlost_line None t h c = inr (inr c)
+unlost_line (Some None) t h c = inl c
+unlost_line (Some (Some You)) t h c = absurd (h refl)
+unlost_line (Some (Some Computer)) t h c = inr (inl c)
 
 -- what holds of the positions of a game, up to a bound, and of its end, however the person replies to the best moves
 record IsKept (r : Rules) (X : Type 0) (At : X → Position → Side → Type 0) (Few : X → ℕ → Type 0) (Ends : Option Side → Type 0) : Type 0 where
@@ -32,6 +69,9 @@ module _ (r : Rules) (g : IsGame r) (shown : Position → List ℕ) (move_shown 
 
   abbrev Talk : Position → List ℕ → List ℕ → List ℕ
   Talk = talk r shown move_shown k seen (closing r shown move_shown k seen)
+
+  abbrev From : Position → List ℕ → List ℕ → Course
+  From = course_from r shown move_shown k seen
 
   module _ (X : Type 0) (At : X → Position → Side → Type 0) (Few : X → ℕ → Type 0) (Ends : Option Side → Type 0) (kept : IsKept r X At Few Ends) where
     -- the course of a game, and the text of its dialogue
@@ -118,27 +158,17 @@ module _ (r : Rules) (g : IsGame r) (shown : Position → List ℕ) (move_shown 
         let text = without_return line in
         reply_case x p line (bytes_eq text (codes "quit")) (find (λ m. bytes_eq (move_shown p m) text) (r.moves p)) refl a
 
+    if_fine : (x : X) (c : Bool) (a b : Course) (s t : List ℕ) → IsFine x a s → IsFine x b t → IsFine x (if c then a else b) (if c then s else t)
+    if_fine x true a b s t h k = h
+    if_fine x false a b s t h k = k
+
     -- the input ends, or goes on
-    end_fine : (x : X) (p : Position) (line : List ℕ) (c : Bool) → IsAsked x p
-        → IsFine x (if c then unmoved else course_after (reply r shown move_shown k seen p line) (λ q. unmoved))
-        (if c then codes "input ended\n" else (reply r shown move_shown k seen p line).text ++ text_after (λ q. codes "input ended\n")
-        (reply r shown move_shown k seen p line).asked)
-    end_fine x p line true a = (kept.none x, tt, inr (inl refl))
-    end_fine x p line false a = reply_open x p line a (λ q. codes "input ended\n") (λ q. unmoved) (λ y q b. (kept.none y, tt, inr (inl refl)))
-
-    byte_fine : (bs line : List ℕ) (x : X) (p : Position) (b : ℕ) (c : Bool)
-        → ((m : List ℕ) (y : X) (q : Position) → IsAsked y q → IsFine y (course_from r shown move_shown k seen q m bs) (Talk q m bs)) → IsAsked x p
-        → IsFine x (if c then course_after (reply r shown move_shown k seen p line) (λ q. course_from r shown move_shown k seen q [] bs) else course_from r
-        shown move_shown k seen p (line ++ b ∷ []) bs)
-        (if c then (reply r shown move_shown k seen p line).text ++ text_after (λ q. Talk q [] bs) (reply r shown move_shown k seen p line).asked else Talk p
-        (line ++ b ∷ []) bs)
-    byte_fine bs line x p b true rest a = reply_open x p line a (λ q. Talk q [] bs) (λ q. course_from r shown move_shown k seen q [] bs) (rest [])
-    byte_fine bs line x p b false rest a = rest (line ++ b ∷ []) x p a
-
-    from_fine : (bytes line : List ℕ) (x : X) (p : Position) → IsAsked x p → IsFine x (course_from r shown move_shown k seen p line bytes) (Talk p line bytes)
+    from_fine : (bytes line : List ℕ) (x : X) (p : Position) → IsAsked x p → IsFine x (From p line bytes) (Talk p line bytes)
     unfolding course_from talk
-    from_fine [] line x p a = end_fine x p line (length line == 0) a
-    from_fine (b ∷ bs) line x p a = byte_fine bs line x p b (b == 10) (λ m y q. from_fine bs m y q) a
+    from_fine [] line x p a = if_fine x (length line == 0) _ _ _ _ (kept.none x, tt, inr (inl refl))
+        (reply_open x p line a (λ q. codes "input ended\n") (λ q. unmoved) (λ y q b. (kept.none y, tt, inr (inl refl))))
+    from_fine (b ∷ bs) line x p a = if_fine x (b == 10) _ _ _ _
+        (reply_open x p line a (λ q. Talk q [] bs) (λ q. From q [] bs) (from_fine bs [])) (from_fine bs (line ++ b ∷ []) x p a)
 
     turn_open : (x : X) (p : Position) (s : Side) → IsReached r tier p → At x p s → IsOpen x (turn r shown move_shown k seen p s)
     turn_open x p You l a = person_open x p (l, a)
@@ -146,16 +176,13 @@ module _ (r : Rules) (g : IsGame r) (shown : Position → List ℕ) (move_shown 
 
     fine : (x : X) (start : Position) (first : Side) (bytes : List ℕ) → IsReached r tier start → At x start first
         → IsFine x (course r shown move_shown k seen start first bytes) (dialogue r shown move_shown k seen start first bytes)
-    fine x start first bytes l a = turn_open x start first l a (λ q. Talk q [] bytes) (λ q. course_from r shown move_shown k seen q [] bytes) (from_fine bytes [])
+    fine x start first bytes l a = turn_open x start first l a (λ q. Talk q [] bytes) (λ q. From q [] bytes) (from_fine bytes [])
 
   -- a win of the computer's side within n moves
   won_over : (n : ℕ) (p : Position) (s : Side) (e : End) → IsWonIn r p s n → r.primitive p ≡ Some e → winner s e ≡ Some Computer
   won_over n p You EndLose a o = refl
   won_over n p Computer EndWin a o = refl
-  won_over n p You EndTie a o = absurd (let w = won_at r g p You n (Some EndTie) a o (λ x. absurd (cc)) in cc)
-  won_over n p You EndWin a o = absurd (let w = won_at r g p You n (Some EndWin) a o (λ x. absurd (cc)) in cc)
-  won_over n p Computer EndTie a o = absurd (let w = won_at r g p Computer n (Some EndTie) a o (λ x. absurd (cc)) in cc)
-  won_over n p Computer EndLose a o = absurd (let w = won_at r g p Computer n (Some EndLose) a o (λ x. absurd (cc)) in cc)
+  won_over n p s e a o = absurd (let w = won_at r g p s n (Some e) a o (λ x. absurd (cc)) in cc)
 
   pub course_won : (start : Position) (first : Side) (n : ℕ) (bytes : List ℕ) → IsReached r tier start → IsWonIn r start first n
       → IsWonCourse n (course r shown move_shown k seen start first bytes) × EndsWon (dialogue r shown move_shown k seen start first bytes)
@@ -170,11 +197,9 @@ module _ (r : Rules) (g : IsGame r) (shown : Position → List ℕ) (move_shown 
 
   -- neither side wins: the computer's side does not lose
   safe_over : (x : Unit {0}) (p : Position) (s : Side) (e : End) → IsSafe r g p s → r.primitive p ≡ Some e → winner s e ≢ Some You
-  safe_over x p s EndTie a o = λ w. absurd (cc)
-  safe_over x p You EndLose a o = λ w. absurd (cc)
   safe_over x p You EndWin a o = λ w. not_lost r g p You a o
   safe_over x p Computer EndLose a o = λ w. not_lost r g p Computer a o
-  safe_over x p Computer EndWin a o = λ w. absurd (cc)
+  safe_over x p s e a o = λ w. absurd (cc)
 
   pub course_even : (start : Position) (first : Side) (bytes : List ℕ) → IsReached r tier start → IsEven r start
       → IsUnlostCourse (course r shown move_shown k seen start first bytes) × EndsUnlost (dialogue r shown move_shown k seen start first bytes)

@@ -1,9 +1,9 @@
 -- Properties that best moves preserve, move by move.
 use Rattle.gm_play.proofs.Lower.{◌≡◌, ◌≢◌, ℕ, zero, suc, ◌+◌, ◌<◌, ◌≤◌, inl, inr, Bool, true, false, List, Option, None, Some, refl, sym, ap, ◌∙◌, subst, arith}
 use Rattle.gm_play.proofs.Lower.{Contains, Position, End, Value, Lose, Draw, Tie, Win, Rules, IsGame, loses, wins, HasValue, contains_none, map_from, Solved}
-use Rattle.gm_play.proofs.Lower.{loses_zero, loses_suc, loses_at_end, wins_at_end, ties_at_end, wins_from, HasValue_once, never_both}
-use Rattle.gm_play.proofs.Lower.{no_win_of_tie, no_loss_of_tie, win_within, Side, You, Computer, wanted_from, IsNoFarther, IsBestOf, IsBestMove}
-use Rattle.gm_play.proofs.Lower.{IsWonIn, IsEven, HasWon, HasLost}
+use Rattle.gm_play.proofs.Lower.{loses_zero, loses_suc, loses_at_end, wins_at_end, ties_at_end, wins_from, HasValue_once, never_both, no_win_of_tie}
+use Rattle.gm_play.proofs.Lower.{no_loss_of_tie, win_within, Side, You, Computer, wanted_from, IsNoFarther, IsBestOf, IsBestMove, IsWonIn, IsEven, HasWon}
+use Rattle.gm_play.proofs.Lower.{HasLost}
 use Rattle.gm_game.specs.declared.position.End.TheVariants.{Lose as EndLose, Tie as EndTie, Win as EndWin}
 use Rattle.gm_play.proofs.Lowering.{step_value}
 
@@ -14,10 +14,8 @@ false_unless false h = refl
 -- the best move is unique
 same_remoteness : (r : Rules) (v : Value) (p q : Position) (k l : ℕ) → HasValue r p (wanted_from v) k → HasValue r q (wanted_from v) l → IsNoFarther v k l →
     IsNoFarther v l k → k ≡ l
-same_remoteness r Lose p q k l a b c d = omega arith
 same_remoteness r Draw p q k l a b c d = a.0 ∙ sym b.0
-same_remoteness r Tie p q k l a b c d = omega arith
-same_remoteness r Win p q k l a b c d = omega arith
+same_remoteness r v p q k l a b c d = omega arith
 
 best_of_once : (r : Rules) (p : Position) (v : Value) (ms : List ℕ) (m n k l : ℕ) → IsBestOf r p v ms m k → IsBestOf r p v ms n l → m ≡ n
 best_of_once r p v ms m n k l a b =

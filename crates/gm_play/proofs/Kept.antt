@@ -1,12 +1,9 @@
 -- A line is answered from its kept prefix as from the whole line, because no move has a longer text.
-use Rattle.gm_play.proofs.Lower.{◌≡◌, ℕ, ◌+◌, ◌-◌, ◌≤◌, ◌<◌, ◌⊎◌, inl, inr, Bool, true, false, List, [], ◌∷◌, ◌++◌, length, take, drop, codes, None, sym, ap}
-use Rattle.gm_play.proofs.Lower.{◌∙◌, arith, ◌==◌, if◌then◌else◌, bytes_eq, cases_lt, take_all, length-take, length-take-le, length-append, Position, Rules}
-use Rattle.gm_play.proofs.Lower.{IsShown, KEPT, Advice, Said, asks, without_return, reply, closing, Question, Again}
-use Rattle.std.proofs.Common.{nat_eq}
+use Rattle.gm_play.proofs.Lower.{◌≡◌, ℕ, ◌+◌, ◌-◌, ◌≤◌, ◌<◌, ◌⊎◌, inl, inr, Bool, true, false, List, [], ◌∷◌, ◌++◌, length, take, drop, codes, sym, ap, ◌∙◌}
+use Rattle.gm_play.proofs.Lower.{arith, ◌==◌, if◌then◌else◌, bytes_eq, cases_lt, take_all, length-take, length-take-le, length-append, Position, Rules, refl}
+use Rattle.gm_play.proofs.Lower.{text_after, IsShown, KEPT, Advice, Said, asks, without_return, reply, closing, Question, Again, nat_eq, take-append-le, LINE}
 use Rattle.std.specs.Cmp.Lexicographic.{unequal}
-use Rattle.std.proofs.lemmas.List.{take-append-le}
-use Rattle.gm_game.specs.declared.limits.TheConstants.{LINE}
-use Rattle.gm_play.proofs.Reading.{none_found, reply_is, after_reply, closing_is}
+use Rattle.gm_play.proofs.Reading.{none_found}
 
 -- one more byte
 pub kept_push : (kept line : List ℕ) (b : ℕ) → kept ≡ take KEPT line → length kept < KEPT → kept ++ b ∷ [] ≡ take KEPT (line ++ b ∷ [])
@@ -35,10 +32,9 @@ module _ (r : Rules) (shown : Position → List ℕ) (move_shown : Position → 
   no_move line long =
       let text = without_return line in
       let many : LINE + 1 ≤ length text = text_long line (LINE + 1) long in
-      reply_is r shown move_shown k seen p line None
-      (unequal nat_eq text (codes "quit") (λ e. omega (arith, e, many)))
-      (none_found (λ m. bytes_eq (move_shown p m) text) (r.moves p)
-      (λ m has. unequal nat_eq (move_shown p m) text (λ e. (let fits = t.move_shown_fits p m legal has in omega (arith, e, fits, many)))))
+      rw (unequal nat_eq text (codes "quit") (λ e. omega (arith, e, many)))
+      (rw (none_found (λ m. bytes_eq (move_shown p m) text) (r.moves p)
+      (λ m has. unequal nat_eq (move_shown p m) text (λ e. (let fits = t.move_shown_fits p m legal has in omega (arith, e, fits, many))))) refl)
 
   heard_if : (line : List ℕ) → (KEPT < length line) ⊎ (length line ≤ KEPT) → reply r shown move_shown k seen p (take KEPT line) ≡ reply r shown move_shown k
       seen p line
@@ -54,9 +50,8 @@ module _ (r : Rules) (shown : Position → List ℕ) (move_shown : Position → 
   closed_if : (line : List ℕ) → (KEPT < length line) ⊎ (length line ≤ KEPT) → closing r shown move_shown k seen p (take KEPT line) ≡ closing r shown
       move_shown k seen p line
   closed_if line (inl long) =
-      sym (closing_is r shown move_shown k seen p (take KEPT line) (some_bytes (length (take KEPT line)) (omega (arith, long, length-take KEPT line))))
-      ∙ ap (λ (s : Said). s.text ++ after_reply r shown move_shown k seen p line s.asked) (heard line)
-      ∙ closing_is r shown move_shown k seen p line (some_bytes (length line) (omega (arith, long)))
+      rw (some_bytes (length (take KEPT line)) (omega (arith, long, length-take KEPT line)), some_bytes (length line) (omega (arith, long)))
+      (ap (λ (s : Said). s.text ++ text_after (λ q. codes "input ended\n") s.asked) (heard line))
   closed_if line (inr short) = ap (closing r shown move_shown k seen p) (take_all KEPT line short)
 
   pub closed : (line : List ℕ) → closing r shown move_shown k seen p (take KEPT line) ≡ closing r shown move_shown k seen p line

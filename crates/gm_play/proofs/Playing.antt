@@ -1,10 +1,8 @@
 -- A line of play, move by move.
 use Rattle.gm_play.proofs.Lower.{◌≡◌, ◌≢◌, ℕ, ◌+◌, ◌≤◌, ◌⊎◌, inl, inr, List, [], ◌∷◌, length, Option, None, Some, refl, sym, ap, ◌∙◌, subst, arith, MatchOption}
-use Rattle.gm_play.proofs.Lower.{Contains, Rules, IsGame, Side, You, Computer, PlayLine, IsBestMove, IsReached, position_after, side_after, IsLine}
-use Rattle.gm_play.proofs.Lower.{IsPlayed, IsReplied}
+use Rattle.gm_play.proofs.Lower.{Contains, Rules, IsGame, Side, You, Computer, PlayLine, IsBestMove, IsReached, position_after, side_after, IsLine, IsPlayed}
+use Rattle.gm_play.proofs.Lower.{IsReplied, other, one_more, IsAnswered}
 use Rattle.std.specs.Prelude.{IfSome}
-use Rattle.gm_play.specs.Sides.{other}
-use Rattle.gm_play.specs.Lines.{one_more, IsAnswered}
 use Rattle.gm_play.proofs.Keeping.{best_once}
 use Rattle.gm_play.proofs.Reaching.{played_reached, reached_reached}
 

@@ -72,12 +72,10 @@ module _ (r : Rules) (g : IsGame r) where
       let few = t.0 in
       let number = leads.number in (
         omega arith,
-        λ h. subst (λ (q : Position). HasWon r q end.side) (sym leads.position)
-            (subst (λ (x : Side). HasWon r (position_after r p moves) x) (sym leads.side) (t.1 (λ e. h (ap r.primitive leads.position ∙ e)))),
+        λ h. rw (leads.position, leads.side) (t.1 (λ e. h (ap r.primitive leads.position ∙ e))),
       )
 
   pub played_even : (p : Position) (s : Side) (replies : List ℕ) (end : PlayLine) → r.is_legal p ≡ true → IsPlayed r p s replies end → IsEven r p → HasLost
       r end.position end.side → ⊥
   played_even p s replies end l (moves, line, leads) even lost =
-      line_safe moves p s replies l line (even_safe r g p s even)
-      (subst (λ (q : Position). HasLost r q (side_after s moves)) leads.position (subst (λ (x : Side). HasLost r end.position x) leads.side lost))
+      line_safe moves p s replies l line (even_safe r g p s even) (rw (leads.position, leads.side) at lost)

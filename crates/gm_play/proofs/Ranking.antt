@@ -1,12 +1,11 @@
 -- The first of the sorted moves is the best move, and its worth is the value of the position.
 use Rattle.gm_play.proofs.Lower.{◌≡◌, ℕ, suc, ◌+◌, ◌<◌, ◌≤◌, true, List, [], ◌∷◌, map, Some, refl, sym, ap, subst, ◌∙◌, arith, IsPermutation, Contains}
 use Rattle.gm_play.proofs.Lower.{Contains-permutation, IsPermutation-sym, REMOTENESS, Position, Solved, Value, Lose, Draw, Tie, Win, IsGame, solved, Rules}
-use Rattle.gm_play.proofs.Lower.{IsChild, HasValue, IsTrueValue, HasValue_once, contains_none, contains_first, map_from, map_in, wins_from}
-use Rattle.gm_play.proofs.Lower.{ties_from, no_win_of_tie, IsBestMove, MoveValue, wanted_from, IsNoFarther, IsBestOf, worth_from, IsMoveValue, AreMoveValues}
-use Rattle.std.proofs.Common.{◌*◌, ◌^◌}
-use Rattle.std.specs.List.Sorted.{IsNonDecreasingBy}
-use Rattle.std.proofs.lemmas.List.Elements.{All-contains}
-use Rattle.gm_play.specs.MoveValues.{rank, place, BeginsBest}
+use Rattle.gm_play.proofs.Lower.{IsChild, HasValue, IsTrueValue, HasValue_once, contains_none, contains_first, map_from, map_in, wins_from, ties_from}
+use Rattle.gm_play.proofs.Lower.{no_win_of_tie, IsBestMove, MoveValue, wanted_from, IsNoFarther, IsBestOf, worth_from, IsMoveValue, AreMoveValues, ◌^◌}
+use Rattle.gm_play.proofs.Lower.{IsNonDecreasingBy, All-contains, rank, BeginsBest}
+use Rattle.std.proofs.Common.{◌*◌}
+use Rattle.gm_play.specs.MoveValues.{place}
 use Rattle.gm_play.proofs.Lowering.{best_worth}
 use Rattle.gm_play.proofs.Wanted.{leads}
 use Rattle.gm_play.proofs.Keeping.{goes_on, reply_won}
@@ -19,10 +18,8 @@ number_next : (a b m n : ℕ) → a ≡ b → 2 ^ 32 * a + m ≤ 2 ^ 32 * b + n 
 number_next a b m n e h = omega arith
 
 rank_far : (v : Value) (k l : ℕ) → k ≤ REMOTENESS → l ≤ REMOTENESS → rank (wanted_from v) k ≤ rank (wanted_from v) l → IsNoFarther v k l
-rank_far Lose k l a b h = omega arith
 rank_far Draw k l a b h = tt
-rank_far Tie k l a b h = omega arith
-rank_far Win k l a b h = omega arith
+rank_far v k l a b h = omega arith
 
 -- the key by which a move to a result of this value is sorted
 abbrev pub key : Value → ℕ → ℕ → ℕ
@@ -45,15 +42,10 @@ module _ (r : Rules) (g : IsGame r) (p : Position) (legal : r.is_legal p ≡ tru
   wanted_first m k l has Draw Draw own q h a b low = refl
   wanted_first m k l has Draw Tie own q h a b low =
       absurd (q.3 (suc k) (ties_from r k p (r.play p m) (goes_on r g p m legal has) q.2 (map_from (r.play p) (r.moves p) m has) h.0))
-  wanted_first m k l has Draw Win own q h a b low = absurd (omega arith)
   wanted_first m k l has Tie Lose own q h a b low = absurd (no_win_of_tie r own p q.0 (suc k) (wins_from r k p (r.play p m) (goes_on r g p m legal has) (map_from (r.play p) (r.moves p) m has) h.0))
-  wanted_first m k l has Tie Draw own q h a b low = absurd (omega arith)
   wanted_first m k l has Tie Tie own q h a b low = refl
-  wanted_first m k l has Tie Win own q h a b low = absurd (omega arith)
   wanted_first m k l has Win Lose own q h a b low = refl
-  wanted_first m k l has Win Draw own q h a b low = absurd (omega arith)
-  wanted_first m k l has Win Tie own q h a b low = absurd (omega arith)
-  wanted_first m k l has Win Win own q h a b low = absurd (omega arith)
+  wanted_first m k l has v w own q h a b low = absurd (omega arith)
 
   -- the move that comes before all others is the best one, and its worth is the value of the position
   module _ (known : (d : Position) → IsChild r p d → (s : Solved) × IsTrueValue r d s) (m k : ℕ) (w : Value) (has : Contains (r.moves p) m)

@@ -1,6 +1,6 @@
 -- The positions and tiers that play can reach.
-use Rattle.gm_play.proofs.Lower.{◌≡◌, ℕ, zero, suc, inl, inr, true, List, refl, sym, subst, Contains, Position, Rules, IsGame}
-use Rattle.gm_play.proofs.Lower.{TableData, IsBelow, IsReached, AreAllHeld}
+use Rattle.gm_play.proofs.Lower.{◌≡◌, ℕ, zero, suc, inl, inr, true, List, refl, sym, subst, Contains, Position, Rules, IsGame, TableData, IsBelow, IsReached}
+use Rattle.gm_play.proofs.Lower.{AreAllHeld, Advice, IsKnown}
 
 below_below : (r : Rules) (n a b m c : ℕ) → IsBelow r n a b → IsBelow r m b c → (j : ℕ) × IsBelow r j a c
 below_below r zero a b m c h k = (m, subst (λ (x : ℕ). IsBelow r m x c) (sym h) k)
@@ -23,3 +23,7 @@ reached_by r g p m l has q e = subst (IsReached r p.tier) (sym e) (played_reache
 -- what is held from a position that is reached
 pub held_from : (r : Rules) (entries : List TableData) (tier : ℕ) (p : Position) → AreAllHeld r entries tier → IsReached r tier p → AreAllHeld r entries p.tier
 held_from r entries tier p held (l, (n, h)) j t k = (let (i, b) = below_below r n tier p.tier j t h k in held i t b)
+
+-- a look-up that holds from a tier also holds from each position that is reached from it
+pub known_from : (r : Rules) (tier : ℕ) (k : Advice) (p : Position) → IsKnown r tier k → IsReached r tier p → IsKnown r p.tier k
+known_from r tier k p known h q t = known q (reached_reached r tier p q h t)

@@ -1,11 +1,9 @@
 -- The rows of moves and of lines of play.
 use Rattle.gm_play.proofs.Lower.{◌≡◌, ℕ, ◌+◌, ◌-◌, ◌<◌, ◌≤◌, true, List, [], ◌∷◌, ◌++◌, length, map, take, drop, get_or, Some, refl, sym, ap, ap₂, subst, ◌∙◌}
 use Rattle.gm_play.proofs.Lower.{arith, All, Contains, flat_map, take_more, take_all, drop_more, flat_map-append, Contains-permutation, IsPermutation-sym}
-use Rattle.gm_play.proofs.Lower.{Position, Solved, Value, Lose, Draw, Tie, Win, IsGame, solved, Rules, text_of, HasValue, IsTrueValue, map_from, MoveValue}
-use Rattle.gm_play.proofs.Lower.{AreBest, wanted_from, IsBestMove, worth_from, AreMoveValues, row, after_best, IsMoveOf, rows_from}
-use Rattle.std.proofs.lemmas.List.{append_assoc, append-nil}
-use Rattle.std.proofs.lemmas.List.Elements.{All-contains_itself}
-use Rattle.gm_play.specs.PlayTexts.{AreLineRows}
+use Rattle.gm_play.proofs.Lower.{Position, Solved, Value, Draw, IsGame, solved, Rules, HasValue, IsTrueValue, map_from, MoveValue, AreBest, wanted_from}
+use Rattle.gm_play.proofs.Lower.{IsBestMove, worth_from, AreMoveValues, after_best, IsMoveOf, rows_from, All-contains_itself, AreLineRows}
+use Rattle.std.proofs.lemmas.List.{append-nil}
 use Rattle.gm_play.proofs.Lowering.{step_value}
 
 -- moves with their values have legal results
@@ -20,18 +18,14 @@ are_moves r g p legal list h k d inside =
 
 -- the value after the best move
 lowered : (v : Value) (k n : ℕ) → (v ≡ Draw → n ≡ 0) → worth_from (wanted_from v) k ≡ solved v n → k ≡ n - 1
-lowered Lose k n d e = let f : k + 1 ≡ n = ap (λ s. s.remoteness) e in omega arith
 lowered Draw k n d e = let f : k ≡ n = ap (λ s. s.remoteness) e in let z : n ≡ 0 = d refl in omega arith
-lowered Tie k n d e = let f : k + 1 ≡ n = ap (λ s. s.remoteness) e in omega arith
-lowered Win k n d e = let f : k + 1 ≡ n = ap (λ s. s.remoteness) e in omega arith
-
-drawn_zero : (r : Rules) (p : Position) (v : Value) (n : ℕ) → HasValue r p v n → v ≡ Draw → n ≡ 0
-drawn_zero r p v n h e = (subst (λ (w : Value). HasValue r p w n) e h).0
+lowered v k n d e = let f : k + 1 ≡ n = ap (λ s. s.remoteness) e in omega arith
 
 pub after_true : (r : Rules) (p : Position) (m : ℕ) (s : Solved) → IsBestMove r p (Some m) → IsTrueValue r p s → IsTrueValue r (r.play p m) (after_best s)
 after_true r p m s b h =
     let (k, here, e) = step_value r p m s.value s.remoteness b h in
-    subst (λ (n : ℕ). HasValue r (r.play p m) (wanted_from s.value) n) (lowered s.value k s.remoteness (drawn_zero r p s.value s.remoteness h) e) here
+    let drawn : s.value ≡ Draw → s.remoteness ≡ 0 = λ d. (subst (λ (w : Value). HasValue r p w s.remoteness) d h).0 in
+    subst (λ (n : ℕ). HasValue r (r.play p m) (wanted_from s.value) n) (lowered s.value k s.remoteness drawn e) here
 
 -- the next of some best moves is a move, and the following ones are best after it
 pub best_step : (r : Rules) (p : Position) (ms : List ℕ) (k : ℕ) → k < length ms → AreBest r p (drop k ms) → Contains (r.moves p) (get_or ms k 0) × AreBest
@@ -46,26 +40,6 @@ module _ (r : Rules) (shown : Position → List ℕ) (move_shown : Position → 
   rows_true (m ∷ ms) p s best h =
       let next = after_true r p m s best.0 h in
       (after_best s, rows_from r shown move_shown (r.play p m) (after_best s) ms, next, rows_true ms (r.play p m) (after_best s) best.1 next, refl)
-
-  -- one more row
-  pub rows_next : (p q : Position) (s t : Solved) (m : ℕ) (ms done more all : List ℕ) → q ≡ r.play p m → t ≡ after_best s → more ≡ done ++ row
-      (move_shown p m) (shown q) (text_of t)
-      → done ++ rows_from r shown move_shown p s (m ∷ ms) ≡ all → more ++ rows_from r shown move_shown q t ms ≡ all
-  rows_next p q s t m ms done more all e f w h =
-      let line = row (move_shown p m) (shown q) (text_of t) in
-      let rest = rows_from r shown move_shown q t ms in
-      let here : line ++ rest ≡ rows_from r shown move_shown p s (m ∷ ms) = ap (λ (x : Position). row (move_shown p m) (shown x) (text_of t) ++ rows_from r
-      shown move_shown x t ms) e
-      ∙ ap (λ (u : Solved). row (move_shown p m) (shown (r.play p m)) (text_of u) ++ rows_from r shown move_shown (r.play p m) u ms) f in
-      ap (λ (x : List ℕ). x ++ rest) w ∙ append_assoc done line rest ∙ ap (λ (x : List ℕ). done ++ x) here ∙ h
-
--- all rows are written when no move remains
-pub rows_all : (done all : List ℕ) → done ++ [] ≡ all → done ≡ all
-rows_all done all h = sym (append-nil done) ∙ h
-
--- a row whose move has this text
-pub row_named : (done more a b d x : List ℕ) → more ≡ done ++ row a b d → a ≡ x → more ≡ done ++ row x b d
-row_named done more a b d x h e = h ∙ ap (λ (l : List ℕ). done ++ row l b d) e
 
 -- the text of some things, and of one more
 pub flat_more : {X : Type 0} (f : X → List ℕ) (xs : List X) (i : ℕ) (d : X) (old new piece : List ℕ) → i < length xs → old ≡ flat_map f (take i xs) → new ≡

@@ -1,12 +1,9 @@
 -- Turns, by the state of the game.
-use Rattle.gm_play.proofs.Lower.{◌≡◌, ◌≤◌, ℕ, true, List, ◌++◌, length, codes, Option, None, Some, sym, ap, ◌∙◌, subst, arith, append_assoc, refl, Position, Solved, End}
-use Rattle.gm_play.proofs.Lower.{Rules, IsTrueValue, Side, You, Computer, IsGame, Speaks, Advice, IsKnown, before, place, asks_or_ends, persons_turn}
-use Rattle.gm_play.proofs.Lower.{moves_or_ends, computers_turn, IsBestMove, Question}
-use Rattle.gm_play.specs.Endings.{over_line}
-use Rattle.gm_game.proofs.Checker.{IsTrueValue_once}
+use Rattle.gm_play.proofs.Lower.{◌≡◌, ◌≤◌, ℕ, true, List, ◌++◌, length, codes, Option, None, Some, ap, ◌∙◌, arith, append_assoc, refl, Position, Solved, Rules}
+use Rattle.gm_play.proofs.Lower.{IsTrueValue, Side, You, IsGame, Speaks, Advice, IsKnown, before, place, persons_turn, computers_turn, IsBestMove, Question}
+use Rattle.gm_play.proofs.Lower.{over_line, IsTrueValue_once}
 use Rattle.gm_play.proofs.Keeping.{best_once}
-use Rattle.gm_play.proofs.Reaching.{own_reached, reached_by}
-use Rattle.gm_play.proofs.Knowing.{known_from}
+use Rattle.gm_play.proofs.Reaching.{known_from, own_reached, reached_by}
 
 -- the true value is the known one
 pub value_known : (r : Rules) (k : Advice) (p : Position) (s : Solved) → r.is_legal p ≡ true → IsKnown r p.tier k → IsTrueValue r p s → s ≡ k.value p
@@ -17,27 +14,11 @@ pub nested : (a b c d : List ℕ) → a ++ b ++ c ++ d ≡ a ++ (b ++ (c ++ d))
 nested a b c d = append_assoc (a ++ b) c d ∙ append_assoc a b (c ++ d)
 
 pub over_short : (w : Option Side) → length (over_line w) ≤ 32
-over_short None = omega arith
 over_short (Some You) = omega arith
-over_short (Some Computer) = omega arith
+over_short w = omega arith
 
 module _ (r : Rules) (shown : Position → List ℕ) (move_shown : Position → ℕ → List ℕ) (k : Advice) (seen : Question → Position → List ℕ) (p : Position)
     (text : List ℕ) (asked : Option Position) where
-  -- the turns, by whether the game has ended
-  pub person_is : (front : List ℕ) (o : Option End) → r.primitive p ≡ o
-      → Speaks r k (before front (before (place r shown move_shown k seen p) (asks_or_ends r shown move_shown k seen p o))) text asked
-      → Speaks r k (before front (persons_turn r shown move_shown k seen p)) text asked
-  person_is front o e h =
-      subst (λ (x : Option End). Speaks r k (before front (before (place r shown move_shown k seen p) (asks_or_ends r shown move_shown k seen p x))) text asked)
-      (sym e) h
-
-  pub computer_is : (o : Option End) → r.primitive p ≡ o
-      → Speaks r k (before (place r shown move_shown k seen p) (moves_or_ends r shown move_shown k seen p o (k.best p))) text asked
-      → Speaks r k (computers_turn r shown move_shown k seen p) text asked
-  computer_is o e h =
-      subst (λ (x : Option End). Speaks r k (before (place r shown move_shown k seen p) (moves_or_ends r shown move_shown k seen p x (k.best p))) text asked)
-      (sym e) h
-
   -- the best move is the known one
   best_is_known : (m : ℕ) (o : Option ℕ) → IsBestMove r p (Some m) → IsBestMove r p o → k.best p ≡ o → k.best p ≡ Some m
   best_is_known m None a b e = absurd (b a.0)
@@ -54,9 +35,8 @@ module _ (r : Rules) (shown : Position → List ℕ) (move_shown : Position → 
       let next = λ (x : Position). persons_turn r shown move_shown k seen x in
       let t = h (known_from r p.tier k q known (reached_by r game p m legal best.1.best.there q e)) in
       let is : k.best p ≡ Some m = best_is_known m (k.best p) best (known p (own_reached r p legal)).1 refl in
-      computer_is None best.0
-      (subst (λ (o : Option ℕ). Speaks r k (before here (moves_or_ends r shown move_shown k seen p None o)) text asked) (sym is) (
+      rw (best.0, is) (
         t.0 ∙ ap (λ (x : List ℕ). x ++ (next q).text) f ∙ append_assoc here line (next q).text ∙ ap (λ (x : Position). here ++ (line ++ (next x).text)) e,
         t.1 ∙ ap (λ (x : Position). (next x).asked) e,
         t.2,
-      ))
+      )

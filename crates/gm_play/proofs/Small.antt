@@ -1,10 +1,8 @@
 -- The values of tables are within the limit.
 use Rattle.gm_play.proofs.Lower.{◌≡◌, ◌≤◌, ℕ, List, Bool, true, false, Option, None, Some, refl, REMOTENESS, Position, Solved, Rules, TableData, AreTables}
-use Rattle.gm_play.proofs.Lower.{table_of, value_in}
+use Rattle.gm_play.proofs.Lower.{table_of, value_in, IsTrueTable, record_at, record_in}
 use Rattle.std.proofs.Common.{if◌then◌else◌}
 use Rattle.std.specs.Prelude.{IfSome, slice_get}
-use Rattle.gm_game.specs.Records.{IsTrueTable}
-use Rattle.gm_table.specs.Tables.{record_at, record_in}
 
 -- no value of a table is farther than the limit
 small_record : (r : Rules) (t : TableData) (i : ℕ) (o : Option (Option Solved)) → IsTrueTable r REMOTENESS t.tier t.records → slice_get t.records i ≡ o →

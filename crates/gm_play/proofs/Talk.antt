@@ -2,12 +2,9 @@
 use Rattle.gm_play.proofs.Lower.{◌≡◌, ℕ, ◌+◌, ◌≤◌, Bool, true, false, List, [], ◌∷◌, ◌++◌, length, take, Option, Some, None, refl, sym, ap, ◌∙◌, append_assoc}
 use Rattle.gm_play.proofs.Lower.{append-nil, arith, inl, inr, ◌==◌, if◌then◌else◌, length-append, Appends, Keeps, Appends-trans, Position, Rules, Side, subst}
 use Rattle.gm_play.proofs.Lower.{SESSION_BYTES, KEPT, Advice, IsKnown, IsShown, Said, text_after, turn, reply, closing, AppendsPart, Speaks, Question, IfSome}
-use Rattle.std.specs.Io.KnownBytes.{Consumes, IsAtEnd}
-use Rattle.std.proofs.KnownBytes.{Appends-nil, Consumes-trans, Consumes-kept, Consumes-nil}
-use Rattle.gm_play.specs.Dialogue.{count_after, waiting, talk, count, spoken, used}
-use Rattle.gm_play.specs.Sessions.{IsRead, IsSession, IsUnread, IsUnwritten, IsTooLong, IsBroken, IsOfOutput}
-use Rattle.gm_play.specs.declared.session_error.SessionError.{SessionError}
-use Rattle.gm_play.specs.declared.session_error.SessionError.TheVariants.{ReadFailed, WriteFailed, TooMuchInput, OutputClosed}
+use Rattle.gm_play.proofs.Lower.{Consumes, IsAtEnd, Appends-nil, Consumes-trans, Consumes-kept, Consumes-nil, count_after, waiting, spoken, used, IsRead}
+use Rattle.gm_play.proofs.Lower.{IsSession, IsUnread, IsUnwritten, IsTooLong, IsBroken, IsOfOutput, WriteFailed, OutputClosed, SessionError}
+use Rattle.gm_play.specs.Dialogue.{talk, count}
 use Rattle.gm_play.proofs.Kept.{heard, closed}
 use Rattle.gm_play.proofs.Parts.{part_after, part_longer}
 
@@ -21,31 +18,21 @@ module _ (r : Rules) (shown : Position → List ℕ) (move_shown : Position → 
   abbrev Reply : Position → List ℕ → Said
   Reply = reply r shown move_shown k seen
 
-  -- a byte of a line, and the byte that ends it
-  talk_more : (f : Position → List ℕ → List ℕ) (p : Position) (line : List ℕ) (b : ℕ) (more : List ℕ) → (b == 10) ≡ false → Talk f p line (b ∷ more) ≡ Talk
-      f p (line ++ b ∷ []) more
+  -- a byte of a line, or the byte that ends it
+  talk_step : (f : Position → List ℕ → List ℕ) (p : Position) (line : List ℕ) (b : ℕ) (more : List ℕ) (c : Bool) → (b == 10) ≡ c
+      → Talk f p line (b ∷ more)
+      ≡ (if c then (Reply p line).text ++ text_after (λ q. Talk f q [] more) (Reply p line).asked else Talk f p (line ++ b ∷ []) more)
   unfolding talk
-  talk_more f p line b more e = ap (λ (c : Bool). if c then (Reply p line).text ++ text_after (λ q. Talk f q [] more) (Reply p line).asked else Talk f p
-      (line ++ b ∷ []) more) e
-
-  talk_line : (f : Position → List ℕ → List ℕ) (p : Position) (line : List ℕ) (b : ℕ) (more : List ℕ) → (b == 10) ≡ true
-      → Talk f p line (b ∷ more) ≡ (Reply p line).text ++ text_after (λ q. Talk f q [] more) (Reply p line).asked
-  unfolding talk
-  talk_line f p line b more e = ap (λ (c : Bool). if c then (Reply p line).text ++ text_after (λ q. Talk f q [] more) (Reply p line).asked else Talk f p
-      (line ++ b ∷ []) more) e
+  talk_step f p line b more c e = rw e refl
 
   talk_end : (f : Position → List ℕ → List ℕ) (p : Position) (line : List ℕ) → Talk f p line [] ≡ f p line
   unfolding talk
   talk_end f p line = refl
 
-  count_more : (p : Position) (line : List ℕ) (b : ℕ) (more : List ℕ) → (b == 10) ≡ false → Count p line (b ∷ more) ≡ 1 + Count p (line ++ b ∷ []) more
+  count_step : (p : Position) (line : List ℕ) (b : ℕ) (more : List ℕ) (c : Bool) → (b == 10) ≡ c → Count p line (b ∷ more)
+      ≡ 1 + (if c then count_after (λ q. Count q [] more) (Reply p line).asked else Count p (line ++ b ∷ []) more)
   unfolding count
-  count_more p line b more e = ap (λ (c : Bool). 1 + (if c then count_after (λ q. Count q [] more) (Reply p line).asked else Count p (line ++ b ∷ []) more)) e
-
-  count_line : (p : Position) (line : List ℕ) (b : ℕ) (more : List ℕ) → (b == 10) ≡ true → Count p line (b ∷ more) ≡ 1 + count_after (λ q. Count q [] more)
-      (Reply p line).asked
-  unfolding count
-  count_line p line b more e = ap (λ (c : Bool). 1 + (if c then count_after (λ q. Count q [] more) (Reply p line).asked else Count p (line ++ b ∷ []) more)) e
+  count_step p line b more c e = rw e refl
 
   count_end : (p : Position) (line : List ℕ) → Count p line [] ≡ 0
   unfolding count
@@ -56,8 +43,8 @@ module _ (r : Rules) (shown : Position → List ℕ) (move_shown : Position → 
   count_none (Some q) = count_end q []
 
   count_one : (p : Position) (line : List ℕ) (b : ℕ) (c : Bool) → (b == 10) ≡ c → Count p line (b ∷ []) ≡ 1
-  count_one p line b true e = count_line p line b [] e ∙ ap (λ (n : ℕ). 1 + n) (count_none (Reply p line).asked)
-  count_one p line b false e = count_more p line b [] e ∙ ap (λ (n : ℕ). 1 + n) (count_end p (line ++ b ∷ []))
+  count_one p line b true e = count_step p line b [] true e ∙ ap (λ (n : ℕ). 1 + n) (count_none (Reply p line).asked)
+  count_one p line b false e = count_step p line b [] false e ∙ ap (λ (n : ℕ). 1 + n) (count_end p (line ++ b ∷ []))
 
   module _ (start : Position) (first : Side) where
     abbrev Spoken : (Position → List ℕ → List ℕ) → List ℕ → List ℕ
@@ -104,10 +91,9 @@ module _ (r : Rules) (shown : Position → List ℕ) (move_shown : Position → 
     -- the output fails, for either of its two reasons
     broken_output : (e : SessionError) (r0 r1 w0 w1 : Option (List ℕ)) → IsOfOutput e → IsUnwritten r shown move_shown k seen start first r0 r1 w0 w1
         → IsBroken r shown move_shown k seen start first e r0 r1 w0 w1
-    broken_output ReadFailed r0 r1 w0 w1 is h = absurd is
     broken_output WriteFailed r0 r1 w0 w1 is h = h
-    broken_output TooMuchInput r0 r1 w0 w1 is h = absurd is
     broken_output OutputClosed r0 r1 w0 w1 is h = h
+    broken_output e r0 r1 w0 w1 is h = absurd is
 
 module _ {r : Rules} {shown : Position → List ℕ} {move_shown : Position → ℕ → List ℕ} {k : Advice} {seen : Question → Position → List ℕ} {start : Position}
     {first : Side} {number : ℕ} {r0 r1 w0 w1 : Option (List ℕ)} where
@@ -196,10 +182,10 @@ module _ {r : Rules} {shown : Position → List ℕ} {move_shown : Position → 
       writes = g.writes;
       len = omega (arith, g.len, length-append g.bytes (b ∷ []));
       keeps = t;
-      talks = λ f more. spoken_push f b more ∙ ap (λ (l : List ℕ). g.written ++ l) (talk_more r shown move_shown k seen f p g.line b more e);
+      talks = λ f more. spoken_push f b more ∙ ap (λ (l : List ℕ). g.written ++ l) (talk_step r shown move_shown k seen f p g.line b more false e);
       uses = λ more. (
           let h = used_push b more in
-          let d = count_more r shown move_shown k seen p g.line b more e in
+          let d = count_step r shown move_shown k seen p g.line b more false e in
           omega (arith, h, d, length-append g.bytes (b ∷ [])));
     }
 
@@ -224,10 +210,10 @@ module _ {r : Rules} {shown : Position → List ℕ} {move_shown : Position → 
       };
       writes = g.writes;
       len = omega (arith, g.len, length-append g.bytes (b ∷ []));
-      talks = λ f more. spoken_push f b more ∙ ap (λ (l : List ℕ). g.written ++ l) (talk_line r shown move_shown k seen f p g.line b more e);
+      talks = λ f more. spoken_push f b more ∙ ap (λ (l : List ℕ). g.written ++ l) (talk_step r shown move_shown k seen f p g.line b more true e);
       uses = λ more. (
           let h = used_push b more in
-          let d = count_line r shown move_shown k seen p g.line b more e in
+          let d = count_step r shown move_shown k seen p g.line b more true e in
           omega (arith, h, d, length-append g.bytes (b ∷ [])));
     }
 

@@ -1,16 +1,12 @@
 -- Lines of best play: their state after some moves, and their length.
-use Rattle.gm_play.proofs.Lower.{◌≡◌, ◌≢◌, ℕ, zero, suc, ◌+◌, ◌-◌, ◌<◌, ◌≤◌, inl, inr, true, List, [], ◌∷◌, ◌++◌, length, take, get_or, slice_get, Option, None}
-use Rattle.gm_play.proofs.Lower.{Some, refl, sym, ap, subst, ◌∙◌, arith, Contains, cases_lt, length-append, length-take-le, End, Position, Value, Lose, Draw}
-use Rattle.gm_play.proofs.Lower.{Tie, Win, solved, Rules, HasValue, HasValue_once, loses_zero, wins_zero, loses_at_end, wins_at_end, ties_at_end, AreBest}
-use Rattle.gm_play.proofs.Lower.{wanted_from, IsBestMove, position_after, worth_from}
-use Rattle.std.proofs.lemmas.List.{get_or_append_left}
-use Rattle.std.proofs.lemmas.Option.{slice_get_within, get_or_from_slice_get, slice_get-get_or}
+use Rattle.gm_play.proofs.Lower.{◌≡◌, ◌≢◌, ℕ, zero, suc, ◌+◌, ◌<◌, ◌≤◌, inl, inr, true, List, [], ◌∷◌, ◌++◌, length, take, get_or, slice_get, Option, None}
+use Rattle.gm_play.proofs.Lower.{Contains-get_or, IsGame, Some, refl, sym, ap, subst, ◌∙◌, arith, Contains, cases_lt, length-append, length-take-le, End}
+use Rattle.gm_play.proofs.Lower.{Position, Value, Lose, Draw, Tie, Win, solved, Rules, HasValue, HasValue_once, loses_zero, wins_zero, loses_at_end}
+use Rattle.gm_play.proofs.Lower.{wins_at_end, ties_at_end, AreBest, wanted_from, IsBestMove, position_after, worth_from, get_or_append_left, slice_get_within}
+use Rattle.gm_play.proofs.Lower.{get_or_from_slice_get, slice_get-get_or, BestLine, LineEnd, positions_along, AreFresh, EndsSo, IsBestLine, IsWhole}
 use Rattle.std.proofs.Math.Seq.{get_or-append_seam, take-append_seam}
 use Rattle.gm_game.specs.declared.position.End.TheVariants.{Lose as EndLose, Tie as EndTie, Win as EndWin}
-use Rattle.gm_play.specs.declared.best_line.BestLine.{BestLine}
-use Rattle.gm_play.specs.declared.best_line.LineEnd.{LineEnd}
 use Rattle.gm_play.specs.declared.best_line.LineEnd.TheVariants.{Over, Again, Cut}
-use Rattle.gm_play.specs.BestLines.{positions_along, AreFresh, EndsSo, IsBestLine, IsWhole}
 use Rattle.gm_play.proofs.Lowering.{step_value}
 
 -- one more move
@@ -34,7 +30,7 @@ along_length r p (m ∷ ms) = (let e = along_length r (r.play p m) ms in omega a
 fresh_one : (p : Position) → AreFresh (p ∷ [])
 fresh_one p i j d less inside = absurd (omega arith)
 
-fresh_push : (ps : List Position) (q : Position) → AreFresh ps → (Contains ps q → ⊥) → AreFresh (ps ++ q ∷ [])
+pub fresh_push : (ps : List Position) (q : Position) → AreFresh ps → (Contains ps q → ⊥) → AreFresh (ps ++ q ∷ [])
 fresh_push ps q fresh new i j d less inside same =
     let long : length (ps ++ q ∷ []) ≡ length ps + 1 = length-append ps (q ∷ []) in
     let i_in : i < length ps = omega arith in
@@ -44,11 +40,8 @@ fresh_push ps q fresh new i j d less inside same =
       | inr past ↦ (
           let e : j ≡ length ps = omega arith in
           let at_j : get_or (ps ++ q ∷ []) j d ≡ q = ap (λ (k : ℕ). get_or (ps ++ q ∷ []) k d) e ∙ get_or-append_seam ps q [] d in
-          new (contains_at ps i d q i_in (sym at_i ∙ same ∙ at_j)))
+          new (subst (Contains ps) (sym at_i ∙ same ∙ at_j) (Contains-get_or ps i d i_in)))
     ]
-  where
-    contains_at : (xs : List Position) (k : ℕ) (d x : Position) → k < length xs → get_or xs k d ≡ x → Contains xs x
-    contains_at xs k d x inside e = (k, inside, get_or_from_slice_get xs k x x (slice_get-get_or xs k d inside ∙ ap Some e))
 
 -- the state of a line after some moves
 pub record IsOnWay (r : Rules) (start : Position) (limit : ℕ) (moves : List ℕ) (positions : List Position) (p : Position) : Type 0 where
@@ -57,87 +50,53 @@ pub record IsOnWay (r : Rules) (start : Position) (limit : ℕ) (moves : List �
   pub here : p ≡ position_after r start moves
   pub legal : r.is_legal p ≡ true
   pub few : length moves ≤ limit
-  pub fresh : AreFresh positions
 
-pub begins : (r : Rules) (start : Position) (limit : ℕ) → r.is_legal start ≡ true → IsOnWay r start limit [] (start ∷ []) start
-begins r start limit legal = record { best = tt; along = refl; here = refl; legal = legal; few = omega arith; fresh = fresh_one start }
+pub begins : (r : Rules) (start : Position) (limit : ℕ) → r.is_legal start ≡ true → IsOnWay r start limit [] (start ∷ []) start × AreFresh (start ∷ [])
+begins r start limit legal = (record { best = tt; along = refl; here = refl; legal = legal; few = omega arith }, fresh_one start)
 
-module _ (r : Rules) (start : Position) (limit : ℕ) (moves : List ℕ) (positions : List Position) (p : Position)
-    (h : IsOnWay r start limit moves positions p) where
-  pub best_next : (m : ℕ) → IsBestMove r p (Some m) → AreBest r start (moves ++ m ∷ [])
-  best_next m b = best_push r start moves m h.best (subst (λ (q : Position). IsBestMove r q (Some m)) h.here b)
+-- the line with these moves
+pub line_is : {r : Rules} {start p : Position} {limit : ℕ} {line : BestLine} → IsOnWay r start limit line.moves.items line.positions.items p
+    → EndsSo r start limit line.moves.items line.end → IsBestLine r start limit line
+line_is h e = record { best = h.best; positions = h.along; few = h.few; end = e }
 
-  after_next : (m : ℕ) → r.play p m ≡ position_after r start (moves ++ m ∷ [])
-  after_next m = ap (λ (q : Position). r.play q m) h.here ∙ sym (after_push r start moves m)
-
-  along_next : (m : ℕ) → positions ++ r.play p m ∷ [] ≡ positions_along r start (moves ++ m ∷ [])
-  along_next m = ap (λ (ps : List Position). ps ++ r.play p m ∷ []) h.along ∙ ap (λ (q : Position). positions_along r start moves ++ r.play q m ∷ []) h.here
-      ∙ sym (along_push r start moves m)
-
-  few_next : (m : ℕ) → length moves < limit → length (moves ++ m ∷ []) ≤ limit
-  few_next m low = (let long = length-append moves (m ∷ []) in omega arith)
-
-  pub goes_on : (m : ℕ) → IsBestMove r p (Some m) → r.is_legal (r.play p m) ≡ true → length moves < limit → (Contains positions (r.play p m) → ⊥) → IsOnWay
-      r start limit (moves ++ m ∷ []) (positions ++ r.play p m ∷ []) (r.play p m)
-  goes_on m b legal low new = record {
-    best = best_next m b;
-    along = along_next m;
-    here = after_next m;
-    legal = legal;
-    few = few_next m low;
-    fresh = fresh_push positions (r.play p m) h.fresh new;
+module _ {r : Rules} {start p : Position} {limit : ℕ} {moves : List ℕ} {positions : List Position} (h : IsOnWay r start limit moves positions p) where
+  pub goes_on : (m : ℕ) (q : Position) → IsGame r → IsBestMove r p (Some m) → q ≡ r.play p m → length moves < limit
+      → IsOnWay r start limit (moves ++ m ∷ []) (positions ++ q ∷ []) q
+  goes_on m q g b e low = rw e record {
+    best = best_push r start moves m h.best (subst (λ (x : Position). IsBestMove r x (Some m)) h.here b);
+    along = rw (h.along, h.here) (sym (along_push r start moves m));
+    here = ap (λ (x : Position). r.play x m) h.here ∙ sym (after_push r start moves m);
+    legal = g.play_legal p m h.legal b.1.best.there;
+    few = (let long = length-append moves (m ∷ []) in omega arith);
   }
 
-  -- the line with these moves
-  is_line : (line : BestLine) (ms : List ℕ) (ps : List Position) → line.moves.items ≡ ms → line.positions.items ≡ ps → AreBest r start ms
-      → ps ≡ positions_along r start ms → length ms ≤ limit → EndsSo r start limit ms line.end → IsBestLine r start limit line
-  is_line line ms ps e d best along few end = record {
-    best = subst (AreBest r start) (sym e) best;
-    positions = d ∙ along ∙ ap (positions_along r start) (sym e);
-    few = subst (λ (xs : List ℕ). length xs ≤ limit) (sym e) few;
-    end = subst (λ (xs : List ℕ). EndsSo r start limit xs line.end) (sym e) end;
-  }
+  pub ends_over : AreFresh positions → r.primitive p ≢ None → EndsSo r start limit moves Over
+  ends_over fresh over = (λ none. over (ap r.primitive h.here ∙ none), subst AreFresh h.along fresh)
 
-  pub line_over : (line : BestLine) → line.moves.items ≡ moves → line.positions.items ≡ positions → line.end ≡ Over → r.primitive p ≢ None → IsBestLine r
-      start limit line
-  line_over line e d w over = is_line line moves positions e d h.best h.along h.few
-      (subst (EndsSo r start limit moves) (sym w) (λ none. over (ap r.primitive h.here ∙ none), subst AreFresh h.along h.fresh))
+  pub ends_cut : AreFresh positions → r.primitive p ≡ None → limit ≤ length moves → EndsSo r start limit moves Cut
+  ends_cut fresh open_ all = (ap r.primitive (sym h.here) ∙ open_, (let few = h.few in omega arith), subst AreFresh h.along fresh)
 
-  pub line_cut : (line : BestLine) → line.moves.items ≡ moves → line.positions.items ≡ positions → line.end ≡ Cut → r.primitive p ≡ None → limit ≤ length
-      moves → IsBestLine r start limit line
-  line_cut line e d w open_ all = is_line line moves positions e d h.best h.along h.few
-      (subst (EndsSo r start limit moves) (sym w) (ap r.primitive (sym h.here) ∙ open_, (let few = h.few in omega arith), subst AreFresh h.along h.fresh))
-
-  pub came_before : (m k : ℕ) → slice_get positions k ≡ Some (r.play p m) → EndsSo r start limit (moves ++ m ∷ []) (Again k)
-  came_before m k there =
-      let q = r.play p m in
-      let long : length positions ≡ length moves + 1 = ap length h.along ∙ along_length r start moves in
-      let longer : length (moves ++ m ∷ []) ≡ length moves + 1 = length-append moves (m ∷ []) in
-      let k_in : k < length positions = slice_get_within positions k q there in
-      let longest : length (positions ++ q ∷ []) ≡ length positions + 1 = length-append positions (q ∷ []) in
-      let at : get_or (positions ++ q ∷ []) k q ≡ q = get_or_append_left positions (q ∷ []) q k k_in ∙ get_or_from_slice_get positions k q q there in
-      let found : slice_get (positions ++ q ∷ []) k ≡ Some q = slice_get-get_or (positions ++ q ∷ []) k q (omega arith) ∙ ap Some at in
-      let front : take (length (moves ++ m ∷ [])) (positions ++ q ∷ []) ≡ positions = ap (λ (n : ℕ). take n (positions ++ q ∷ [])) (longer ∙ sym long) ∙
-      take-append_seam positions (q ∷ []) in (
+  -- the last position has occurred before
+  pub ends_again : (front : List Position) (k : ℕ) → positions ≡ front ++ p ∷ [] → AreFresh front → slice_get front k ≡ Some p
+      → EndsSo r start limit moves (Again k)
+  ends_again front k e fresh there =
+      let inside : k < length front = slice_get_within front k p there in
+      let long : length front ≡ length moves =
+      (let a = length-append front (p ∷ []) in let b = along_length r start moves in let c = ap length (sym e ∙ h.along) in omega arith) in
+      let found : slice_get (front ++ p ∷ []) k ≡ Some p = slice_get-get_or (front ++ p ∷ []) k p (let a = length-append front (p ∷ []) in omega arith)
+      ∙ ap Some (get_or_append_left front (p ∷ []) p k inside ∙ get_or_from_slice_get front k p p there) in (
         omega arith,
-        subst (λ (ps : List Position). slice_get ps k ≡ Some (position_after r start (moves ++ m ∷ []))) (along_next m) (found ∙ ap Some (after_next m)),
-        subst (λ (ps : List Position). AreFresh (take (length (moves ++ m ∷ [])) ps)) (along_next m) (subst AreFresh (sym front) h.fresh),
+        rw (sym h.along, sym h.here, e) found,
+        rw (sym h.along, e, sym long, take-append_seam front (p ∷ [])) fresh,
       )
-
-  pub line_again : (line : BestLine) (m k : ℕ) → line.moves.items ≡ moves ++ m ∷ [] → line.positions.items ≡ positions ++ r.play p m ∷ [] → line.end ≡ Again
-      k → IsBestMove r p (Some m) → length moves < limit → slice_get positions k ≡ Some (r.play p m) → IsBestLine r start limit line
-  line_again line m k e d w b low there = is_line line (moves ++ m ∷ []) (positions ++ r.play p m ∷ []) e d (best_next m b) (along_next m) (few_next m low)
-      (subst (EndsSo r start limit (moves ++ m ∷ [])) (sym w) (came_before m k there))
 
 -- along a line of best moves the remoteness falls by one a move
 abbrev Falls : Rules → Position → List ℕ → ℕ → Type 0
 Falls r p ms n = (w : Value) × (j : ℕ) × (w ≢ Draw) × (j + length ms ≡ n) × HasValue r (position_after r p ms) w j
 
 same_far : (v : Value) (k n : ℕ) → v ≢ Draw → worth_from (wanted_from v) k ≡ solved v n → (wanted_from v ≢ Draw) × (k + 1 ≡ n)
-same_far Lose k n d e = (λ f. absurd (cc), ap (λ s. s.remoteness) e)
 same_far Draw k n d e = absurd (d refl)
-same_far Tie k n d e = (λ f. absurd (cc), ap (λ s. s.remoteness) e)
-same_far Win k n d e = (λ f. absurd (cc), ap (λ s. s.remoteness) e)
+same_far v k n d e = (λ f. absurd (cc), ap (λ s. s.remoteness) e)
 
 falls : (r : Rules) (ms : List ℕ) (p : Position) (v : Value) (n : ℕ) → AreBest r p ms → HasValue r p v n → v ≢ Draw → Falls r p ms n
 falls r [] p v n best h d = (v, n, d, omega arith, h)
@@ -225,7 +184,3 @@ whole r p limit line h = record {
   cut = λ v n x d low. cut_is r p limit line.moves.items h.best line.end v n x d low h.few h.end;
   drawn = λ n x. drawn_is r p limit line.moves.items h.best line.end n x h.end;
 }
-
--- one more move leaves one fewer to the limit
-pub fewer : (ms new : List ℕ) (m limit : ℕ) → new ≡ ms ++ m ∷ [] → length ms < limit → limit - length new < limit - length ms
-fewer ms new m limit e low = let long : length new ≡ length ms + 1 = ap (λ (l : List ℕ). length l) e ∙ length-append ms (m ∷ []) in omega arith

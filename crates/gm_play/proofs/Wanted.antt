@@ -1,14 +1,9 @@
 -- From every position that goes on, a move leads to a wanted value.
-use Rattle.gm_play.proofs.Lower.{◌≡◌, ◌≢◌, ℕ, zero, suc, ◌<◌, inl, inr, true, false, is_some, List, [], ◌∷◌, Option, None, Some, length, take, get_or}
-use Rattle.gm_play.proofs.Lower.{sym, subst, arith, IsSome, IfSome, Contains, option_map, Position, Value, Lose, Draw, Tie, Win, Solved, Rules, IsChild}
-use Rattle.gm_play.proofs.Lower.{IsAscending, IsGame, HasValue, IsTrueValue, solved, contains_none, contains_cases, map_in, TableData, IsHeld, AreHeld, AreTables, value_in}
-use Rattle.gm_play.proofs.Lower.{value_known, value_true, Choice, wanted_from, IsChoice, IsBestMove}
-use Rattle.std.proofs.lemmas.List.Elements.{Contains-get_or}
-use Rattle.gm_game.specs.Rules.{IsCanonicalChild}
-use Rattle.gm_game.specs.Settling.{IsSettled}
-use Rattle.gm_game.proofs.Frontier.{value_iff_settled}
-use Rattle.gm_game.proofs.Player.{draw_child}
-use Rattle.gm_game.proofs.Symmetry.{child_legal, child_of_canonical, IsTrueValue-canonical}
+use Rattle.gm_play.proofs.Lower.{◌≡◌, ◌≢◌, ℕ, zero, suc, ◌<◌, inl, inr, true, false, is_some, List, [], ◌∷◌, Option, None, Some, length, take, get_or, sym}
+use Rattle.gm_play.proofs.Lower.{subst, arith, IsSome, IfSome, Contains, option_map, Position, Value, Lose, Draw, Tie, Win, Solved, Rules, IsChild, IsAscending}
+use Rattle.gm_play.proofs.Lower.{IsGame, HasValue, IsTrueValue, solved, contains_none, contains_cases, map_in, TableData, IsHeld, AreHeld, AreTables, value_in}
+use Rattle.gm_play.proofs.Lower.{value_known, value_true, Choice, wanted_from, IsChoice, IsBestMove, Contains-get_or, IsCanonicalChild, IsSettled}
+use Rattle.gm_play.proofs.Lower.{value_iff_settled, draw_child, child_legal, child_of_canonical, IsTrueValue-canonical}
 
 module _ (r : Rules) (g : IsGame r) (p : Position) (legal : r.is_legal p ≡ true) (open_ : r.primitive p ≡ None)
     (known : (d : Position) → IsChild r p d → (s : Solved) × IsTrueValue r d s) where
@@ -59,11 +54,8 @@ pub children_known : (r : Rules) → IsGame r → (entries : List TableData) →
     p.tier → AreHeld r entries p.tier → (d : Position) → IsChild r p d → (s : Solved) × IsTrueValue r d s
 children_known r g entries tables p legal own held d is =
     let (m, has, e) = map_in (r.play p) (r.moves p) d is in
-    let q = r.play p m in
-    let there : IsSome (value_in r entries q) = (value_known r g entries q tables).1
-    (g.play_legal p m legal has, result_held r g entries p m legal has own held) in
-    let k = some_true r q (value_in r entries q) there (value_true r g entries q tables) in
-    subst (λ (x : Position). (s : Solved) × IsTrueValue r x s) e k
+    let q = own_known r g entries tables (r.play p m) (g.play_legal p m legal has) (result_held r g entries p m legal has own held) in
+    subst (λ (x : Position). (s : Solved) × IsTrueValue r x s) e q
 
 -- the numbers of an ascending list after its first one are greater, and those before one of them are smaller
 pub ascending_rest : (x : ℕ) (xs : List ℕ) → IsAscending (x ∷ xs) → IsAscending xs

@@ -45,10 +45,8 @@ Chooses value (Some old) m k c =
 
 -- the choice after one more move
 abbrev pub Considers : Rules → Position → Value → ℕ → Option Choice → Option Choice → Type 0
-Considers r p value m best None = (best ≡ None) × ((k : ℕ) → HasValue r (r.play p m) (wanted_from value) k → ⊥)
-Considers r p value m best (Some c) =
-    ((best ≡ Some c) × ((k : ℕ) → HasValue r (r.play p m) (wanted_from value) k → ⊥)) ⊎
-    ((k : ℕ) × HasValue r (r.play p m) (wanted_from value) k × Chooses value best m k c)
+Considers r p value m best new = ((new ≡ best) × ((k : ℕ) → HasValue r (r.play p m) (wanted_from value) k → ⊥)) ⊎
+    ((k : ℕ) × (c : Choice) × (new ≡ Some c) × HasValue r (r.play p m) (wanted_from value) k × Chooses value best m k c)
 
 -- the best move of a position of this value
 pub record IsBest (r : Rules) (p : Position) (m : ℕ) : Type 0 where

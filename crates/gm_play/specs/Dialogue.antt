@@ -1,10 +1,6 @@
 -- The dialogue of a session: the text that is written in answer to the input.
-use Rattle.std.specs.Prelude.{ℕ, ◌+◌, ◌-◌, List, [], ◌∷◌, ◌++◌, length, take, codes, ◌==◌, if◌then◌else◌, Option, None, Some}
-use Rattle.gm_play.specs.Lower.{Position, Solved, End, Rules}
-use Rattle.gm_play.specs.Lower.{text_of, IsTrueValue}
-use Rattle.std.specs.Prelude.{drop}
-use Rattle.std.specs.List.{find}
-use Rattle.std.specs.Str.{bytes_eq}
+use Rattle.std.specs.Prelude.{ℕ, ◌+◌, ◌-◌, List, [], ◌∷◌, ◌++◌, length, take, codes, ◌==◌, if◌then◌else◌, Option, None, Some, drop}
+use Rattle.gm_play.specs.Lower.{Position, Solved, End, Rules, text_of, IsTrueValue, find, bytes_eq}
 use Rattle.gm_play.specs.declared.sides.Side.{Side}
 use Rattle.gm_play.specs.declared.sides.Side.TheVariants.{You, Computer}
 use Rattle.gm_play.specs.BestMoves.{IsBestMove}

@@ -1,9 +1,6 @@
 -- The moves of a position, by their worth.
-use Rattle.std.specs.Prelude.{◌≡◌, ℕ, ◌+◌, ◌-◌, ◌^◌, ◌≤◌, List, [], ◌∷◌, map, IsPermutation, None, Some}
-use Rattle.gm_play.specs.Lower.{All, IsNonDecreasingBy, Position, Solved, Value}
-use Rattle.gm_play.specs.Lower.{Lose, Draw, Tie, Win, solved, Rules, IsTrueValue}
-use Rattle.std.specs.Prelude.{◌*◌}
-use Rattle.gm_game.specs.declared.limits.TheConstants.{REMOTENESS}
+use Rattle.std.specs.Prelude.{◌≡◌, ℕ, ◌+◌, ◌-◌, ◌^◌, ◌≤◌, List, [], ◌∷◌, map, IsPermutation, None, Some, ◌*◌}
+use Rattle.gm_play.specs.Lower.{All, IsNonDecreasingBy, Position, Solved, Value, Lose, Draw, Tie, Win, solved, Rules, IsTrueValue, REMOTENESS}
 use Rattle.gm_play.specs.BestMoves.{IsBestMove}
 use Rattle.gm_play.specs.declared.move_values.MoveValue.{MoveValue}
 

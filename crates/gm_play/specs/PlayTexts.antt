@@ -1,7 +1,6 @@
 -- The texts of answers: values, moves and lines of play.
 use Rattle.std.specs.Prelude.{◌≡◌, ℕ, ◌-◌, Bool, true, List, [], ◌∷◌, ◌++◌, codes}
-use Rattle.gm_play.specs.Lower.{decimal, Contains, flat_map, Position, Solved, Value, Lose, Draw, Tie, Win}
-use Rattle.gm_play.specs.Lower.{solved, Rules, text_of, IsTrueValue}
+use Rattle.gm_play.specs.Lower.{decimal, Contains, flat_map, Position, Solved, Value, Lose, Draw, Tie, Win, solved, Rules, text_of, IsTrueValue}
 use Rattle.gm_play.specs.declared.best_line.BestLine.{BestLine}
 use Rattle.gm_play.specs.declared.best_line.LineEnd.{LineEnd}
 use Rattle.gm_play.specs.declared.best_line.LineEnd.TheVariants.{Over, Again, Cut}

@@ -1,7 +1,6 @@
 -- The tiers that play can reach.
-use Rattle.std.specs.Prelude.{◌≡◌, ℕ, true, List}
+use Rattle.std.specs.Prelude.{◌≡◌, ℕ, true, List, zero, suc}
 use Rattle.gm_play.specs.Lower.{Contains, Position, Rules, TableData, IsHeld}
-use Rattle.std.specs.Prelude.{zero, suc}
 
 -- a tier is reached from another in n steps, each to a child tier
 abbrev pub IsBelow : Rules → ℕ → ℕ → ℕ → Type 0

@@ -71,8 +71,7 @@ fn follow<G: Game>(
     limit: usize,
 ) -> Result<LineEnd, AllocError>
     requires { (moves.old.items ≡ []) × (positions.old.items ≡ []) }
-    ensures { IfOk result (λ end. (line : BestLine) → line.moves.items ≡ moves.new.items → line.positions.items ≡ positions.new.items → line.end ≡ end
-        → IsBestLine G.rules start.now.position limit line) }
+    ensures { IfOk result (λ end. IsBestLine G.rules start.now.position limit (record { moves = moves.new; positions = positions.new; end = end })) }
 {
     let mut here = *start;
     positions.push(here.position)?;

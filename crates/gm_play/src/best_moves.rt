@@ -1,8 +1,6 @@
 //! The best move of a position.
-ghost use Rattle.std.specs.Prelude.{◌≡◌, ◌↔◌, ◌≤◌, ℕ, true, false, None, IfOk, IsErrOf};
-ghost use Rattle.gm_play.specs.Lower.{Contains, HasValue, IsHeld, AreHeld};
-ghost use Rattle.std.specs.Prelude.{IsTrue, option_map};
-ghost use Rattle.gm_game.specs.Rules.{IsChild};
+ghost use Rattle.std.specs.Prelude.{◌≡◌, ◌↔◌, true, false, None, IfOk, IsErrOf, IsTrue};
+ghost use Rattle.gm_play.specs.Lower.{Contains, IsHeld, AreHeld};
 ghost use Rattle.gm_play.specs.Refusals.{AreNotHeld};
 ghost use Rattle.gm_play.specs.BestMoves.{wanted_from, IsNearer, IsChoice, Chooses, Considers, IsBestMove};
 
@@ -47,16 +45,7 @@ pub(crate) fn best_of<G: Game>(tables: &Tables<G>, p: Position) -> Option<u32>
         return None;
     }
     let solved = tables.get(p).unwrap();
-    number_of(choose(tables, p, solved.value))
-}
-
-fn number_of(choice: Option<Choice>) -> Option<u32>
-    ensures { result ≡ option_map (λ (x : Choice). x.number) choice }
-{
-    match choice {
-        Some(choice) => Some(choice.number),
-        None => None,
-    }
+    choose(tables, p, solved.value).map(|choice| choice.number)
 }
 
 // Returns the best move towards a wanted value, if one goes to it.

@@ -1,5 +1,5 @@
 //! Lines of play: the computer's best moves against any replies.
-ghost use Rattle.std.specs.Prelude.{◌≡◌, ◌≢◌, ◌+◌, ◌^◌, ◌<◌, ℕ, List, true, None, IfSome, MatchOption};
+ghost use Rattle.std.specs.Prelude.{◌≡◌, ◌+◌, ◌^◌, ◌<◌, ℕ, List, true, None, IfSome, MatchOption};
 ghost use Rattle.gm_play.specs.Lower.{Contains};
 ghost use Rattle.gm_play.specs.Sides.{IsWonIn, IsEven, HasLost};
 ghost use Rattle.gm_play.specs.Reached.{AreAllHeld, IsReached};

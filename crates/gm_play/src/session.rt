@@ -14,7 +14,6 @@ use crate::streams::{read_byte, say};
 use crate::turns::{close, reply, turn};
 use crate::view::{Plain, View};
 use arrayvec::ArrayVec;
-use gm_game::game::Game;
 use gm_game::limits::LINE;
 use gm_game::position::Position;
 use gm_game::shown::Shown;
@@ -86,15 +85,8 @@ pub fn session_with<G: Shown, V: View<G>, R: Read, W: Write>(
     ensures even_text { IsEven G.Game.rules start.now.position → OnOk result (WritesOne EndsUnlost (W.contents output.old) (W.contents output.new)) }
     ensures known { (k : Advice) × IsKnown G.Game.rules start.now.position.tier k }
 {
-    advice(start);
-    converse::<G, V, R, W>(start, first, input, output)
-}
-
-// Has no effect; its contract states that true values and best moves are known when every reached tier is held.
-fn advice<G: Game>(start: &Known<'_, G>)
-    ensures { (k : Advice) × IsKnown G.rules start.now.position.tier k }
-{
     start.truth();
+    converse::<G, V, R, W>(start, first, input, output)
 }
 
 // Runs the session byte by byte.

@@ -1,10 +1,10 @@
 //! The texts of answers: values, moves and lines of play.
-ghost use Rattle.std.specs.Prelude.{◌≡◌, ◌++◌, [], IfOk, OnOk};
-ghost use Rattle.gm_play.specs.Lower.{All, flat_map, text_of};
+ghost use Rattle.std.specs.Prelude.{◌≡◌, ◌++◌, IfOk, OnOk};
+ghost use Rattle.gm_play.specs.Lower.{text_of};
 ghost use Rattle.gm_play.specs.BestLines.{AreBest};
 ghost use Rattle.gm_play.specs.PlayTexts.{row, value_word, end_row, after_best, IsMoveOf, move_row, AreMoveRows, rows_from, IsLineText};
 
-use crate::best_line::{BestLine, LineEnd, best_line};
+use crate::best_line::{LineEnd, best_line};
 use crate::best_moves::wanted;
 use crate::firsts::moves_of;
 use crate::known::Known;
@@ -24,20 +24,8 @@ pub fn moves_text<G: Shown>(
     ensures { IfOk result (λ v. AreMoveRows G.Game.rules G.shown G.move_shown distinct (G.shown known.now.position) v.items) }
 {
     let list = moves_of(known, distinct);
-    move_rows(alloc, known, list.as_slice())
-}
-
-// Returns the rows of some moves of a position.
-fn move_rows<G: Shown>(
-    alloc: Global,
-    known: &Known<'_, G>,
-    list: &[MoveValue],
-) -> Result<Vec<u8>, AllocError>
-    requires { All (IsMoveOf G.Game.rules known.now.position) list.now }
-    ensures { IfOk result (λ v. v.items ≡ flat_map (move_row G.Game.rules G.shown G.move_shown known.now.position) list.now) }
-{
     let mut rows = Vec::new(alloc);
-    for x in list {
+    for x in list.as_slice() {
         push_move(&mut rows, known, *x)?;
     }
     Ok(rows)
@@ -100,31 +88,11 @@ pub fn line_text<G: Shown>(
 {
     let line = best_line(alloc, start, limit)?;
     let mut rows = Vec::new(alloc);
-    let pushed = push_line(&mut rows, start, start.value(), &line);
-    drop(line);
-    match pushed {
-        Ok(()) => Ok(rows),
-        Err(error) => {
-            drop(rows);
-            Err(error)
-        }
-    }
-}
-
-// Appends the rows of a line of best play from a position of this value.
-fn push_line<G: Shown>(
-    rows: &mut Vec<u8>,
-    start: &Known<'_, G>,
-    value: Solved,
-    line: &BestLine,
-) -> Result<(), AllocError>
-    requires { AreBest G.Game.rules start.now.position line.now.moves.items }
-    ensures { OnOk result (rows.new.items ≡ rows.old.items ++ row [] (G.shown start.now.position) (text_of value)
-        ++ rows_from G.Game.rules G.shown G.move_shown start.now.position value line.now.moves.items ++ end_row line.now.end) }
-{
-    push_place(rows, b"", start, value)?;
-    push_steps(rows, start, value, line.moves.as_slice())?;
-    push_end(rows, line.end)
+    let value = start.value();
+    push_place(&mut rows, b"", start, value)?;
+    push_steps(&mut rows, start, value, line.moves.as_slice())?;
+    push_end(&mut rows, line.end)?;
+    Ok(rows)
 }
 
 /// Returns the value of the result of a best move, from the value of its position.

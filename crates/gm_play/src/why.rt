@@ -1,10 +1,9 @@
 //! Why a position has its value: its moves, the best answer to each, and the result of the answer.
 ghost use Rattle.std.specs.Prelude.{◌≡◌, ◌++◌, true, IfOk, OnOk};
-ghost use Rattle.gm_play.specs.Lower.{All};
 ghost use Rattle.gm_play.specs.BestMoves.{IsBestMove};
 ghost use Rattle.gm_play.specs.MoveValues.{IsMoveValue};
 ghost use Rattle.gm_play.specs.PlayTexts.{IsMoveOf};
-ghost use Rattle.gm_play.specs.Why.{answer_text, IsExchange, exchange_row, AreExchangeRows, two, five, IsWhyText};
+ghost use Rattle.gm_play.specs.Why.{answer_text, IsExchange, exchange_row, five, IsWhyText};
 
 use crate::firsts::moves_of;
 use crate::known::Known;
@@ -36,21 +35,8 @@ pub fn why_text<G: Shown>(alloc: Global, known: &Known<'_, G>) -> Result<Vec<u8>
     ensures { IfOk result (λ v. IsWhyText G.Game.rules G.shown G.move_shown (G.shown known.now.position) v.items) }
 {
     let list = moves_of(known, false);
-    rows_for(alloc, known, list.as_slice())
-}
-
-// Returns the rows of some moves.
-fn rows_for<G: Shown>(
-    alloc: Global,
-    known: &Known<'_, G>,
-    list: &[MoveValue],
-) -> Result<Vec<u8>, AllocError>
-    requires each { All (IsMoveOf G.Game.rules known.now.position) list.now }
-    requires values { All (IsMoveValue G.Game.rules known.now.position) list.now }
-    ensures { IfOk result (λ v. AreExchangeRows G.Game.rules G.shown G.move_shown known.now.position list.now v.items) }
-{
     let mut rows = Vec::new(alloc);
-    for x in list {
+    for x in list.as_slice() {
         let exchange = exchange_after(known, *x);
         push_exchange(&mut rows, known, exchange)?;
     }
@@ -123,14 +109,7 @@ pub(crate) fn push_five(
 ) -> Result<(), AllocError>
     ensures { OnOk result (rows.new.items ≡ rows.old.items ++ five a.now b.now c.now d.now e.now) }
 {
-    push_two(rows, a, b)?;
-    push_row(rows, c, d, e)
-}
-
-// Appends two fields, with a tab after each.
-fn push_two(rows: &mut Vec<u8>, a: &[u8], b: &[u8]) -> Result<(), AllocError>
-    ensures { OnOk result (rows.new.items ≡ rows.old.items ++ two a.now b.now) }
-{
     push_field(rows, a, b"\t")?;
-    push_field(rows, b, b"\t")
+    push_field(rows, b, b"\t")?;
+    push_row(rows, c, d, e)
 }

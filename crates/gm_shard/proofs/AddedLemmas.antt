@@ -1,9 +1,10 @@
 -- What one pair more changes of a state, and what a delivery adds to it.
-use Rattle.std.proofs.Common.{◌≡◌, ◌≢◌, ℕ, zero, suc, ◌+◌, ◌-◌, ◌⊎◌, inl, inr, List, [], ◌∷◌, length, set, refl, ap, sym, subst, ◌∙◌, arith, Some, Result, Ok, Err}
-use Rattle.std.proofs.Common.{get_or-set_same, get_or-set_other, length-set}
-use Rattle.gm_shard.proofs.Lower.{Contains, slice_get, cases_eq, sum_by-set, same_Some, Position, Phase, Value, Lose, Draw, Tie, Win, Rules, HasValue, StandsAt}
-use Rattle.gm_shard.proofs.Lower.{with_position, length_with, NoteData, IsNote, phase_of, Delivery, Fresh, FreshSettled, Repeat, Refused, NotThisLevel, NotMine}
-use Rattle.gm_shard.proofs.Lower.{NotAParent, TooFar, ShardState, IsInRange, delivered_to, with_pair, pairs_in, IsPairHere, Delivers, IsAdded}
+use Rattle.gm_shard.proofs.Lower.{◌≡◌, ◌≢◌, ℕ, zero, suc, ◌+◌, ◌-◌, ◌⊎◌, inl, inr, List, [], ◌∷◌, length, refl, ap, sym, subst, ◌∙◌, arith, Some, Result, Ok}
+use Rattle.gm_shard.proofs.Lower.{Err, get_or-set_same, get_or-set_other, length-set, Contains, slice_get, cases_eq, sum_by-set, same_Some, Position, Phase}
+use Rattle.gm_shard.proofs.Lower.{Value, Lose, Draw, Tie, Win, Rules, HasValue, StandsAt, with_position, length_with, NoteData, IsNote, phase_of, Delivery}
+use Rattle.gm_shard.proofs.Lower.{Fresh, FreshSettled, Repeat, Refused, NotThisLevel, NotMine, NotAParent, TooFar, ShardState, IsInRange, delivered_to}
+use Rattle.gm_shard.proofs.Lower.{with_pair, pairs_in, IsPairHere, Delivers, IsAdded}
+use Rattle.std.proofs.Common.{set}
 
 -- the item at a place of a list of which one item was changed
 pub set_cases : {X : Type 0} (P : X → Type 0) (xs : List X) (k : ℕ) (y : X) (i : ℕ) (x : X) → slice_get (set xs k y) i ≡ Some x → (i ≡ k → P y)

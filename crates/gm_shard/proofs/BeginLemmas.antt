@@ -1,13 +1,13 @@
 -- A shard with no pair.
-use Rattle.std.proofs.Common.{◌≡◌, ℕ, ◌+◌, ◌-◌, ◌<◌, ◌≤◌, inl, List, [], length, get_or, map, refl, ap, sym, subst, ◌∙◌, arith, Some, None, ◌*◌}
-use Rattle.std.proofs.Common.{take, ◌++◌, ◌∷◌, set, length-set}
-use Rattle.gm_shard.proofs.Lower.{Contains, slice_get, length-map, get_or-map, get_or-replicate, length-replicate, map_more, take_all, take_more_set}
-use Rattle.gm_shard.proofs.Lower.{sum_by-replicate, slice_get-get_or, get_or_from_slice_get, TIER_SIZE, Position, End, Phase, WinLose, Ties, Lose, Draw}
-use Rattle.gm_shard.proofs.Lower.{Tie, Win, IsUndecided, Rules, at, StandsBefore, IsPlaceBefore, AreAscending, canonical_children_of, from_end, Start}
-use Rattle.gm_shard.proofs.Lower.{Ended, Inner, Status, Hole, Settled, IsInRange, delivered_to, In, HasStatus, StatusIs, IsShard, IsWithinLimit, IsKept}
-use Rattle.gm_shard.proofs.Lower.{IsCounter, IsStart, AreStarts, first_status, first_left, first_state, has_none}
+use Rattle.gm_shard.proofs.Lower.{◌≡◌, ℕ, ◌+◌, ◌-◌, ◌<◌, ◌≤◌, inl, List, [], length, get_or, map, refl, ap, sym, subst, ◌∙◌, arith, Some, None, take, ◌++◌, ◌∷◌}
+use Rattle.gm_shard.proofs.Lower.{length-set, Contains, slice_get, length-map, get_or-map, get_or-replicate, length-replicate, map_more, take_all}
+use Rattle.gm_shard.proofs.Lower.{take_more_set, sum_by-replicate, slice_get-get_or, get_or_from_slice_get, TIER_SIZE, Position, End, Phase, WinLose, Ties}
+use Rattle.gm_shard.proofs.Lower.{Lose, Draw, Tie, Win, IsUndecided, Rules, at, StandsBefore, IsPlaceBefore, AreAscending, canonical_children_of, from_end}
+use Rattle.gm_shard.proofs.Lower.{Start, Status, Hole, Settled, IsInRange, delivered_to, In, HasStatus, StatusIs, IsShard, IsWithinLimit, IsKept, IsCounter}
+use Rattle.gm_shard.proofs.Lower.{IsStart, AreStarts, first_status, first_left, first_state, has_none}
+use Rattle.std.proofs.Common.{◌*◌, set}
+use Rattle.gm_shard.specs.declared.status.Start.TheVariants.{Ended, Inner, Hole as NoStart}
 use Rattle.gm_game.specs.declared.position.End.TheVariants.{Lose as EndLose, Tie as EndTie, Win as EndWin}
-use Rattle.gm_shard.specs.declared.status.Start.TheVariants.{Hole as NoStart}
 
 near_end : (e : End) → IsWithinLimit (Settled (from_end e))
 near_end EndLose = omega arith

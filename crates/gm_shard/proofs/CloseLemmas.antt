@@ -1,13 +1,14 @@
 -- A level is whole exactly where as many pairs are delivered as there are.
-use Rattle.std.proofs.Common.{◌≡◌, ℕ, zero, suc, ◌+◌, ◌-◌, ◌*◌, ◌<◌, ◌≤◌, inl, inr, true, List, [], ◌∷◌, ◌++◌, length, get_or, map, refl, ap, sym}
-use Rattle.std.proofs.Common.{subst, arith, Some, Option, Result, Ok, Err, sum_by}
-use Rattle.gm_shard.proofs.Lower.{IsOk, Contains, length-map, length-append, sum_by-cons, REMOTENESS, MOVES, TIER_SIZE, Position, Phase, WinLose, Ties}
-use Rattle.gm_shard.proofs.Lower.{Place, Rules, IsParent, IsGame, StandsAt, StandsBefore, IsNear, IsLastLevel, is_before, AreAscending, contains_none}
-use Rattle.gm_shard.proofs.Lower.{map_from, map_in, HasNoRepeats, all_there, before_itself, ExpectedData, IsExpected, IsPairInto, IsNumberBefore, Follows}
+use Rattle.gm_shard.proofs.Lower.{◌≡◌, ℕ, zero, suc, ◌+◌, ◌-◌, ◌<◌, ◌≤◌, inl, inr, true, List, [], ◌∷◌, ◌++◌, length, get_or, map, refl, ap, sym, subst, arith}
+use Rattle.gm_shard.proofs.Lower.{Some, Option, Result, Ok, Err, sum_by, IsOk, Contains, length-map, length-append, sum_by-cons, REMOTENESS, MOVES, TIER_SIZE}
+use Rattle.gm_shard.proofs.Lower.{Position, Phase, WinLose, Ties, Place, Rules, IsParent, IsGame, StandsAt, StandsBefore, IsNear, IsLastLevel, is_before}
+use Rattle.gm_shard.proofs.Lower.{AreAscending, contains_none, map_from, map_in, before_itself, ExpectedData, IsExpected, IsPairInto, IsNumberBefore, Follows}
 use Rattle.gm_shard.proofs.Lower.{no_repeats_from, no_repeats_to, no_repeats_append, no_repeats_map, Contains-append_left, Contains-append_right}
-use Rattle.gm_shard.proofs.Lower.{Contains-append_cases, near_of_pair, stands_now, before_later, before_ties, ties_after, Short, Status, ShardState}
-use Rattle.gm_shard.proofs.Lower.{IsInRange, delivered_to, pairs_in, IsGood, IsKept, IsFor, IsWhole, place_of, next_level, first_ties, CanTurn, Closes}
-use Rattle.gm_game.proofs.Counts.{no_longer}
+use Rattle.gm_shard.proofs.Lower.{Contains-append_cases, stands_now, before_later, before_ties, ties_after, Short, Status, ShardState, IsInRange, delivered_to}
+use Rattle.gm_shard.proofs.Lower.{pairs_in, IsGood, IsKept, IsFor, IsWhole, place_of, next_level, first_ties, CanTurn, Closes}
+use Rattle.std.proofs.Common.{◌*◌}
+use Rattle.gm_game.proofs.Counts.{HasNoRepeats, all_there, no_longer}
+use Rattle.gm_frontier.proofs.PairLemmas.{near_of_pair}
 use Rattle.gm_game.proofs.SetLemmas.{all_there as fact_there}
 use Rattle.gm_shard.proofs.MaskList.{sum_small}
 

@@ -1,6 +1,6 @@
 -- The counter and the status of an index of a shard.
-use Rattle.std.proofs.Common.{◌≡◌, ℕ, ◌-◌, ◌<◌, List, Some, length, get_or, refl, subst, arith}
-use Rattle.gm_shard.proofs.Lower.{slice_get, slice_get_read, Rules, Status, ShardState, IsInRange, StatusIs, IsKept, IsCounter}
+use Rattle.gm_shard.proofs.Lower.{◌≡◌, ℕ, ◌-◌, ◌<◌, List, Some, length, get_or, refl, subst, arith, slice_get, slice_get_read, Rules, Status, ShardState}
+use Rattle.gm_shard.proofs.Lower.{IsInRange, StatusIs, IsKept, IsCounter}
 
 -- the stored counter is the counter
 pub counter_read : (r : Rules) (s t : ShardState) (statuses : List Status) (left : List ℕ) (count index n : ℕ) → IsKept r s statuses left count → s ≡ t

@@ -1,9 +1,10 @@
 -- Lists of numbers in which no number stands twice.
-use Rattle.std.proofs.Common.{◌≡◌, ℕ, zero, suc, ◌<◌, ◌≤◌, ◌⊎◌, inl, inr, List, [], ◌∷◌, ◌++◌, length, get_or, refl, sym, ap, subst, ◌∙◌, arith, length-append}
-use Rattle.gm_shard.proofs.Lower.{Contains, range_with_len, swap, get_or_append_left, get_or-append_seam, cases_lt, cases_eq, get_or_default_zero, length-swap}
-use Rattle.gm_shard.proofs.Lower.{Swapped, swapped_from_swap, IsPermutation, IsNonDecreasing, IsPermutation-keeps, length-range_with_len, get_or-range_with_len}
-use Rattle.gm_shard.proofs.Lower.{Contains-get_or, HasNoRepeats, AreDistinct}
-use Rattle.gm_game.proofs.Counts.{no_longer}
+use Rattle.gm_shard.proofs.Lower.{◌≡◌, ℕ, zero, suc, ◌<◌, ◌≤◌, ◌⊎◌, inl, inr, List, [], ◌∷◌, ◌++◌, length, get_or, refl, sym, ap, subst, ◌∙◌, arith, Contains}
+use Rattle.gm_shard.proofs.Lower.{range_with_len, swap, get_or_append_left, get_or-append_seam, cases_lt, cases_eq, get_or_default_zero, length-swap, Swapped}
+use Rattle.gm_shard.proofs.Lower.{swapped_from_swap, IsPermutation, IsNonDecreasing, IsPermutation-keeps, Contains-get_or, AreDistinct}
+use Rattle.std.proofs.Common.{length-append}
+use Rattle.std.proofs.lemmas.List.FromFn.{length-range_with_len, get_or-range_with_len}
+use Rattle.gm_game.proofs.Counts.{HasNoRepeats, no_longer}
 
 pub distinct_none : AreDistinct []
 distinct_none i j l m e = absurd (omega arith)

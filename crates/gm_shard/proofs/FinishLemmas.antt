@@ -1,9 +1,9 @@
 -- The records of a range at the end of ties.
-use Rattle.std.proofs.Common.{◌≡◌, ◌≢◌, ℕ, ◌+◌, List, [], ◌∷◌, ◌++◌, length, get_or, refl, sym, ap, subst, ◌∙◌, arith, inl, inr, Option, None, Some, length-append, ne_eqb}
+use Rattle.gm_shard.proofs.Lower.{◌≡◌, ◌≢◌, ℕ, ◌+◌, List, [], ◌∷◌, ◌++◌, length, get_or, refl, sym, ap, subst, ◌∙◌, arith, inl, inr, Option, None, Some, ne_eqb}
 use Rattle.gm_shard.proofs.Lower.{cases_lt, get_or_append_left, get_or-append_seam, slice_get-get_or, get_or_from_slice_get, slice_get_within, REMOTENESS}
-use Rattle.gm_shard.proofs.Lower.{Phase, Ties, Solved, Rules, at, IsInner, IsGame, IsRecord, IsTrueValue, IsLastLevel, AreReached, undecided_draw}
-use Rattle.gm_table.specs.Packed.{unpacked}
+use Rattle.gm_shard.proofs.Lower.{Phase, Ties, Solved, Rules, at, IsInner, IsGame, IsRecord, IsTrueValue, IsLastLevel, AreReached, undecided_draw, unpacked}
 use Rattle.gm_shard.proofs.Lower.{Status, Hole, Undecided, Settled, ShardState, IsInRange, delivered_to, In, StatusIs, IsGood, record_of, status_of, ArePart}
+use Rattle.std.proofs.Common.{length-append}
 use Rattle.gm_shard.proofs.NoteLemmas.{settled_canonical}
 use Rattle.gm_shard.proofs.StatusLemmas.{reached_by}
 

@@ -1,14 +1,13 @@
 -- The indexes that are settled at the present place, and their notes.
-use Rattle.std.proofs.Common.{◌≡◌, ◌≢◌, ℕ, suc, ◌+◌, ◌-◌, ◌<◌, ◌≤◌, inl, inr, true, List, [], ◌∷◌, map, drop, length, get_or, refl, sym, ap, subst, ◌∙◌, arith}
-use Rattle.std.proofs.Common.{Some, length-drop, length-take}
-use Rattle.gm_shard.proofs.Lower.{Contains, slice_get, slice_range, AllByRecursion, IsPermutation, IsNonDecreasing, get_or-drop, get_or-take}
-use Rattle.gm_shard.proofs.Lower.{Contains-permutation, IsPermutation-sym, Contains-get_or, cases_lt, nat_tests, get_or_default_zero, slice_get-get_or}
-use Rattle.gm_shard.proofs.Lower.{Position, Phase, Solved, Rules, at, IsCanonical, is_before, Draw, IsTrueValue, StandsAt, same_position, contains_none}
-use Rattle.gm_shard.proofs.Lower.{contains_first, contains_later, contains_cases, map_in, map_from, NoteData, IsNote, IsNoteAt, phase_of, IsInRun, IsRun}
-use Rattle.gm_shard.proofs.Lower.{AreInOrder, positions, now_stands, one_place, place_of, Settled, ShardState}
+use Rattle.gm_shard.proofs.Lower.{◌≡◌, ◌≢◌, ℕ, suc, ◌+◌, ◌-◌, ◌<◌, ◌≤◌, inl, inr, true, List, [], ◌∷◌, map, drop, length, get_or, refl, sym, ap, subst, ◌∙◌}
+use Rattle.gm_shard.proofs.Lower.{arith, Some, length-drop, length-take, Contains, slice_get, slice_range, AllByRecursion, IsPermutation, IsNonDecreasing}
+use Rattle.gm_shard.proofs.Lower.{get_or-drop, get_or-take, Contains-permutation, IsPermutation-sym, Contains-get_or, cases_lt, nat_tests, get_or_default_zero}
+use Rattle.gm_shard.proofs.Lower.{slice_get-get_or, Position, Phase, Solved, Rules, at, IsCanonical, is_before, Draw, IsTrueValue, StandsAt, same_position}
+use Rattle.gm_shard.proofs.Lower.{contains_none, contains_first, contains_later, contains_cases, map_in, map_from, NoteData, IsNote, IsNoteAt, phase_of}
+use Rattle.gm_shard.proofs.Lower.{IsInRun, IsRun, AreInOrder, positions, now_stands, one_place, place_of, Settled, ShardState, IsInRange, delivered_to}
+use Rattle.gm_shard.proofs.Lower.{StatusIs, IsGood, QueueData, IsSettledAt, AreSettledAt, IsQueue, IsNoteAtIndex, AreNotesAt}
 use Rattle.gm_shard.proofs.AddedLemmas.{value_stands}
 use Rattle.gm_shard.proofs.NoteLemmas.{settled_canonical, settled_decided}
-use Rattle.gm_shard.proofs.Lower.{IsInRange, delivered_to, StatusIs, IsGood, QueueData, IsSettledAt, AreSettledAt, IsQueue, IsNoteAtIndex, AreNotesAt}
 use Rattle.gm_shard.proofs.QueueLemmas.{settled_once}
 use Rattle.gm_shard.proofs.DistinctLemmas.{distinct_permuted, distinct_ascending}
 

@@ -1,8 +1,7 @@
 -- A good shard, from what its fields keep.
-use Rattle.std.proofs.Common.{◌≡◌, ℕ, ◌+◌, ◌-◌, ◌<◌, ◌≤◌, inl, inr, List, length, get_or, sym, subst, ◌∙◌, arith, None, Some}
-use Rattle.gm_shard.proofs.Lower.{slice_get-get_or, REMOTENESS, Solved, Rules, at, IsCanonical, IsGame, IsTrueValue, StandsBefore, HasValue_once}
-use Rattle.gm_shard.proofs.Lower.{end_value, reached_true, reached_settled, Status, Hole, Undecided, Settled, ShardState, IsInRange, delivered_to, In}
-use Rattle.gm_shard.proofs.Lower.{StatusIs, IsShard, IsWithinLimit, IsGood}
+use Rattle.gm_shard.proofs.Lower.{◌≡◌, ℕ, ◌+◌, ◌-◌, ◌<◌, ◌≤◌, inl, inr, List, length, get_or, sym, subst, ◌∙◌, arith, None, Some, slice_get-get_or, REMOTENESS}
+use Rattle.gm_shard.proofs.Lower.{Solved, Rules, at, IsCanonical, IsGame, IsTrueValue, StandsBefore, HasValue_once, end_value, reached_true, reached_settled}
+use Rattle.gm_shard.proofs.Lower.{Status, Hole, Undecided, Settled, ShardState, IsInRange, delivered_to, In, StatusIs, IsShard, IsWithinLimit, IsGood}
 use Rattle.gm_shard.proofs.StatusLemmas.{reached_at}
 
 module _ {r : Rules} (g : IsGame r) {s : ShardState} {statuses : List Status} (t : IsShard r s statuses) where

@@ -1,15 +1,12 @@
 -- The words of this crate and the crates below that its proofs use, passed on from one place. Declares nothing.
 pub use Rattle.gm_frontier.proofs.Distinct.{no_repeats_append, no_repeats_from, no_repeats_map, no_repeats_to}
 pub use Rattle.gm_frontier.proofs.ForGame.{before_later, before_ties, now_stands, one_place, stands_now, ties_after}
-pub use Rattle.gm_frontier.proofs.PairLemmas.{near_of_pair}
 pub use Rattle.gm_frontier.specs.Counts.{ExpectedData, Follows, IsExpected, IsNumberBefore, IsPairInto}
 pub use Rattle.gm_frontier.specs.Levels.{AreInOrder, IsInRun, IsRun, positions}
 pub use Rattle.gm_frontier.specs.Notes.{IsNote, IsNoteAt, NoteData, phase_of}
 pub use Rattle.gm_game.proofs.Basic.{HasValue_once}
 pub use Rattle.gm_game.proofs.Checker.{IsTrueValue_once}
 pub use Rattle.gm_game.proofs.ChildrenLemmas.{canonical_children_few}
-pub use Rattle.gm_game.proofs.Counts.{HasNoRepeats, all_there}
-pub use Rattle.gm_game.proofs.Delivered.{settled_stays, settles_loss, settles_nothing, settles_tie, settles_win}
 pub use Rattle.gm_game.proofs.Levels.{undecided_draw}
 pub use Rattle.gm_game.proofs.Lists.{contains_cases, contains_first, contains_later, contains_none, map_from, map_in}
 pub use Rattle.gm_game.proofs.MaskLemmas.{at_place, bit_cases, picked_has, picked_lacks, picked_none, picked_with}
@@ -38,6 +35,7 @@ pub use Rattle.gm_shard.specs.Begin.{AreStarts, IsStart, first_left, first_state
 pub use Rattle.gm_shard.specs.Closing.{ArePart, Closes, IsNoteOf, record_of}
 pub use Rattle.gm_shard.specs.Delivery.{Delivers, IsAdded, IsPairHere, IsPlaceOf, IsSettledNow, IsThisLevel, KeepsStatus, is_settling, next_status}
 pub use Rattle.gm_shard.specs.Good.{IsCounter, IsGood, IsKept, IsShard, IsWithinLimit}
+pub use Rattle.gm_shard.specs.Logged.{logged}
 pub use Rattle.gm_shard.specs.Ordered.{state_by, with_all, with_one}
 pub use Rattle.gm_shard.specs.Queues.{AreDistinct, AreNotesAt, AreQueues, AreSettledAt, HasPhase, IsEmptied, IsNoteAtIndex, IsPlaced, IsQueue, IsSettledAt}
 pub use Rattle.gm_shard.specs.Queues.{IsSettledIn, QueueData}
@@ -53,9 +51,13 @@ pub use Rattle.gm_shard.specs.declared.status.Refused.{Refused}
 pub use Rattle.gm_shard.specs.declared.status.Refused.TheVariants.{NotAParent, NotMine, NotThisLevel, TooFar}
 pub use Rattle.gm_shard.specs.declared.status.Short.{Short}
 pub use Rattle.gm_shard.specs.declared.status.Start.{Start}
-pub use Rattle.gm_shard.specs.declared.status.Start.TheVariants.{Ended, Inner}
 pub use Rattle.gm_shard.specs.declared.status.Status.{Status}
 pub use Rattle.gm_shard.specs.declared.status.Status.TheVariants.{Hole, Settled, Undecided}
+pub use Rattle.gm_table.specs.Packed.{unpacked}
+pub use Rattle.std.proofs.Common.{Bool, Err, IsSome, IsTrue, List, MatchBool, None, Ok, Option, Result, Some, [], ap, arith, drop, false, get_or}
+pub use Rattle.std.proofs.Common.{get_or-set_other, get_or-set_same, inl, inr, length, length-drop, length-set, length-take, map, ne_eqb, refl, replicate}
+pub use Rattle.std.proofs.Common.{rules, slice_index_or, slice_set, subst, suc, sum_by, sym, take, true, true≢false, zero, ℕ, ⊎_elim, ◌%◌, ◌++◌, ◌+◌, ◌-◌, ◌<◌}
+pub use Rattle.std.proofs.Common.{◌==◌, ◌^◌, ◌↔◌, ◌∙◌, ◌∷◌, ◌≡◌, ◌≢◌, ◌≤◌, ◌⊎◌}
 pub use Rattle.std.proofs.Math.ListN.{set}
 pub use Rattle.std.proofs.Math.Nat.{mul-suc}
 pub use Rattle.std.proofs.Math.Seq.{drop-cons, get_or-append_seam}
@@ -67,7 +69,6 @@ pub use Rattle.std.proofs.lemmas.List.{length-append, length-map, length-replica
 pub use Rattle.std.proofs.lemmas.List.Edits.{Swapped, length-swap, swapped_from_swap}
 pub use Rattle.std.proofs.lemmas.List.Elements.{Contains-append_cases, Contains-append_left, Contains-append_right, Contains-get_or}
 pub use Rattle.std.proofs.lemmas.List.Folds.{sum_by-replicate}
-pub use Rattle.std.proofs.lemmas.List.FromFn.{get_or-range_with_len, length-range_with_len}
 pub use Rattle.std.proofs.lemmas.List.Sorted.{Contains-permutation, IsNonDecreasingBy-from_sort, IsPermutation-keeps, IsPermutation-sym}
 pub use Rattle.std.proofs.lemmas.List.Sums.{sum_by-cons, sum_by-set}
 pub use Rattle.std.proofs.lemmas.Nat.{or_lt}

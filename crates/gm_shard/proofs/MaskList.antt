@@ -1,6 +1,7 @@
 -- The children that a list of masks stands for.
-use Rattle.std.proofs.Common.{◌≡◌, ℕ, zero, suc, ◌+◌, ◌*◌, ◌<◌, ◌≤◌, List, [], ◌∷◌, length, get_or, refl, ap, ◌∙◌, arith, replicate, sum_by}
-use Rattle.gm_shard.proofs.Lower.{set, sum_by-cons, mul-suc, Position, Rules, at, canonical_children_of, picked, picked_none, children_of_masks}
+use Rattle.gm_shard.proofs.Lower.{◌≡◌, ℕ, zero, suc, ◌+◌, ◌<◌, ◌≤◌, List, [], ◌∷◌, length, get_or, refl, ap, ◌∙◌, arith, replicate, sum_by, set, sum_by-cons}
+use Rattle.gm_shard.proofs.Lower.{mul-suc, Position, Rules, at, canonical_children_of, picked, picked_none, children_of_masks}
+use Rattle.std.proofs.Common.{◌*◌}
 
 pub zero_plus : (k : ℕ) → 0 + k ≡ k
 zero_plus k = omega arith

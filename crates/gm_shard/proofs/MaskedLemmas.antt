@@ -1,8 +1,8 @@
 -- The masks of a shard mark which children are delivered, before and after a delivery.
-use Rattle.std.proofs.Common.{◌≡◌, ◌≢◌, ℕ, ◌+◌, ◌-◌, ◌<◌, ◌↔◌, inl, inr, ⊎_elim, List, [], length, get_or, map, replicate, ap, sym, subst, ◌∙◌, arith, Result, Some}
-use Rattle.gm_shard.proofs.Lower.{Contains, slice_get, set, get_or_read, bit_at, Position, Rules, at, children, with_position, canonical_children_of}
-use Rattle.gm_shard.proofs.Lower.{picked, ascending_set, bit_cases, picked_has, picked_lacks, picked_with, NoteData, Delivery, Refused, first_state}
-use Rattle.gm_shard.proofs.Lower.{IsPlaceOf, IsAdded, Delivers, ShardState, IsInRange, delivered_to, with_pair, children_of_masks}
+use Rattle.gm_shard.proofs.Lower.{◌≡◌, ◌≢◌, ℕ, ◌+◌, ◌-◌, ◌<◌, ◌↔◌, inl, inr, ⊎_elim, List, [], length, get_or, map, replicate, ap, sym, subst, ◌∙◌, arith}
+use Rattle.gm_shard.proofs.Lower.{Result, Some, Contains, slice_get, set, get_or_read, bit_at, Position, Rules, at, children, with_position}
+use Rattle.gm_shard.proofs.Lower.{canonical_children_of, picked, ascending_set, bit_cases, picked_has, picked_lacks, picked_with, NoteData, Delivery, Refused}
+use Rattle.gm_shard.proofs.Lower.{first_state, IsPlaceOf, IsAdded, Delivers, ShardState, IsInRange, delivered_to, with_pair, children_of_masks}
 use Rattle.gm_shard.proofs.AddedLemmas.{outcome}
 use Rattle.gm_shard.proofs.MaskList.{length-masks, masks_at, masks_set, masks_none, zero_plus}
 

@@ -1,6 +1,6 @@
 -- Notes of settled indexes, one after another.
-use Rattle.std.proofs.Common.{◌≡◌, ℕ, ◌+◌, ◌<◌, List, [], ◌∷◌, ◌++◌, take, length, get_or, refl, sym, subst, Option, None, Some, IsSome}
-use Rattle.gm_shard.proofs.Lower.{take_more, Rules, NoteData, Solved, Settled, ShardState, StatusIs, IsNoteOf, IsNoteAtIndex, AreNotesAt}
+use Rattle.gm_shard.proofs.Lower.{◌≡◌, ℕ, ◌+◌, ◌<◌, List, [], ◌∷◌, ◌++◌, take, length, get_or, refl, sym, subst, Option, None, Some, IsSome, take_more, Rules}
+use Rattle.gm_shard.proofs.Lower.{NoteData, Solved, Settled, ShardState, StatusIs, IsNoteOf, IsNoteAtIndex, AreNotesAt}
 
 pub notes_push : (r : Rules) (s : ShardState) (ks : List ℕ) (ns : List NoteData) (k : ℕ) (n : NoteData) → AreNotesAt r s ks ns → IsNoteAtIndex r s k n
     → AreNotesAt r s (ks ++ k ∷ []) (ns ++ n ∷ [])

@@ -1,6 +1,5 @@
 -- Statuses as numbers.
-use Rattle.std.proofs.Common.{◌≡◌, ℕ, zero, suc, ◌<◌, List, ◌∷◌, length, map, replicate, refl, ap, arith}
-use Rattle.gm_shard.proofs.Lower.{length-map, Status, Undecided, status_of}
+use Rattle.gm_shard.proofs.Lower.{◌≡◌, ℕ, zero, suc, ◌<◌, List, ◌∷◌, length, map, replicate, refl, ap, arith, length-map, Status, Undecided, status_of}
 
 -- so many numbers of an undecided index are so many undecided statuses
 pub all_undecided : (n : ℕ) → map status_of (replicate n 1) ≡ replicate n Undecided

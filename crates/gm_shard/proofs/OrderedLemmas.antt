@@ -1,8 +1,7 @@
 -- A range to which no pair is delivered twice.
-use Rattle.std.proofs.Common.{◌≡◌, ℕ, ◌+◌, ◌-◌, ◌^◌, ◌<◌, ◌≤◌, List, [], ◌∷◌, ◌++◌, length, get_or, map, refl, ap, sym, subst, ◌∙◌}
-use Rattle.std.proofs.Common.{arith, Some, length-set, ◌==◌, replicate}
-use Rattle.gm_shard.proofs.Lower.{Contains, slice_get, set, length-map, slice_get_read, MOVES, TIER_SIZE, Position, Phase, WinLose, Rules, at, IsGame}
-use Rattle.gm_shard.proofs.Lower.{with_position, canonical_children_of, canonical_children_few, NoteData, IsNote, Start, Status, ShardState, IsInRange}
+use Rattle.gm_shard.proofs.Lower.{◌≡◌, ℕ, ◌+◌, ◌-◌, ◌^◌, ◌<◌, ◌≤◌, List, [], ◌∷◌, ◌++◌, length, get_or, map, refl, ap, sym, subst, ◌∙◌, arith, Some, length-set}
+use Rattle.gm_shard.proofs.Lower.{◌==◌, replicate, Contains, slice_get, set, length-map, slice_get_read, MOVES, TIER_SIZE, Position, Phase, WinLose, Rules, at}
+use Rattle.gm_shard.proofs.Lower.{IsGame, with_position, canonical_children_of, canonical_children_few, NoteData, IsNote, Start, Status, ShardState, IsInRange}
 use Rattle.gm_shard.proofs.Lower.{delivered_to, with_pair, with_one, with_all, state_by, StatusIs, IsShard, IsWithinLimit, IsKept, IsCounter, CanDeliver}
 use Rattle.gm_shard.proofs.Lower.{IsPairHere, AreStarts, first_status, first_left, first_state}
 use Rattle.gm_shard.proofs.AddedLemmas.{set_cases, range_is, same_here, cases_at, pairs_more}

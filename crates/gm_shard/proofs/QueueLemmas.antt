@@ -1,11 +1,11 @@
 -- How queues follow a shard's state.
-use Rattle.std.proofs.Common.{◌≡◌, ◌≢◌, ℕ, ◌+◌, ◌-◌, ◌<◌, ◌≤◌, inl, inr, List, [], ◌∷◌, ◌++◌, length, get_or, sym, ap, subst, ◌∙◌, arith, Some}
-use Rattle.std.proofs.Common.{get_or-set_other, length-append}
-use Rattle.gm_shard.proofs.Lower.{Contains, slice_get, cases_lt, cases_eq, get_or_append_left, get_or-append_seam, Contains-get_or, Contains-append_left}
-use Rattle.gm_shard.proofs.Lower.{Contains-append_right, Contains-append_cases, slice_get-get_or, get_or_from_slice_get, slice_get_within, Position, Phase}
-use Rattle.gm_shard.proofs.Lower.{Solved, Rules, at, with_position, IsTrueValue_once, contains_none, contains_first, contains_cases, phase_of, Status, Hole}
-use Rattle.gm_shard.proofs.Lower.{Undecided, Settled, ShardState, IsInRange, delivered_to, with_pair, HasStatus, StatusIs, IsGood, IsSettledNow, KeepsStatus}
-use Rattle.gm_shard.proofs.Lower.{QueueData, IsSettledIn, IsPlaced, AreDistinct, IsQueue}
+use Rattle.gm_shard.proofs.Lower.{◌≡◌, ◌≢◌, ℕ, ◌+◌, ◌-◌, ◌<◌, ◌≤◌, inl, inr, List, [], ◌∷◌, ◌++◌, length, get_or, sym, ap, subst, ◌∙◌, arith, Some}
+use Rattle.gm_shard.proofs.Lower.{get_or-set_other, Contains, slice_get, cases_lt, cases_eq, get_or_append_left, get_or-append_seam, Contains-get_or}
+use Rattle.gm_shard.proofs.Lower.{Contains-append_left, Contains-append_right, Contains-append_cases, slice_get-get_or, get_or_from_slice_get, slice_get_within}
+use Rattle.gm_shard.proofs.Lower.{Position, Phase, Solved, Rules, at, with_position, IsTrueValue_once, contains_none, contains_first, contains_cases, phase_of}
+use Rattle.gm_shard.proofs.Lower.{Status, Hole, Undecided, Settled, ShardState, IsInRange, delivered_to, with_pair, HasStatus, StatusIs, IsGood, IsSettledNow}
+use Rattle.gm_shard.proofs.Lower.{KeepsStatus, QueueData, IsSettledIn, IsPlaced, AreDistinct, IsQueue}
+use Rattle.std.proofs.Common.{length-append}
 use Rattle.gm_shard.proofs.AddedLemmas.{count_same, still_mine}
 use Rattle.gm_shard.proofs.NoteLemmas.{none_of}
 use Rattle.gm_shard.proofs.DistinctLemmas.{distinct_push, fewer_than}

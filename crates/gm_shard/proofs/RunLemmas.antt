@@ -1,10 +1,10 @@
 -- Events, and what they leave.
-use Rattle.std.proofs.Common.{◌≡◌, ℕ, suc, ◌+◌, ◌<◌, ◌≤◌, inl, inr, List, [], ◌∷◌, Some, Result, Ok, Err, Bool, true, false, MatchBool, slice_get}
-use Rattle.std.proofs.Common.{slice_set, get_or, drop, length, refl, sym, ap, subst, ◌∙◌, arith, IsTrue, ◌↔◌}
-use Rattle.gm_shard.proofs.Lower.{Contains, drop-cons, slice_get-get_or, slice_get_within, get_or_from_slice_get, same_Some, set-get_or, drop_all, cases_lt}
-use Rattle.gm_shard.proofs.Lower.{Rules, NoteData, IsNote, Event, Settled, Delivery, Fresh, FreshSettled, Repeat, Refused, NotThisLevel, NotMine, NotAParent}
-use Rattle.gm_shard.proofs.Lower.{TooFar, ShardState, IsInRange, delivered_to, with_pair, StatusIs, IsGood, IsPairHere, IsAdded, Delivers, CanDeliver, shard_of}
-use Rattle.gm_shard.proofs.Lower.{Takes, Changes, Runs}
+use Rattle.gm_shard.proofs.Lower.{◌≡◌, ℕ, suc, ◌+◌, ◌<◌, ◌≤◌, inl, inr, List, [], ◌∷◌, Some, Result, Ok, Err, Bool, true, false, MatchBool, slice_set, get_or}
+use Rattle.gm_shard.proofs.Lower.{drop, length, refl, sym, ap, subst, ◌∙◌, arith, IsTrue, ◌↔◌, Contains, drop-cons, slice_get-get_or, slice_get_within}
+use Rattle.gm_shard.proofs.Lower.{get_or_from_slice_get, same_Some, set-get_or, drop_all, cases_lt, Rules, NoteData, IsNote, Event, Settled, Delivery, Fresh}
+use Rattle.gm_shard.proofs.Lower.{FreshSettled, Repeat, Refused, NotThisLevel, NotMine, NotAParent, TooFar, ShardState, IsInRange, delivered_to, with_pair}
+use Rattle.gm_shard.proofs.Lower.{StatusIs, IsGood, IsPairHere, IsAdded, Delivers, CanDeliver, shard_of, Takes, Changes, Runs}
+use Rattle.std.proofs.Common.{slice_get}
 use Rattle.gm_shard.proofs.AddedLemmas.{note_stands, still_mine, outcome}
 use Rattle.gm_shard.proofs.FreshLemmas.{place_is}
 

@@ -1,7 +1,7 @@
 -- How a shard's two queues follow its state.
-use Rattle.std.proofs.Common.{◌≡◌, ℕ, ◌+◌, ◌-◌, ◌<◌, ◌≤◌, [], ◌∷◌, ◌++◌, length, refl, sym, subst, ◌∙◌, Result, Ok, Err}
-use Rattle.gm_shard.proofs.Lower.{WinLose, Ties, Rules, NoteData, Delivery, Fresh, FreshSettled, Repeat, Refused, NotThisLevel, NotMine, NotAParent, TooFar}
-use Rattle.gm_shard.proofs.Lower.{ShardState, with_pair, IsGood, Delivers, IsSettledNow, KeepsStatus, next_level, first_ties, QueueData, IsQueue, AreQueues}
+use Rattle.gm_shard.proofs.Lower.{◌≡◌, ℕ, ◌+◌, ◌-◌, ◌<◌, ◌≤◌, [], ◌∷◌, ◌++◌, length, refl, sym, subst, ◌∙◌, Result, Ok, Err, WinLose, Ties, Rules, NoteData}
+use Rattle.gm_shard.proofs.Lower.{Delivery, Fresh, FreshSettled, Repeat, Refused, NotThisLevel, NotMine, NotAParent, TooFar, ShardState, with_pair, IsGood}
+use Rattle.gm_shard.proofs.Lower.{Delivers, IsSettledNow, KeepsStatus, next_level, first_ties, QueueData, IsQueue, AreQueues}
 use Rattle.gm_shard.proofs.QueueLemmas.{queue_kept, queue_other, queue_room, queue_pushed, queue_closed, queue_moved}
 
 -- a delivery that settles nothing keeps both queues

@@ -1,9 +1,9 @@
 -- How a status changes where one more child is delivered.
-use Rattle.std.proofs.Common.{◌≡◌, ◌≢◌, ℕ, ◌+◌, inl, inr, ⊎_elim, Bool, true, false, List, ◌∙◌, sym, subst, refl, None, Some}
-use Rattle.gm_shard.proofs.Lower.{Contains, Position, Value, Lose, Draw, Tie, Win, Phase, Rules, at, IsInner, IsCanonicalChild, IsParent, HasValue}
-use Rattle.gm_shard.proofs.Lower.{StandsAt, StandsBefore, with_position, solved, AreAll, IsSettled, IsUndecided, AreReached, And, has_new, has_old}
-use Rattle.gm_shard.proofs.Lower.{with_cases, settled_stays, settles_win, settles_tie, settles_loss, settles_nothing, Status, Hole, Undecided, Settled}
+use Rattle.gm_shard.proofs.Lower.{◌≡◌, ◌≢◌, ℕ, ◌+◌, inl, inr, ⊎_elim, Bool, true, false, List, ◌∙◌, sym, subst, refl, None, Some, Contains, Position, Value}
+use Rattle.gm_shard.proofs.Lower.{Lose, Draw, Tie, Win, Phase, Rules, at, IsInner, IsCanonicalChild, IsParent, HasValue, StandsAt, StandsBefore, with_position}
+use Rattle.gm_shard.proofs.Lower.{solved, AreAll, IsSettled, IsUndecided, AreReached, And, has_new, has_old, with_cases, Status, Hole, Undecided, Settled}
 use Rattle.gm_shard.proofs.Lower.{ShardState, IsInRange, delivered_to, In, HasStatus, IsShard, next_status}
+use Rattle.gm_game.proofs.Delivered.{settled_stays, settles_win, settles_tie, settles_loss, settles_nothing}
 
 -- the same positions settle the same
 pub settled_same : (r : Rules) (p : Position) (I J : Position → Type 0) → ((y : Position) → I y → J y) → ((y : Position) → J y → I y) → (v : Value) (n : ℕ)

@@ -1,12 +1,12 @@
 -- One delivery of a new pair.
-use Rattle.std.proofs.Common.{◌≡◌, ℕ, ◌+◌, ◌-◌, ◌^◌, ◌<◌, ◌≤◌, ⊎_elim, Bool, true, false, List, length, map, refl, ap, sym}
-use Rattle.std.proofs.Common.{subst, ◌∙◌, arith, Some, Ok, length-set, true≢false, ◌==◌}
-use Rattle.gm_shard.proofs.Lower.{Contains, slice_get, set, false_from_ne_true, Decides-eqb, REMOTENESS, Position, Solved, Value, Lose, Draw, Tie, Win, Rules}
-use Rattle.gm_shard.proofs.Lower.{at, children, IsCanonicalChild, IsParent, IsGame, HasValue, StandsAt, StandsBefore, with_position, canonical_children_of}
-use Rattle.gm_shard.proofs.Lower.{AreAscending, solved, NoteData, IsNote, phase_of, Status, Hole, Undecided, Settled, Fresh, Repeat, AreAll, ShardState}
-use Rattle.gm_shard.proofs.Lower.{IsInRange, delivered_to, with_pair, In, HasStatus, StatusIs, IsShard, IsWithinLimit, IsKept, CanDeliver, IsPlaceOf, Delivers}
-use Rattle.gm_shard.proofs.Lower.{next_status, is_settling, IsThisLevel, IsPairHere, IsSettledNow, KeepsStatus, has_old, with_cases, set_has, has_set}
-use Rattle.gm_shard.proofs.Lower.{ascending_set, ascending_with, shorter, no_longer, has_all, length_with, now_stands, at_place}
+use Rattle.gm_shard.proofs.Lower.{◌≡◌, ℕ, ◌+◌, ◌-◌, ◌^◌, ◌<◌, ◌≤◌, ⊎_elim, Bool, true, false, List, length, map, refl, ap, sym, subst, ◌∙◌, arith, Some, Ok}
+use Rattle.gm_shard.proofs.Lower.{length-set, true≢false, ◌==◌, Contains, slice_get, set, false_from_ne_true, Decides-eqb, REMOTENESS, Position, Solved, Value}
+use Rattle.gm_shard.proofs.Lower.{Lose, Draw, Tie, Win, Rules, at, children, IsCanonicalChild, IsParent, IsGame, HasValue, StandsAt, StandsBefore}
+use Rattle.gm_shard.proofs.Lower.{with_position, canonical_children_of, AreAscending, solved, NoteData, IsNote, phase_of, Status, Hole, Undecided, Settled}
+use Rattle.gm_shard.proofs.Lower.{Fresh, Repeat, AreAll, ShardState, IsInRange, delivered_to, with_pair, In, HasStatus, StatusIs, IsShard, IsWithinLimit}
+use Rattle.gm_shard.proofs.Lower.{IsKept, CanDeliver, IsPlaceOf, Delivers, next_status, is_settling, IsThisLevel, IsPairHere, IsSettledNow, KeepsStatus}
+use Rattle.gm_shard.proofs.Lower.{has_old, with_cases, set_has, has_set, ascending_set, ascending_with, shorter, no_longer, has_all, length_with, now_stands}
+use Rattle.gm_shard.proofs.Lower.{at_place}
 use Rattle.gm_shard.proofs.AddedLemmas.{set_cases, range_is, still_mine, same_here, cases_at, note_stands}
 use Rattle.gm_shard.proofs.StatusLemmas.{after_any, reached_at}
 use Rattle.gm_shard.proofs.GoodLemmas.{near_of, within_limit}

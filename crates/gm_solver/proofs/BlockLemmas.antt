@@ -1,6 +1,6 @@
 -- Blocks of a tier, one after another.
-use Rattle.std.proofs.Common.{◌≡◌, ℕ, zero, suc, ◌+◌, inl, inr, List, [], ◌∷◌, ◌++◌, length, take, drop, slice_get, Some, subst, arith}
-use Rattle.gm_solver.proofs.Lower.{AllZip, range_with_len, Rules, at, Start, IsStart, AreStarts, append_cases}
+use Rattle.gm_solver.proofs.Lower.{◌≡◌, ℕ, zero, suc, ◌+◌, inl, inr, List, [], ◌∷◌, ◌++◌, length, take, drop, slice_get, Some, subst, arith, AllZip}
+use Rattle.gm_solver.proofs.Lower.{range_with_len, Rules, at, Start, IsStart, AreStarts, append_cases}
 
 -- the starts of a range, and those of the range that goes on if it ends
 pub starts_more : (r : Rules) (tier lo : ℕ) (xs ys : List Start) → length xs ≡ lo → AreStarts r tier 0 xs → AreStarts r tier lo ys

@@ -1,12 +1,9 @@
 -- Deliveries into ranges of a tier.
-use Rattle.std.proofs.Common.{◌≡◌, ℕ, ◌+◌, ◌<◌, ◌≤◌, ◌⊎◌, ◌↔◌, inl, inr, Bool, true, List, [], ◌++◌, length, map, filter, refl, ap, sym, subst, arith}
-use Rattle.std.proofs.Common.{length-append}
-use Rattle.gm_solver.proofs.Lower.{Contains, cases_lt, length-map, Contains-append_left, Contains-append_right, Position, Draw, Rules, at, IsInner}
-use Rattle.gm_solver.proofs.Lower.{IsCanonicalChild, AreHoles, IsGame, HasValue, AreThere, AreOnce, contains_none, no_repeats_to, no_repeats_append, IsDelivery}
-use Rattle.gm_solver.proofs.Lower.{AreDeliveries, IsDeliveryIn}
-use Rattle.std.proofs.lemmas.List.Elements.{Contains-append_cases}
-use Rattle.gm_game.proofs.Lists.{map_from, map_in}
-use Rattle.gm_frontier.proofs.Distinct.{no_repeats_from, no_repeats_map, no_repeats_filter, in_filter, filter_has}
+use Rattle.gm_solver.proofs.Lower.{◌≡◌, ℕ, ◌+◌, ◌<◌, ◌≤◌, ◌⊎◌, ◌↔◌, inl, inr, Bool, true, List, [], ◌++◌, length, map, filter, refl, ap, sym, subst, arith}
+use Rattle.gm_solver.proofs.Lower.{length-append, Contains, cases_lt, length-map, Position, Draw, Rules, at, IsInner, IsCanonicalChild, AreHoles, IsGame}
+use Rattle.gm_solver.proofs.Lower.{HasValue, AreThere, AreOnce, contains_none, no_repeats_to, no_repeats_append, IsDelivery, AreDeliveries, IsDeliveryIn}
+use Rattle.gm_solver.proofs.Lower.{map_from, map_in, no_repeats_from, no_repeats_map, no_repeats_filter, in_filter, filter_has}
+use Rattle.std.proofs.lemmas.List.Elements.{Contains-append_left, Contains-append_right, Contains-append_cases}
 
 -- things of one of two kinds that have nothing in common
 pub there_sum : {A : Type 0} (n m : ℕ) (K L M : A → Type 0) → AreThere n K → AreThere m L → ((x : A) → K x → L x → ⊥) → ((x : A) → M x ↔ (K x ⊎ L x))

@@ -1,27 +1,11 @@
 -- A delivery that would settle a position above the limit, and the last level within it.
-use Rattle.std.proofs.Common.{◌≡◌, ℕ, ◌+◌, ◌-◌, ◌<◌, ◌≤◌, inl, inr, ⊎_elim, List, [], length, get_or, refl, sym, subst, ◌∙◌, arith, Option, None, Some, IsSome}
-use Rattle.std.proofs.Common.{Err, get_or-set_same}
-use Rattle.gm_solver.proofs.Lower.{Contains, cases_lt, false≢true, slice_get-get_or, REMOTENESS, Position, Solved, Phase, WinLose, Ties, Place, Rules, at}
-use Rattle.gm_solver.proofs.Lower.{IsCanonical, IsInner, IsGame, HasValue, IsTrueValue, IsRecord, IsTrueTable, StandsAt, IsPlaceBefore, IsLastLevel, TableData}
-use Rattle.gm_solver.proofs.Lower.{table_of, AreHeld, AreTables, NoteData, ShardState, delivered_to, IsGood, TooFar, Delivers, IsTooFar, IsDeliverable}
-use Rattle.gm_solver.proofs.Lower.{IsCovered}
-use Rattle.gm_game.specs.Children.{with_position}
-use Rattle.gm_game.specs.Places.{IsAtLevel}
-use Rattle.gm_game.specs.Settling.{IsSettled, AreReached, And}
-use Rattle.gm_game.proofs.SetLemmas.{has_new, has_old, with_cases}
-use Rattle.gm_game.proofs.Delivered.{reached_more}
-use Rattle.gm_game.proofs.Reached.{reached_true}
-use Rattle.gm_game.proofs.Frontier.{none_from_last}
-use Rattle.gm_frontier.specs.Notes.{IsNote, phase_of}
-use Rattle.gm_shard.specs.declared.status.Status.TheVariants.{Settled}
-use Rattle.gm_shard.specs.State.{IsInRange, with_pair}
-use Rattle.gm_shard.specs.Status.{In, StatusIs}
-use Rattle.gm_shard.specs.declared.status.Refused.{Refused}
-use Rattle.gm_shard.specs.declared.status.Refused.TheVariants.{NotThisLevel, NotMine, NotAParent}
-use Rattle.gm_shard.specs.Delivery.{IsPairHere, IsSettledNow}
-use Rattle.gm_shard.proofs.StatusLemmas.{settled_same}
-use Rattle.gm_locks.proofs.Places.{value_stands, stands_remoteness}
-use Rattle.gm_table.proofs.ValueLemmas.{known_value}
+use Rattle.gm_solver.proofs.Lower.{◌≡◌, ℕ, ◌+◌, ◌-◌, ◌<◌, ◌≤◌, inl, inr, ⊎_elim, List, [], length, get_or, refl, sym, subst, ◌∙◌, arith, Option, None, Some}
+use Rattle.gm_solver.proofs.Lower.{IsSome, Err, get_or-set_same, Contains, cases_lt, false≢true, slice_get-get_or, REMOTENESS, Position, Solved, Phase, WinLose}
+use Rattle.gm_solver.proofs.Lower.{Ties, Place, Rules, at, IsCanonical, IsInner, IsGame, HasValue, IsTrueValue, IsRecord, IsTrueTable, StandsAt, IsPlaceBefore}
+use Rattle.gm_solver.proofs.Lower.{IsLastLevel, TableData, table_of, AreHeld, AreTables, NoteData, ShardState, delivered_to, IsGood, TooFar, Delivers, IsTooFar}
+use Rattle.gm_solver.proofs.Lower.{IsDeliverable, IsCovered, with_position, IsAtLevel, IsSettled, AreReached, And, has_new, has_old, with_cases, reached_more}
+use Rattle.gm_solver.proofs.Lower.{reached_true, none_from_last, IsNote, phase_of, Settled, IsInRange, with_pair, In, StatusIs, Refused, NotThisLevel, NotMine}
+use Rattle.gm_solver.proofs.Lower.{NotAParent, IsPairHere, IsSettledNow, settled_same, value_stands, stands_remoteness, known_value}
 
 -- the children delivered to an inner position of a good shard, at its place
 reached_good : (r : Rules) (s : ShardState) → IsGood r s → (i : ℕ) → IsInRange s i → IsInner r (at s.tier i)

@@ -1,13 +1,9 @@
 -- What is known once the levels of both phases are passed.
-use Rattle.std.proofs.Common.{◌≡◌, ℕ, ◌+◌, inl, inr, List, refl, subst, arith, Option}
-use Rattle.gm_solver.proofs.Lower.{REMOTENESS, Position, Solved, Phase, WinLose, Ties, Place, Rules, at, IsGame, IsTrueValue, IsTrueTable, StandsAt}
-use Rattle.gm_solver.proofs.Lower.{IsPlaceBefore, StandsBefore, IsLastLevel, HasValue_once, TableData, AreHeld, AreTables, IsPairInto, IsNumberBefore}
-use Rattle.gm_solver.proofs.Lower.{IsDelivery, AreDeliveries, IsTooFar}
-use Rattle.gm_game.specs.Places.{IsNear}
-use Rattle.gm_frontier.proofs.PairLemmas.{near_of_pair}
-use Rattle.gm_locks.proofs.Places.{stands_no_draw, value_place}
+use Rattle.gm_solver.proofs.Lower.{◌≡◌, ℕ, ◌+◌, inl, inr, List, refl, subst, arith, Option, REMOTENESS, Position, Solved, Phase, WinLose, Ties, Place, Rules}
+use Rattle.gm_solver.proofs.Lower.{at, IsGame, IsTrueValue, IsTrueTable, StandsAt, IsPlaceBefore, StandsBefore, IsLastLevel, HasValue_once, TableData, AreHeld}
+use Rattle.gm_solver.proofs.Lower.{AreTables, IsPairInto, IsNumberBefore, IsDelivery, AreDeliveries, IsTooFar, IsNear, near_of_pair, stands_no_draw}
+use Rattle.gm_solver.proofs.Lower.{value_place, canonical_record}
 use Rattle.gm_solver.proofs.Far.{child_known}
-use Rattle.gm_table.proofs.ValueLemmas.{canonical_record}
 use Rattle.gm_solver.proofs.Deliveries.{there_same}
 
 -- no position of a tier with a true table has a remoteness above the limit

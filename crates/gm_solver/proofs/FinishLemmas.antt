@@ -1,8 +1,6 @@
 -- What the coordinator makes up for at the end of a level.
-use Rattle.std.proofs.Common.{◌≡◌, ℕ, ◌≤◌, List, sym, ap, subst, ◌∙◌, arith}
-use Rattle.gm_solver.proofs.Lower.{REMOTENESS, Place, Rules, IsGame, NoteData, pairs_of, piece_of, TooFar, Spot, IsLevelAt, piece_pairs, IsTooFar}
-use Rattle.gm_frontier.specs.Levels.{LevelData}
-use Rattle.gm_locks.specs.Pieces.{IsRefusedAt}
+use Rattle.gm_solver.proofs.Lower.{◌≡◌, ℕ, ◌≤◌, List, sym, ap, subst, ◌∙◌, arith, REMOTENESS, Place, Rules, IsGame, NoteData, pairs_of, piece_of, TooFar, Spot}
+use Rattle.gm_solver.proofs.Lower.{IsLevelAt, piece_pairs, IsTooFar, LevelData, IsRefusedAt}
 use Rattle.gm_solver.proofs.Far.{refused_far}
 
 -- a pair of the place that was refused tells of a position one above the limit

@@ -1,13 +1,8 @@
 -- A shard to which the pairs of a level are delivered in their order, each once.
-use Rattle.std.proofs.Common.{◌≡◌, ℕ, ◌+◌, ◌≤◌, List, length, slice_get, refl, sym, ap, subst, ◌∙◌, arith, Some, Ok}
-use Rattle.gm_solver.proofs.Lower.{Contains, slice_get-get_or, Rules, IsGame, NoteData, IsLevel, ShardState, delivered_to, IsGood, Delivers, place_of, IsWhole}
-use Rattle.gm_solver.proofs.Lower.{Spot, spot_of, IsDeliverable, pairs_into, place_of_spot, AreFirst, HasNoneHere}
-use Rattle.gm_frontier.proofs.PairLemmas.{pairs_have}
-use Rattle.gm_shard.specs.declared.status.Delivery.{Delivery}
-use Rattle.gm_locks.specs.Spots.{IsSameSpot}
-use Rattle.gm_locks.specs.Rounds.{IsRound}
-use Rattle.gm_locks.proofs.RoundLemmas.{of_level, next_here, first_none, first_more}
-use Rattle.gm_locks.proofs.PieceLemmas.{added_is, ok_added, whole_all}
+use Rattle.gm_solver.proofs.Lower.{◌≡◌, ℕ, ◌+◌, ◌≤◌, List, length, slice_get, refl, sym, ap, subst, ◌∙◌, arith, Some, Ok, Contains, slice_get-get_or, Rules}
+use Rattle.gm_solver.proofs.Lower.{IsGame, NoteData, IsLevel, ShardState, delivered_to, IsGood, Delivers, place_of, IsWhole, Spot, spot_of, IsDeliverable}
+use Rattle.gm_solver.proofs.Lower.{pairs_into, place_of_spot, AreFirst, HasNoneHere, pairs_have, Delivery, IsSameSpot, IsRound, of_level, next_here, first_none}
+use Rattle.gm_solver.proofs.Lower.{first_more, added_is, ok_added, whole_all}
 
 -- the same spot, field by field
 pub same_spot_from : (s t : ShardState) → spot_of t ≡ spot_of s → IsSameSpot s t

@@ -1,11 +1,10 @@
 -- Each position of a list once.
-use Rattle.std.proofs.Common.{◌≡◌, ℕ, ◌+◌, ◌%◌, ◌<◌, ◌≤◌, inl, inr, Bool, true, false, List, [], ◌∷◌, ◌++◌, length, length-append, take, get_or, set}
-use Rattle.std.proofs.Common.{get_or-set_other, get_or-set_same, sym, subst, ◌∙◌, arith}
-use Rattle.gm_solver.proofs.Lower.{Contains, take_more, cases_eq, Contains-push_cases, Contains-append_left, Contains-append_right, Position, HasSame}
-use Rattle.gm_solver.proofs.Lower.{contains_none, contains_first, no_repeats_append}
+use Rattle.gm_solver.proofs.Lower.{◌≡◌, ℕ, ◌+◌, ◌%◌, ◌<◌, ◌≤◌, inl, inr, Bool, true, false, List, [], ◌∷◌, ◌++◌, length, length-append, take, get_or, set}
+use Rattle.gm_solver.proofs.Lower.{get_or-set_other, get_or-set_same, sym, subst, ◌∙◌, arith, Contains, take_more, cases_eq, Position, HasSame, contains_none}
+use Rattle.gm_solver.proofs.Lower.{contains_first, no_repeats_append, AreMarked}
+use Rattle.std.proofs.lemmas.List.Elements.{Contains-push_cases, Contains-append_left, Contains-append_right}
 use Rattle.std.proofs.lemmas.List.{length-set}
 use Rattle.gm_game.proofs.Counts.{HasNoRepeats}
-use Rattle.gm_solver.specs.Gathered.{AreMarked}
 
 -- of the first n positions of a list each stands once in `once`, and is marked
 pub record AreListed (list : List Position) (n : ℕ) (once : List Position) (marks : List Bool) : Type 0 where

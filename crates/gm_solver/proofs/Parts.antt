@@ -1,11 +1,9 @@
 -- True records of parts of a tier.
-use Rattle.std.proofs.Common.{◌≡◌, ℕ, zero, suc, ◌+◌, ◌-◌, ◌*◌, ◌<◌, ◌≤◌, inl, inr, List, [], ◌∷◌, ◌++◌, length, length-append, replicate, get_or, min, Option}
-use Rattle.std.proofs.Common.{None, Some, Result, slice_get, refl, sym, ap, subst, ◌∙◌, arith}
-use Rattle.gm_solver.proofs.Lower.{AllZip, range_with_len, REMOTENESS, Solved, Rules, at, AreHoles, IsTrueValue, IsRecord, IsTrueTable, append_cases}
-use Rattle.gm_solver.proofs.Lower.{slice_get-get_or, length-replicate, block_in, ArePart, IsGame, AreThere, AreDeliveries, IsDeliveryIn, IsFound}
-use Rattle.gm_game.specs.declared.limits.TheConstants.{MOVES}
-use Rattle.gm_solver.specs.declared.stop.Stop.{Stop}
-use Rattle.gm_solver.specs.Passes.{IsBlock, AreFound}
+use Rattle.gm_solver.proofs.Lower.{◌≡◌, ℕ, zero, suc, ◌+◌, ◌-◌, ◌<◌, ◌≤◌, inl, inr, List, [], ◌∷◌, ◌++◌, length, length-append, replicate, get_or, min, Option}
+use Rattle.gm_solver.proofs.Lower.{None, Some, Result, slice_get, refl, sym, ap, subst, ◌∙◌, arith, AllZip, range_with_len, REMOTENESS, Solved, Rules, at}
+use Rattle.gm_solver.proofs.Lower.{AreHoles, IsTrueValue, IsRecord, IsTrueTable, append_cases, slice_get-get_or, length-replicate, block_in, ArePart, IsGame}
+use Rattle.gm_solver.proofs.Lower.{AreThere, AreDeliveries, IsDeliveryIn, IsFound, MOVES, Stop, IsBlock, AreFound}
+use Rattle.std.proofs.Common.{◌*◌}
 use Rattle.gm_solver.proofs.BlockLemmas.{zip_at}
 use Rattle.gm_solver.proofs.Deliveries.{deliveries_start, deliveries_join, deliveries_holes, deliveries_whole}
 

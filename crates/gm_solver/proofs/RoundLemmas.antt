@@ -1,13 +1,8 @@
 -- A walk of the pairs of a level into a range, and shards to which none of the place is delivered.
-use Rattle.std.proofs.Common.{◌≡◌, ℕ, zero, suc, ◌+◌, ◌-◌, ◌<◌, ◌≤◌, List, [], ◌∷◌, length, drop, replicate, slice_get, slice_index_or, ◌^◌, refl, sym, ap}
-use Rattle.std.proofs.Common.{subst, ◌∙◌, arith, Some}
-use Rattle.gm_solver.proofs.Lower.{Contains, length-drop, TIER_SIZE, Position, Phase, WinLose, Ties, Place, Rules, at, IsGame, StandsBefore, NoteData, IsLevel}
-use Rattle.gm_solver.specs.declared.cuts.Cuts.{Cuts}
-use Rattle.gm_solver.proofs.Lower.{tile_at, ShardState, first_state, IsGood, Spot, spot_of, pairs_into, place_of_spot, HasNoneHere}
-use Rattle.gm_frontier.proofs.PairLemmas.{positions_once, canonical_notes}
-use Rattle.gm_frontier.proofs.CountLemmas.{notes_few}
-use Rattle.gm_frontier.proofs.ForGame.{not_before_and_at, ties_after}
-use Rattle.gm_shard.specs.Steps.{next_level, first_ties}
+use Rattle.gm_solver.proofs.Lower.{◌≡◌, ℕ, zero, suc, ◌+◌, ◌-◌, ◌<◌, ◌≤◌, List, [], ◌∷◌, length, drop, replicate, slice_get, slice_index_or, ◌^◌, refl, sym, ap}
+use Rattle.gm_solver.proofs.Lower.{subst, ◌∙◌, arith, Some, Contains, length-drop, TIER_SIZE, Position, Phase, WinLose, Ties, Place, Rules, at, IsGame}
+use Rattle.gm_solver.proofs.Lower.{StandsBefore, NoteData, IsLevel, Cuts, tile_at, ShardState, first_state, IsGood, Spot, spot_of, pairs_into, place_of_spot}
+use Rattle.gm_solver.proofs.Lower.{HasNoneHere, positions_once, canonical_notes, notes_few, not_before_and_at, ties_after, next_level, first_ties}
 
 -- the pairs of a level into a spot's range
 module _ (r : Rules) (g : IsGame r) (spot : Spot) (notes : List NoteData) (level : IsLevel r (place_of_spot spot) notes) where

@@ -1,15 +1,9 @@
 -- The pairs of a piece by the tiles that have their parents.
-use Rattle.std.proofs.Common.{◌≡◌, ℕ, zero, suc, ◌<◌, ◌≤◌, ◌&&◌, inl, inr, Bool, true, false, if◌then◌else◌, List, [], ◌∷◌, ◌++◌, map}
-use Rattle.std.proofs.Common.{filter, length, set, slice_get, refl, sym, ap, subst, ◌∙◌, arith, Some, Vec, length-set, get_or-set_same}
-use Rattle.gm_solver.proofs.Lower.{Global, cases_lt, cases_eq, Contains, Contains-append_right, contains_first, slice_get_within, slice_get-get_or, Place}
-use Rattle.gm_solver.proofs.Lower.{Rules, NoteData, pairs_of, piece_of, Spot, piece_pairs, AreSplit, tile_at}
-use Rattle.std.proofs.lemmas.Bool.Decides.{nat_tests}
-use Rattle.std.proofs.lemmas.List.Elements.{filter-append, filter_agree}
-use Rattle.gm_frontier.proofs.PairLemmas.{in_pairs}
-use Rattle.gm_frontier.specs.Pairs.{is_within, pairs_with, pairs_of_note}
-use Rattle.gm_solver.specs.Cuts.{cut_at, AreAscending}
-use Rattle.gm_solver.specs.Split.{pairs_within}
-use Rattle.gm_solver.specs.declared.cuts.Cuts.{Cuts}
+use Rattle.gm_solver.proofs.Lower.{◌≡◌, ℕ, zero, suc, ◌<◌, ◌≤◌, ◌&&◌, inl, inr, Bool, true, false, if◌then◌else◌, List, [], ◌∷◌, ◌++◌, map, filter, length, set}
+use Rattle.gm_solver.proofs.Lower.{slice_get, refl, sym, ap, subst, ◌∙◌, arith, Some, Vec, length-set, get_or-set_same, Global, cases_lt, cases_eq, Contains}
+use Rattle.gm_solver.proofs.Lower.{contains_first, slice_get_within, slice_get-get_or, Place, Rules, NoteData, pairs_of, piece_of, Spot, piece_pairs, AreSplit}
+use Rattle.gm_solver.proofs.Lower.{tile_at, nat_tests, in_pairs, is_within, pairs_with, pairs_of_note, cut_at, AreAscending, pairs_within, Cuts}
+use Rattle.std.proofs.lemmas.List.Elements.{Contains-append_right, filter-append, filter_agree}
 
 -- a filter of a filter, and of a mapped list
 twice_step : {X : Type 0} (p : X → Bool) (x : X) (F Z : List X) → filter p F ≡ Z → (a : Bool)

@@ -1,16 +1,10 @@
 -- Four tiles of a tier: every index is in one, and what is known of each is known of the tier.
-use Rattle.std.proofs.Common.{◌≡◌, ℕ, zero, suc, ◌+◌, ◌<◌, ◌≤◌, inl, inr, List, [], ◌++◌, length, replicate, Option, Some, slice_get, sym}
-use Rattle.std.proofs.Common.{ap, ap₂, subst, ◌∙◌, refl, arith}
-use Rattle.gm_solver.proofs.Lower.{cases_lt, length-replicate, REMOTENESS, Position, Phase, Ties, WinLose, Place, Solved, Rules, IsTrueTable, StandsBefore}
-use Rattle.gm_solver.proofs.Lower.{IsPairInto, IsNumberBefore, ShardState, pairs_in, first_state, IsGood, place_of, ArePart, Spot, spot_of, choose, HasNoneHere}
-use Rattle.gm_solver.proofs.Lower.{IsCovered, tile_at, AreShardsAt}
-use Rattle.std.proofs.lemmas.List.{append_assoc, length-append}
-use Rattle.gm_frontier.specs.Levels.{place_at}
-use Rattle.gm_shard.proofs.CloseLemmas.{number_before}
-use Rattle.gm_locks.specs.declared.board.Four.{Four}
-use Rattle.gm_solver.specs.Cuts.{cut_at, AreCuts}
-use Rattle.gm_solver.specs.declared.cuts.Cuts.{Cuts}
-use Rattle.gm_solver.specs.Tiling.{AreGood, HaveNoneHere, IsEnded, AreRecordsOf}
+use Rattle.gm_solver.proofs.Lower.{◌≡◌, ℕ, zero, suc, ◌+◌, ◌<◌, ◌≤◌, inl, inr, List, [], ◌++◌, length, replicate, Option, Some, slice_get, sym, ap, ap₂, subst}
+use Rattle.gm_solver.proofs.Lower.{◌∙◌, refl, arith, cases_lt, length-replicate, REMOTENESS, Position, Phase, Ties, WinLose, Place, Solved, Rules, IsTrueTable}
+use Rattle.gm_solver.proofs.Lower.{StandsBefore, IsPairInto, IsNumberBefore, ShardState, pairs_in, first_state, IsGood, place_of, ArePart, Spot, spot_of}
+use Rattle.gm_solver.proofs.Lower.{choose, HasNoneHere, IsCovered, tile_at, AreShardsAt, append_assoc, place_at, number_before, Four, cut_at, AreCuts, Cuts}
+use Rattle.gm_solver.proofs.Lower.{AreGood, HaveNoneHere, IsEnded, AreRecordsOf}
+use Rattle.std.proofs.lemmas.List.{length-append}
 use Rattle.gm_solver.proofs.Deliveries.{there_sum}
 use Rattle.gm_solver.proofs.Parts.{part_more, part_whole}
 

@@ -1,26 +1,11 @@
 -- The value of a position whose canonical children the tables know.
-use Rattle.std.proofs.Common.{◌≡◌, ℕ, ◌+◌, ◌<◌, ◌≤◌, ◌↔◌, inl, inr, true, not, List, [], ◌∷◌}
-use Rattle.std.proofs.Common.{length, map, filter, Option, None, Some, IsSome, IfSome, refl, sym, ap, subst, ◌∙◌, arith}
-use Rattle.gm_solver.proofs.Lower.{Contains, REMOTENESS, Position, Solved, Draw, Rules}
-use Rattle.gm_solver.proofs.Lower.{IsInner, IsCanonicalChild, IsGame, HasValue, IsTrueValue, HasValue_once, contains_first, Summary}
-use Rattle.gm_solver.proofs.Lower.{TableData, AreHeld, value_in, IsTooFar, is_decided}
-use Rattle.rayon.proofs.ToStd.{filter-map}
-use Rattle.std.proofs.lemmas.List.{length-map}
-use Rattle.std.proofs.lemmas.List.Filters.{length-filter_both}
-use Rattle.gm_game.specs.declared.position.Value.{Value}
-use Rattle.gm_game.specs.declared.position.Value.TheVariants.{Lose, Tie, Win}
-use Rattle.gm_game.specs.Children.{AreResults}
-use Rattle.gm_game.specs.Records.{lost_in, won_in, tied_in, lesser, greater, least_of, all_won, settle, solved, IsKnown}
-use Rattle.gm_game.proofs.Lists.{contains_later, map_in}
+use Rattle.gm_solver.proofs.Lower.{◌≡◌, ℕ, ◌+◌, ◌<◌, ◌≤◌, ◌↔◌, inl, inr, true, not, List, [], ◌∷◌, length, map, filter, Option, None, Some, IsSome, IfSome}
+use Rattle.gm_solver.proofs.Lower.{refl, sym, ap, subst, ◌∙◌, arith, Contains, REMOTENESS, Position, Solved, Draw, Rules, IsInner, IsCanonicalChild, IsGame}
+use Rattle.gm_solver.proofs.Lower.{HasValue, IsTrueValue, HasValue_once, contains_first, Summary, TableData, AreHeld, value_in, IsTooFar, is_decided}
+use Rattle.gm_solver.proofs.Lower.{filter-map, length-map, length-filter_both, Value, Lose, Tie, Win, AreResults, lost_in, won_in, tied_in, lesser, greater}
+use Rattle.gm_solver.proofs.Lower.{least_of, all_won, settle, solved, IsKnown, contains_later, map_in, near_child, CacheData, IsSumOf, other_record}
+use Rattle.gm_solver.proofs.Lower.{other_table, IsSummary, AreTables, map_same, other_held, other_none, other_value, settled_results, known_value, IsGathered}
 use Rattle.gm_game.proofs.Settled.{known_since, known_record, value_from_children}
-use Rattle.gm_game.proofs.Symmetry.{near_child}
-use Rattle.gm_table.specs.Caches.{CacheData, IsSumOf, other_record, other_table}
-use Rattle.gm_table.specs.Shorts.{IsSummary}
-use Rattle.gm_table.specs.Tables.{AreTables}
-use Rattle.gm_table.proofs.CacheLemmas.{map_same, other_held, other_none, other_value}
-use Rattle.gm_table.proofs.CheckLemmas.{settled_results}
-use Rattle.gm_table.proofs.ValueLemmas.{known_value}
-use Rattle.gm_solver.specs.Gathered.{IsGathered}
 
 -- there is no number, or it is within the limit
 IsLow : Option ℕ → Type 0

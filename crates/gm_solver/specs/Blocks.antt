@@ -1,9 +1,6 @@
 -- A tier in blocks of 512 indexes that are dealt out to 32 classes in turn.
 use Rattle.std.specs.Prelude.{◌≡◌, ℕ, ◌+◌, ◌*◌, suc, min, List, Vec, Result, IfOk, length}
-use Rattle.std.specs.declared.alloc.AllocError.{AllocError}
-use Rattle.gm_solver.specs.Lower.{Global, Rules, AreStarts, block_in}
-use Rattle.std.specs.List.{AllZip, range_with_len}
-use Rattle.gm_shard.specs.declared.status.Start.{Start}
+use Rattle.gm_solver.specs.Lower.{AllocError, Global, Rules, AreStarts, block_in, AllZip, range_with_len, Start}
 
 -- what the indexes of block k are at the start
 pub record IsPart (r : Rules) (tier k : ℕ) (starts : List Start) : Type 0 where

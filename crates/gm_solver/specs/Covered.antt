@@ -1,7 +1,6 @@
 -- Good shards that have the indexes of a tier.
 use Rattle.std.specs.Prelude.{◌≡◌, ℕ}
-use Rattle.gm_solver.specs.Lower.{Place, Rules, ShardState, IsGood, place_of}
-use Rattle.gm_shard.specs.State.{IsInRange}
+use Rattle.gm_solver.specs.Lower.{Place, Rules, ShardState, IsGood, place_of, IsInRange}
 
 -- a good shard at this place has the index
 pub record IsCovered (r : Rules) (place : Place) (i : ℕ) : Type 0 where

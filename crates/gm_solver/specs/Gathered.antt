@@ -1,11 +1,7 @@
 -- The canonical children of a position, once each, and what the tables of the child tiers say of them.
 use Rattle.std.specs.Prelude.{◌≡◌, ◌≢◌, ℕ, ◌≤◌, Bool, true, false, List, length, map, IfSome, AllPairs, ◌%◌, slice_index_or}
-use Rattle.gm_solver.specs.Lower.{Contains, REMOTENESS, Position, Rules, AreResults}
+use Rattle.gm_solver.specs.Lower.{Contains, REMOTENESS, Position, Rules, AreResults, IsKnown, Summary, TableData, value_in, IsSummary, is_decided}
 use Rattle.std.specs.List.{filter}
-use Rattle.gm_game.specs.Records.{IsKnown}
-use Rattle.gm_table.specs.declared.summary.Summary.{Summary}
-use Rattle.gm_table.specs.Tables.{TableData, value_in}
-use Rattle.gm_table.specs.Shorts.{IsSummary, is_decided}
 
 -- no position twice
 abbrev pub IsOnce : List Position → Type 0

@@ -1,9 +1,6 @@
 -- What one pass over a tier finds, whole or in parts.
 use Rattle.std.specs.Prelude.{◌≡◌, ℕ, ◌+◌, ◌*◌, ◌<◌, ◌≤◌, suc, min, List, length, Option, Some, Result, Ok, Err, slice_get}
-use Rattle.gm_solver.specs.Lower.{REMOTENESS, MOVES, Position, Rules, IsTrueTable, AreThere, ArePart, block_in, IsTooFar}
-use Rattle.gm_game.specs.declared.position.Solved.{Solved}
-use Rattle.gm_game.specs.Rules.{IsParent}
-use Rattle.gm_table.specs.Solving.{IsDelivery}
+use Rattle.gm_solver.specs.Lower.{REMOTENESS, MOVES, Position, Rules, IsTrueTable, AreThere, ArePart, block_in, IsTooFar, Solved, IsParent, IsDelivery}
 use Rattle.gm_solver.specs.declared.stop.Stop.{Stop}
 use Rattle.gm_solver.specs.declared.stop.Stop.TheVariants.{OutOfMemory, Stays, TooFar}
 

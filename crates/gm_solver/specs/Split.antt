@@ -1,7 +1,6 @@
 -- The pairs of a piece by the tiles that have their parents.
 use Rattle.std.specs.Prelude.{◌≡◌, ℕ, suc, List, Some, Vec, filter, slice_get}
-use Rattle.gm_solver.specs.Lower.{Global, NoteData}
-use Rattle.gm_frontier.specs.Pairs.{is_within}
+use Rattle.gm_solver.specs.Lower.{Global, NoteData, is_within}
 use Rattle.gm_solver.specs.Cuts.{cut_at}
 use Rattle.gm_solver.specs.declared.cuts.Cuts.{Cuts}
 

@@ -1,7 +1,6 @@
 //! A tier solved level by level, by workers.
 ghost use Rattle.std.specs.Prelude.{◌≡◌, ◌≤◌, IfOk, IfErr, OnOk};
-ghost use Rattle.gm_game.specs.declared.position.Phase.TheVariants.{Ties};
-ghost use Rattle.gm_solver.specs.Lower.{WinLose, AreDeliveries, AreHeld, IsTable, IsTooFar, IsTrueTable, place_at, place_of};
+ghost use Rattle.gm_solver.specs.Lower.{Ties, WinLose, AreDeliveries, AreHeld, IsTable, IsTooFar, IsTrueTable, place_at, place_of};
 ghost use Rattle.gm_solver.specs.Solving.{IsError};
 ghost use Rattle.gm_solver.specs.Tiling.{AreShardsAt, AreWhole, HaveNoneHere, IsLaterPlace};
 

@@ -1,8 +1,6 @@
 //! The workers of one level.
 ghost use Rattle.std.specs.Prelude.{◌≡◌, ℕ, ◌+◌, ◌-◌, ◌^◌, ◌<◌, length, min, OnOk, IfOk, vec_len};
-ghost use Rattle.gm_solver.specs.Lower.{div_ceil, choose};
-ghost use Rattle.gm_locks.specs.Amounts.{total_of};
-ghost use Rattle.gm_locks.specs.Pieces.{piece_pairs};
+ghost use Rattle.gm_solver.specs.Lower.{div_ceil, choose, total_of, piece_pairs};
 ghost use Rattle.gm_solver.specs.Tiling.{tile_at};
 
 use crate::context::SolveContext;

@@ -8,7 +8,7 @@ use gm_game::limits::TIER_SIZE;
 use gm_shard::status::Start;
 
 // Up to this many start values are looked at to find where a tier is cut.
-const SAMPLES: usize = 32_768;
+const SAMPLES: usize = 4_096;
 
 // An index at which the game goes on takes about as long as this many others.
 const WEIGHT: usize = 4;

@@ -1,7 +1,6 @@
 //! Each position of a list once.
 ghost use Rattle.std.specs.Prelude.{◌≡◌, ◌%◌, ◌<◌, ◌≤◌, ◌↔◌, IsTrue, length};
-ghost use Rattle.gm_solver.specs.Lower.{Contains, MOVES};
-ghost use Rattle.gm_game.specs.Children.{HasSame};
+ghost use Rattle.gm_solver.specs.Lower.{Contains, MOVES, HasSame};
 ghost use Rattle.gm_solver.specs.Gathered.{IsOnce, AreMarked};
 
 use arrayvec::ArrayVec;

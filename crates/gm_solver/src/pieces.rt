@@ -1,7 +1,6 @@
 //! The pairs of a piece of a level, by the tiles that have their parents.
 ghost use Rattle.std.specs.Prelude.{◌≡◌, ℕ, ◌<◌, ◌++◌, ◌∷◌, List, [], OnOk};
-ghost use Rattle.gm_solver.specs.Lower.{NoteData};
-ghost use Rattle.gm_frontier.specs.Pairs.{pairs_of, piece_of};
+ghost use Rattle.gm_solver.specs.Lower.{NoteData, pairs_of, piece_of};
 ghost use Rattle.gm_solver.specs.Cuts.{AreAscending};
 ghost use Rattle.gm_solver.specs.Split.{AreSplit};
 ghost use Rattle.gm_solver.specs.declared.cuts.Cuts.{Cuts as CutsData};

@@ -1,9 +1,6 @@
 //! One position of a tier.
 ghost use Rattle.std.specs.Prelude.{◌≡◌, ◌≤◌, ◌+◌, None, Some, IfOk, IfErr};
-ghost use Rattle.gm_solver.specs.Lower.{MOVES, REMOTENESS, AreThere, AreResults, AreHeld};
-ghost use Rattle.gm_game.specs.Records.{IsRecord};
-ghost use Rattle.gm_game.specs.Rules.{IsCanonical, IsInner};
-ghost use Rattle.gm_game.specs.Values.{IsTrueValue};
+ghost use Rattle.gm_solver.specs.Lower.{MOVES, REMOTENESS, AreThere, AreResults, AreHeld, IsRecord, IsCanonical, IsInner, IsTrueValue};
 ghost use Rattle.gm_solver.specs.Gathered.{AreOnce};
 ghost use Rattle.gm_solver.specs.Passes.{IsDeliveryIn, IsStop};
 

@@ -1,7 +1,6 @@
 //! A tier before its first level.
 ghost use Rattle.std.specs.Prelude.{◌≡◌, ◌-◌, ◌≤◌, length, IfOk};
-ghost use Rattle.gm_solver.specs.Lower.{AreStarts};
-ghost use Rattle.gm_shard.specs.Begin.{first_state};
+ghost use Rattle.gm_solver.specs.Lower.{AreStarts, first_state};
 
 use gm_game::game::Game;
 use gm_game::limits::TIER_SIZE;

@@ -1,10 +1,6 @@
 //! The tiles of a tier, each with a shard.
 ghost use Rattle.std.specs.Prelude.{◌≡◌, ◌+◌, ◌≤◌, IfOk, IfErr};
-ghost use Rattle.gm_solver.specs.Lower.{REMOTENESS, WinLose, IsTrueTable, place_at, place_of, AreHeld};
-ghost use Rattle.gm_game.specs.declared.position.Phase.TheVariants.{Ties};
-ghost use Rattle.gm_frontier.specs.Counts.{IsNumberBefore};
-ghost use Rattle.gm_shard.specs.Steps.{CanTurn};
-ghost use Rattle.gm_game.specs.Places.{IsLastLevel};
+ghost use Rattle.gm_solver.specs.Lower.{REMOTENESS, WinLose, IsTrueTable, place_at, place_of, AreHeld, Ties, IsNumberBefore, CanTurn, IsLastLevel};
 ghost use Rattle.gm_solver.specs.Cuts.{AreCuts};
 ghost use Rattle.gm_solver.specs.Solving.{IsError};
 ghost use Rattle.gm_solver.specs.Tiling.{AreShardsAt, HaveNoneHere, AreGood, AreWhole, IsEnded, AreRecordsOf, next_place};

@@ -1,10 +1,10 @@
 -- The first wrong record of each block, and of all.
-use Rattle.std.proofs.Common.{◌≡◌, ℕ, ◌+◌, ◌*◌, ◌/◌, ◌%◌, ◌<◌, ◌≤◌, ◌⊎◌, inl, inr, min, suc, List, [], ◌∷◌, ◌++◌, Option, None, Some, length, get_or, sym}
-use Rattle.std.proofs.Common.{subst, ◌∙◌, arith}
-use Rattle.gm_table.proofs.Lower.{div-add-mod, mod-lt, Contains, AllZip, range_with_len, slice_get_within, cases_lt, get_or_default_zero, Contains-get_or}
-use Rattle.gm_table.proofs.Lower.{Contains-append_cases, Contains-append_left, Contains-append_right, AllZip-get_or, length-range_with_len}
+use Rattle.gm_table.proofs.Lower.{◌≡◌, ℕ, ◌+◌, ◌/◌, ◌%◌, ◌<◌, ◌≤◌, ◌⊎◌, inl, inr, min, suc, List, [], ◌∷◌, ◌++◌, Option, None, Some, length, get_or, sym, subst}
+use Rattle.gm_table.proofs.Lower.{◌∙◌, arith, div-add-mod, mod-lt, Contains, AllZip, range_with_len, slice_get_within, cases_lt, get_or_default_zero}
+use Rattle.gm_table.proofs.Lower.{Contains-get_or, Contains-append_cases, Contains-append_left, Contains-append_right, AllZip-get_or, length-range_with_len}
 use Rattle.gm_table.proofs.Lower.{get_or-range_with_len, Reduces, Reduces-elim, TIER_SIZE, Solved, Rules, contains_none, contains_first, contains_cases}
 use Rattle.gm_table.proofs.Lower.{block_in, TableData, FitsAt, IsFirstWrongIn, IsFirstOfBlock}
+use Rattle.std.proofs.Common.{◌*◌}
 use Rattle.gm_table.proofs.Dealt.{dealt}
 
 -- a number is the least of a list, or the greatest of its type if the list has none less

@@ -1,11 +1,9 @@
 -- What a checked position's canonical children say, and the records that fit.
-use Rattle.std.proofs.Common.{◌≡◌, ◌≢◌, ◌==◌, ℕ, ◌<◌, ◌+◌, true, false, Bool, ne_eqb, eq-eqb, eqb-true, if◌then◌else◌, MatchOption, List, [], ◌∷◌}
-use Rattle.std.proofs.Common.{map, length, get_or, refl, sym, ap, ◌∙◌, subst, arith, inl, inr, Option, None, Some}
-use Rattle.gm_table.specs.declared.summary.Summary.{Summary}
-use Rattle.gm_table.proofs.Lower.{IsSummary, is_some, cases_eq, same_Some, slice_get-get_or, slice_get_within}
-use Rattle.gm_table.proofs.Lower.{Contains-get_or, Position, End, Solved, Rules, at, IsCanonical, IsGame, AreResults}
-use Rattle.gm_table.proofs.Lower.{settle, settled_by, from_end, near_child, settled_by_list, TableData, table_of, record_at, record_of, record_in, value_in}
-use Rattle.gm_table.proofs.Lower.{look_up, RecordFits, FitsAt, IsFirstWrong, IsFirstWrongIn, FitBetween}
+use Rattle.gm_table.proofs.Lower.{◌≡◌, ◌≢◌, ◌==◌, ℕ, ◌<◌, ◌+◌, true, false, Bool, ne_eqb, eq-eqb, eqb-true, if◌then◌else◌, MatchOption, List, [], ◌∷◌, map}
+use Rattle.gm_table.proofs.Lower.{length, get_or, refl, sym, ap, ◌∙◌, subst, arith, inl, inr, Option, None, Some, Summary, IsSummary, is_some, cases_eq}
+use Rattle.gm_table.proofs.Lower.{same_Some, slice_get-get_or, slice_get_within, Contains-get_or, Position, End, Solved, Rules, at, IsCanonical, IsGame}
+use Rattle.gm_table.proofs.Lower.{AreResults, settle, settled_by, from_end, near_child, settled_by_list, TableData, table_of, record_at, record_of, record_in}
+use Rattle.gm_table.proofs.Lower.{value_in, look_up, RecordFits, FitsAt, IsFirstWrong, IsFirstWrongIn, FitBetween}
 
 -- a canonical child is canonical
 pub child_canonical : (r : Rules) (g : IsGame r) (p : Position) (cs : List Position) (i : ℕ) (d : Position) → r.is_legal p ≡ true → AreResults r p cs → i <

@@ -1,18 +1,9 @@
 -- The number of a record tells it apart from each other record.
-use Rattle.std.proofs.Common.{◌≡◌, ◌≢◌, ℕ, suc, ◌+◌, ◌*◌, ◌<◌, ◌≤◌, ◌^◌, List, Option, None, Some, refl, ap, sym, ◌∙◌, arith}
+use Rattle.gm_table.proofs.Lower.{◌≡◌, ◌≢◌, ℕ, suc, ◌+◌, ◌<◌, ◌≤◌, ◌^◌, List, Option, None, Some, refl, ap, sym, ◌∙◌, arith, from_le_bytes-to_le_bytes_2}
+use Rattle.gm_table.proofs.Lower.{from_le_bytes-to_le_bytes_4, REMOTENESS, Value, Lose, Draw, Tie, Win, Solved, Position, Rules, IsTrueValue, HasValue}
+use Rattle.gm_table.proofs.Lower.{IsRecord, solved, Version, One, Two, word, width, step, most, code, IsStorableSolved, IsStorable, record_number, record_bytes}
+use Rattle.std.proofs.Common.{◌*◌}
 use Rattle.std.specs.Int.{from_le_bytes, to_le_bytes}
-use Rattle.std.proofs.lemmas.Nat.{from_le_bytes-to_le_bytes_2, from_le_bytes-to_le_bytes_4}
-use Rattle.gm_game.specs.declared.limits.TheConstants.{REMOTENESS}
-use Rattle.gm_game.specs.declared.position.Value.{Value}
-use Rattle.gm_game.specs.declared.position.Value.TheVariants.{Lose, Draw, Tie, Win}
-use Rattle.gm_game.specs.declared.position.Solved.{Solved}
-use Rattle.gm_game.specs.declared.position.Position.{Position}
-use Rattle.gm_game.specs.Rules.{Rules}
-use Rattle.gm_game.specs.Values.{IsTrueValue, HasValue}
-use Rattle.gm_game.specs.Records.{IsRecord, solved}
-use Rattle.gm_table.specs.declared.version.Version.{Version}
-use Rattle.gm_table.specs.declared.version.Version.TheVariants.{One, Two}
-use Rattle.gm_table.specs.RecordCodes.{word, width, step, most, code, IsStorableSolved, IsStorable, record_number, record_bytes}
 
 -- the limits of the versions
 pub step_most : (v : Version) → step v ≡ suc (most v)

@@ -1,8 +1,8 @@
 -- Blocks that are dealt out, and what is found of them, item by item.
-use Rattle.std.proofs.Common.{◌≡◌, ℕ, zero, suc, ◌+◌, ◌-◌, ◌*◌, ◌/◌, ◌%◌, ◌<◌, ◌⊎◌, inl, inr, List, [], ◌∷◌, ◌++◌, length, slice_get, Some, sym, ap, subst, ◌∙◌}
-use Rattle.std.proofs.Common.{arith}
-use Rattle.gm_table.proofs.Lower.{AllZip, range_with_len, div-lt_iff_lt-mul, mod-lt, mul-add-lt, mod-mul-add, div-mul-add, div-add-mod', AllZip-long}
+use Rattle.gm_table.proofs.Lower.{◌≡◌, ℕ, zero, suc, ◌+◌, ◌-◌, ◌/◌, ◌%◌, ◌<◌, ◌⊎◌, inl, inr, List, [], ◌∷◌, ◌++◌, length, slice_get, Some, sym, ap, subst, ◌∙◌}
+use Rattle.gm_table.proofs.Lower.{arith, AllZip, range_with_len, div-lt_iff_lt-mul, mod-lt, mul-add-lt, mod-mul-add, div-mul-add, div-add-mod', AllZip-long}
 use Rattle.gm_table.proofs.Lower.{length-range_with_len, block_in}
+use Rattle.std.proofs.Common.{◌*◌}
 
 -- an item of two lists, one after the other, is in one of them
 pub append_cases : {X : Type 0} (xs ys : List X) (k : ℕ) (x : X) → slice_get (xs ++ ys) k ≡ Some x → (slice_get xs k ≡ Some x) ⊎

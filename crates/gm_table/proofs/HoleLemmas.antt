@@ -1,6 +1,6 @@
 -- What indexes without a record leave unchanged.
-use Rattle.std.proofs.Common.{◌≡◌, ℕ, zero, suc, ◌+◌, ◌/◌, ◌<◌, ◌≤◌, List, [], ◌∷◌, Option, None, map, take, length, slice_get, IfSome, refl, sym, ap, ◌∙◌, arith, inl, inr, eq-eqb}
-use Rattle.gm_table.proofs.Lower.{cases_lt, Solved, Phase, record_at, wide, unpacked, indexes_at, greatest_of}
+use Rattle.gm_table.proofs.Lower.{◌≡◌, ℕ, zero, suc, ◌+◌, ◌/◌, ◌<◌, ◌≤◌, List, [], ◌∷◌, Option, None, map, take, length, slice_get, IfSome, refl, sym, ap, ◌∙◌}
+use Rattle.gm_table.proofs.Lower.{arith, inl, inr, eq-eqb, cases_lt, Solved, Phase, record_at, wide, unpacked, indexes_at, greatest_of}
 use Rattle.gm_table.proofs.LevelLemmas.{greatest_without}
 use Rattle.gm_table.proofs.RunLemmas.{indexes_with}
 

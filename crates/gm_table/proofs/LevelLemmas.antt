@@ -1,8 +1,8 @@
 -- The greatest level of the records, and the indexes of those at a place.
-use Rattle.std.proofs.Common.{◌≡◌, ℕ, zero, suc, ◌<◌, ◌+◌, max, List, [], ◌∷◌, ◌++◌, take, length, get_or, refl, sym, ap, ◌∙◌, subst, arith, false, Option}
-use Rattle.std.proofs.Common.{None, Some, is_some, ◌⊎◌, inl, inr}
-use Rattle.gm_table.proofs.Lower.{take_more, none-some, same_Some, slice_get-get_or, cases_lt, Solved, Phase, record_at, level_in, HasLevel, IsGreatest, later}
-use Rattle.gm_table.proofs.Lower.{greatest_of}
+use Rattle.gm_table.proofs.Lower.{◌≡◌, ℕ, zero, suc, ◌<◌, ◌+◌, max, List, [], ◌∷◌, ◌++◌, take, length, get_or, refl, sym, ap, ◌∙◌, subst, arith, false, Option}
+use Rattle.gm_table.proofs.Lower.{None, Some, ◌⊎◌, inl, inr, take_more, none-some, same_Some, slice_get-get_or, cases_lt, Solved, Phase, record_at, level_in}
+use Rattle.gm_table.proofs.Lower.{HasLevel, IsGreatest, later, greatest_of}
+use Rattle.std.proofs.Common.{is_some}
 
 -- the record at an index
 pub record_read : (os : List (Option Solved)) (i : ℕ) → i < length os → record_at os i ≡ get_or os i None

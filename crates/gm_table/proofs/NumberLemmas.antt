@@ -1,6 +1,5 @@
 -- Short forms one after the other.
-use Rattle.std.proofs.Common.{◌≡◌, ℕ, zero, suc, List, ◌∷◌, ◌++◌, map, take, replicate, refl, ap, sym, ◌∙◌}
-use Rattle.gm_table.proofs.Lower.{take-map, map-append, wide}
+use Rattle.gm_table.proofs.Lower.{◌≡◌, ℕ, zero, suc, List, ◌∷◌, ◌++◌, map, take, replicate, refl, ap, sym, ◌∙◌, take-map, map-append, wide}
 
 -- the first numbers are those of the first short forms
 pub take_wide : (n : ℕ) (xs : List ℕ) → map wide (take n xs) ≡ take n (map wide xs)

@@ -1,5 +1,5 @@
 -- Records that are packed one by one.
-use Rattle.std.proofs.Common.{◌≡◌, ℕ, zero, suc, ◌+◌, ◌<◌, ◌≤◌, List, [], ◌∷◌, ◌++◌, Option, None, length, map, take, replicate, get_or, refl, ap, ◌∙◌, sym}
+use Rattle.gm_table.proofs.Lower.{◌≡◌, ℕ, zero, suc, ◌+◌, ◌<◌, ◌≤◌, List, [], ◌∷◌, ◌++◌, Option, None, length, map, take, replicate, get_or, refl, ap, ◌∙◌, sym}
 use Rattle.gm_table.proofs.Lower.{map-append, take_more, take_all, map-map, slice_get-get_or, Solved, wide, unpacked, IsNear, AreNear}
 
 -- the record at an index is near

@@ -1,10 +1,9 @@
 -- Records at a place are those of the positions that are there.
-use Rattle.std.proofs.Common.{◌≡◌, ℕ, zero, suc, ◌<◌, ◌≤◌, ◌+◌, ◌↔◌, Bool, true, false, if◌then◌else◌, List, [], ◌∷◌, get_or, refl, sym, ap, ◌∙◌, subst, inl}
-use Rattle.std.proofs.Common.{inr, arith, Option, None, Some, IsSome, slice_get, eq-eqb, eqb-true}
-use Rattle.gm_table.proofs.Lower.{Contains, same_Some, none-some, slice_get-get_or, Position, Solved, Value, Lose, Draw, Tie, Win, Phase, WinLose, Ties, Rules}
-use Rattle.gm_table.proofs.Lower.{at, IsCanonical, IsAscending, IsGame, HasValue, IsTrueValue, solved, StandsAt, contains_none, contains_first, contains_later}
-use Rattle.gm_table.proofs.Lower.{contains_cases, HasValue_once, level_in, HasLevel, is_level, indexes_from, indexes_at, TableData, IsTable, table_of, IsHeld}
-use Rattle.gm_table.proofs.Lower.{AreTables, run_of}
+use Rattle.gm_table.proofs.Lower.{◌≡◌, ℕ, zero, suc, ◌<◌, ◌≤◌, ◌+◌, ◌↔◌, Bool, true, false, if◌then◌else◌, List, [], ◌∷◌, get_or, refl, sym, ap, ◌∙◌, subst}
+use Rattle.gm_table.proofs.Lower.{inl, inr, arith, Option, None, Some, IsSome, slice_get, eq-eqb, eqb-true, Contains, same_Some, none-some, slice_get-get_or}
+use Rattle.gm_table.proofs.Lower.{Position, Solved, Value, Lose, Draw, Tie, Win, Phase, WinLose, Ties, Rules, at, IsCanonical, IsAscending, IsGame, HasValue}
+use Rattle.gm_table.proofs.Lower.{IsTrueValue, solved, StandsAt, contains_none, contains_first, contains_later, contains_cases, HasValue_once, level_in}
+use Rattle.gm_table.proofs.Lower.{HasLevel, is_level, indexes_from, indexes_at, TableData, IsTable, table_of, IsHeld, AreTables, run_of}
 
 -- the test of a level
 level_is : (n : ℕ) (a : Option ℕ) → is_level n a ≡ true → a ≡ Some n

@@ -1,9 +1,8 @@
 -- Records that are read one by one.
-use Rattle.std.proofs.Common.{◌≡◌, ◌+◌, ◌<◌, ◌≤◌, ◌∙◌, ℕ, Bool, true, false, List, [], ◌∷◌, ◌++◌, length, length-append, map, take, get_or, filter, not, cond}
-use Rattle.std.proofs.Common.{Option, ap, refl, sym, arith}
-use Rattle.gm_table.proofs.Lower.{map_more, take_all, length-map, length-take, filter-append, length-filter_both, Solved, lost_in, won_in, tied_in, lesser, greater}
-use Rattle.gm_table.proofs.Lower.{least_of, all_won, least_push, all_won_push, is_decided, IsSummary}
-use Rattle.gm_table.specs.declared.summary.Summary.{Summary}
+use Rattle.gm_table.proofs.Lower.{◌≡◌, ◌+◌, ◌<◌, ◌≤◌, ◌∙◌, ℕ, Bool, true, false, List, [], ◌∷◌, ◌++◌, length, length-append, map, take, get_or, not, cond}
+use Rattle.gm_table.proofs.Lower.{Option, ap, refl, sym, arith, map_more, take_all, length-map, length-take, filter-append, length-filter_both, Solved, lost_in}
+use Rattle.gm_table.proofs.Lower.{won_in, tied_in, lesser, greater, least_of, all_won, least_push, all_won_push, is_decided, IsSummary, Summary}
+use Rattle.std.proofs.Common.{filter}
 
 -- one of a list passes a test, or none
 one_passes : (p : Option Solved → Bool) (o : Option Solved) → length (filter p (o ∷ [])) ≡ cond (p o) 1 0

@@ -1,8 +1,8 @@
 -- The indexes at a place with one record more, and a run with one index more.
-use Rattle.std.proofs.Common.{◌≡◌, ℕ, suc, ◌<◌, ◌+◌, ◌==◌, Bool, true, false, if◌then◌else◌, List, [], ◌∷◌, ◌++◌, map, set, take, length, get_or, slice_index_or, refl, sym, ap}
-use Rattle.std.proofs.Common.{◌∙◌, subst, arith, Option, None, Vec, inl, inr, eq-eqb, ne_eqb}
-use Rattle.gm_table.proofs.Lower.{take_more, map-set, get_or-map, get_or-set_same, get_or-set_other, length-map, length-take, cases_eq, Global, Solved, Phase, WinLose, Ties}
-use Rattle.gm_table.proofs.Lower.{level_in, is_level, indexes_from, indexes_at, run_at, run_in, record_at}
+use Rattle.gm_table.proofs.Lower.{◌≡◌, ℕ, suc, ◌<◌, ◌+◌, ◌==◌, Bool, true, false, if◌then◌else◌, List, [], ◌∷◌, ◌++◌, map, set, take, length, get_or}
+use Rattle.gm_table.proofs.Lower.{slice_index_or, refl, sym, ap, ◌∙◌, subst, arith, Option, None, Vec, inl, inr, eq-eqb, ne_eqb, take_more, map-set, get_or-map}
+use Rattle.gm_table.proofs.Lower.{get_or-set_same, get_or-set_other, length-map, length-take, cases_eq, Global, Solved, Phase, WinLose, Ties, level_in}
+use Rattle.gm_table.proofs.Lower.{is_level, indexes_from, indexes_at, run_at, run_in, record_at}
 use Rattle.gm_table.proofs.LevelLemmas.{record_read}
 
 push_first : (c : Bool) (k : ℕ) → (if c then k ∷ [] else []) ≡ (if c then (k + 0) ∷ [] else [])

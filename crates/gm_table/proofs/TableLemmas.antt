@@ -1,8 +1,7 @@
 -- A map of tables, and what is in it.
-use Rattle.std.proofs.Common.{◌≡◌, ℕ, ◌<◌, ◌==◌, Bool, true, false, if◌then◌else◌, cond, List, [], ◌∷◌, refl, sym, ap, ◌∙◌, subst, arith, Option}
-use Rattle.std.proofs.Common.{Some, ne_eqb, eqb-true}
-use Rattle.gm_table.proofs.Lower.{Ordering, Less, Equal, Greater, nat_cmp, is_eq, match_ordering, MatchOrdering, ranked, nat_tests, same_Some, is_at}
-use Rattle.gm_table.proofs.Lower.{insert_entry, lookup, values_of, Rules, TableData, IsTable, table_of, AreTables, AreKept}
+use Rattle.gm_table.proofs.Lower.{◌≡◌, ℕ, ◌<◌, ◌==◌, Bool, true, false, if◌then◌else◌, cond, List, [], ◌∷◌, refl, sym, ap, ◌∙◌, subst, arith, Option, Some}
+use Rattle.gm_table.proofs.Lower.{ne_eqb, eqb-true, Ordering, Less, Equal, Greater, nat_cmp, is_eq, match_ordering, MatchOrdering, ranked, nat_tests, same_Some}
+use Rattle.gm_table.proofs.Lower.{is_at, insert_entry, lookup, values_of, Rules, TableData, IsTable, table_of, AreTables, AreKept}
 
 -- the two tests of a key
 same_key : (tier key : ℕ) → is_eq (nat_cmp tier key) ≡ (key == tier)

@@ -1,7 +1,6 @@
 -- The values that tables give.
-use Rattle.std.proofs.Common.{◌≡◌, ℕ, ◌<◌, ◌≤◌, ◌↔◌, true, false, List, length, get_or, refl, sym, ap, ◌∙◌, subst, Bool, Option, None, Some, IsSome, IfSome}
-use Rattle.std.proofs.Common.{slice_get}
-use Rattle.gm_table.proofs.Lower.{slice_get-get_or, Position, Solved, REMOTENESS, Rules, at, IsCanonical, IsGame, IsTrueValue, IsTrueTable, IsRecord}
+use Rattle.gm_table.proofs.Lower.{◌≡◌, ℕ, ◌<◌, ◌≤◌, ◌↔◌, true, false, List, length, get_or, refl, sym, ap, ◌∙◌, subst, Bool, Option, None, Some, IsSome, IfSome}
+use Rattle.gm_table.proofs.Lower.{slice_get, slice_get-get_or, Position, Solved, REMOTENESS, Rules, at, IsCanonical, IsGame, IsTrueValue, IsTrueTable, IsRecord}
 use Rattle.gm_table.proofs.Lower.{HoldsChildren, IsKnown, Fits, IsTrueValue-canonical, known_since, true_iff_fits, TableData, IsTable, record_at, table_of}
 use Rattle.gm_table.proofs.Lower.{IsHeld, AreHeld, AreTables, record_in, value_in}
 

@@ -1,7 +1,6 @@
 -- What the checker says of records, each reason by itself.
-use Rattle.std.proofs.Common.{◌≡◌, ◌↔◌, ℕ, inl, inr, List, length, Option, ap, subst}
-use Rattle.gm_table.proofs.Lower.{cases_order, Solved, REMOTENESS, Rules, IsTrueTable, TableData, CheckError, OutOfMemory, WrongSize, WrongRecord, FitTables}
-use Rattle.gm_table.proofs.Lower.{IsFirstWrong, AreWrong}
+use Rattle.gm_table.proofs.Lower.{◌≡◌, ◌↔◌, ℕ, inl, inr, List, length, Option, ap, subst, cases_order, Solved, REMOTENESS, Rules, IsTrueTable, TableData}
+use Rattle.gm_table.proofs.Lower.{CheckError, OutOfMemory, WrongSize, WrongRecord, FitTables, IsFirstWrong, AreWrong}
 
 module _ (r : Rules) (entries : List TableData) (tier : ℕ) (records : List (Option Solved))
     (same : IsTrueTable r REMOTENESS tier records ↔ FitTables r entries tier records) where

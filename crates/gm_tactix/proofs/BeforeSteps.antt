@@ -1,17 +1,11 @@
 -- The boards before a board: which numbers of segments give one.
-use Rattle.std.specs.Prelude.{◌≡◌, ◌≢◌, ◌+◌, ◌-◌, ◌*◌, ◌<◌, ◌≤◌}
-use Rattle.gm_pieces.specs.Common.{ℕ, Bool, true, false, eq-eqb, List, [], map, length, Some, refl, sym, ap, ap₂, ◌∙◌, subst, arith, ne_eqb, put, put_all}
-use Rattle.gm_pieces.specs.Common.{least_index, put_more_none, put_more_some, and_both, all_from, members, or_right, board_game, plays_on, before_at, befores}
-use Rattle.gm_pieces.specs.Common.{before_some, before_room, all_befores, false_from_ne_true}
-use Rattle.gm_pieces.specs.laws.MoveLaws.{before_skip}
-use Rattle.gm_pieces.specs.laws.Skipped.{puts_skip}
-use Rattle.gm_tactix.specs.Segments.{segment_length, segment_cells}
-use Rattle.gm_tactix.specs.Board.{has_counter, is_among, with_counters, can_take, was_taken, end_by_last_move, tactix}
-use Rattle.gm_tactix.specs.Befores.{AreBeforesBelow}
-use Rattle.gm_tactix.specs.laws.SegmentFacts.{number_below, length_bounds, cells_within, among_from}
+use Rattle.gm_tactix.proofs.Lower.{◌≡◌, ◌≢◌, ◌+◌, ◌-◌, ◌<◌, ◌≤◌, ℕ, Bool, true, false, eq-eqb, List, [], map, length, Some, refl, sym, ap, ap₂, ◌∙◌, subst}
+use Rattle.gm_tactix.proofs.Lower.{arith, ne_eqb, put, put_all, least_index, put_more_none, put_more_some, and_both, all_from, members, or_right, board_game}
+use Rattle.gm_tactix.proofs.Lower.{plays_on, before_at, befores, before_some, before_room, all_befores, false_from_ne_true, before_skip, puts_skip}
+use Rattle.gm_tactix.proofs.Lower.{segment_length, segment_cells, has_counter, is_among, with_counters, can_take, was_taken, end_by_last_move, tactix}
+use Rattle.gm_tactix.proofs.Lower.{AreBeforesBelow, number_below, length_bounds, cells_within, among_from, move_from, play_members, taken_in, redone, lawful}
+use Rattle.std.specs.Prelude.{◌*◌}
 use Rattle.gm_tactix.specs.laws.CounterFacts.{length_with, with_at}
-use Rattle.gm_tactix.specs.laws.MoveFacts.{move_from, play_members, taken_in, redone}
-use Rattle.gm_tactix.specs.laws.TactixLaws.{lawful}
 
 -- with counters the game goes on, in the normal game and in misère
 with_some : (misere : Bool) (b : List Bool) → members b ≢ 0 → plays_on (end_by_last_move misere b) ≡ true
@@ -43,12 +37,12 @@ module _ (s t : ℕ) (d : List Bool) (low : 1 ≤ s) (high : s ≤ 5) (long : le
   other_length : (m : ℕ) → segment_length m ≢ t - members d → was_taken s t d m ≡ false
   other_length m n = false_from_ne_true _ (λ e. n (let h = (taken_in s t d m e).tier in omega (arith, h)))
 
-  -- k numbers of segments of other lengths
-  pub others_skip : (misere : Bool) (n k : ℕ) (is : List ℕ) → ((i : ℕ) → i < k → segment_length (n + i) ≢ t - members d) → AreBeforesBelow s misere t d n is
+  -- k numbers of segments none of which can have been taken
+  skip : (misere : Bool) (n k : ℕ) (is : List ℕ) → ((i : ℕ) → i < k → was_taken s t d (n + i) ≡ false) → AreBeforesBelow s misere t d n is
       → AreBeforesBelow s misere t d (n + k) is
-  others_skip misere n k is h e =
+  skip misere n k is h e =
       e ∙ sym (puts_skip (least_index (board_game (tactix s misere))) (before_at (tactix s misere) t d) n k
-      (λ i l. before_skip (tactix s misere) t d (n + i) (other_length (n + i) (h i l))))
+      (λ i l. before_skip (tactix s misere) t d (n + i) (h i l)))
 
   too_long : (m : ℕ) → s < t - members d → was_taken s t d m ≡ false
   too_long m l = false_from_ne_true _ (λ e. let h = taken_in s t d m e in let n = (length_bounds s m h.segment).1 in omega (arith, h.tier, n, l))
@@ -56,10 +50,8 @@ module _ (s t : ℕ) (d : List Bool) (low : 1 ≤ s) (high : s ≤ 5) (long : le
   -- there is none where a segment would have to be longer than a side
   pub none_long : (misere : Bool) → s < t - members d → AreBeforesBelow s misere t d (16 * (s * s)) []
   none_long misere l =
-      let n = 16 * (s * s) in
-      subst (λ (k : ℕ). AreBeforesBelow s misere t d k []) (let z : 0 + n ≡ n = omega arith in z)
-      (sym (puts_skip (least_index (board_game (tactix s misere))) (before_at (tactix s misere) t d) 0 n
-      (λ i k. before_skip (tactix s misere) t d (0 + i) (too_long (0 + i) l))))
+      subst (λ (k : ℕ). AreBeforesBelow s misere t d k []) (let z : 0 + 16 * (s * s) ≡ 16 * (s * s) = omega arith in z)
+      (skip misere 0 (16 * (s * s)) [] (λ i k. too_long (0 + i) l) refl)
 
   -- the list has room for the board before
   pub taken_room : (misere : Bool) (m : ℕ) (is : List ℕ) → was_taken s t d m ≡ true → AreBeforesBelow s misere t d m is → length is < 128
@@ -84,14 +76,15 @@ module _ (s t : ℕ) (d : List Bool) (low : 1 ≤ s) (high : s ≤ 5) (long : le
   -- a cell's numbers of segments that are shorter
   pub shorter_skip : (misere : Bool) (n l : ℕ) (is : List ℕ) → l ≡ t - members d → l ≤ s → AreBeforesBelow s misere t d (16 * n) is → AreBeforesBelow s
       misere t d (16 * n + 2 * l) is
-  shorter_skip misere n l is e h = others_skip misere (16 * n) (2 * l) is (λ i k q. omega (arith, high, e, h, k, q))
+  shorter_skip misere n l is e h = skip misere (16 * n) (2 * l) is (λ i k. other_length (16 * n + i) (λ q. omega (arith, high, e, h, k, q)))
 
   -- and of those that are longer
   pub longer_skip : (misere : Bool) (n l : ℕ) (is : List ℕ) → l ≡ t - members d → l ≤ s → AreBeforesBelow s misere t d (16 * n + 2 * l + 1 + 1) is →
       AreBeforesBelow s misere t d (16 * (n + 1)) is
   longer_skip misere n l is e h b =
       subst (λ (k : ℕ). AreBeforesBelow s misere t d k is) (let z : 16 * n + 2 * l + 1 + 1 + (14 - 2 * l) ≡ 16 * (n + 1) = omega (arith, high, h) in z)
-      (others_skip misere (16 * n + 2 * l + 1 + 1) (14 - 2 * l) is (λ i k q. omega (arith, high, e, h, k, q)) b)
+      (skip misere (16 * n + 2 * l + 1 + 1) (14 - 2 * l) is
+      (λ i k. other_length (16 * n + 2 * l + 1 + 1 + i) (λ q. omega (arith, high, e, h, k, q))) b)
 
   -- the numbers of all segments
   pub all_taken : (misere : Bool) (n : ℕ) (is : List ℕ) → n ≡ 16 * (s * s) → AreBeforesBelow s misere t d n is → is ≡ put_all []

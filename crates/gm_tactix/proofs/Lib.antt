@@ -1,7 +1,5 @@
 pub mod Positions
-pub mod MaskSteps
 pub mod MaskMoves
-pub mod StartPosition
 pub mod TextSteps
 pub mod ImageTable
 pub mod LeftSteps
@@ -12,3 +10,4 @@ pub mod SegmentList
 pub mod LineTable
 pub mod LineSegments
 pub mod LineContents
+pub mod Lower

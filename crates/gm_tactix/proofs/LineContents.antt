@@ -1,10 +1,10 @@
 -- The cells of a line as a mask of five bits.
-use Rattle.std.specs.Prelude.{◌≡◌, ◌+◌, ◌-◌, ◌*◌, ◌/◌, ◌%◌, ◌^◌, ◌<◌, ◌≤◌, ◌&&◌, ◌∷◌}
-use Rattle.gm_pieces.specs.Common.{ℕ, zero, suc, Bool, true, false, eqb, eqb-true, List, [], get_or, refl, sym, ap, ap₂, ◌∙◌, arith, bit_and, list_all}
-use Rattle.gm_pieces.specs.Common.{range_with_len, div-div-eq-div-mul, cond_below, cond-false, le-ltb, pow-add, and_le_r, bit_at_ones, has_cell, tests_of}
-use Rattle.gm_pieces.specs.Common.{mask_of, mask_below, mask_tests_small, tests_mask, contains_range, and_true, has_and, all_at}
-use Rattle.std.proofs.Math.Bool.{and_comm}
-use Rattle.gm_tactix.specs.Lines.{line_cell}
+use Rattle.gm_tactix.proofs.Lower.{◌≡◌, ◌+◌, ◌-◌, ◌/◌, ◌%◌, ◌^◌, ◌<◌, ◌≤◌, ◌&&◌, ◌∷◌, ℕ, zero, suc, Bool, true, false, eqb, eqb-true, List, [], get_or, refl}
+use Rattle.gm_tactix.proofs.Lower.{sym, ap, ap₂, ◌∙◌, arith, bit_and, list_all, range_with_len, cond_below, cond-false, le-ltb, pow-add, and_le_r, bit_at_ones}
+use Rattle.gm_tactix.proofs.Lower.{has_cell, mask_of, mask_below, mask_tests_small, tests_mask, contains_range, and_true, has_and, all_at, and_comm, line_cell}
+use Rattle.gm_tactix.proofs.Lower.{for_sides, subst, div-div-eq-div-mul}
+use Rattle.std.specs.Prelude.{◌*◌}
+use Rattle.gm_pieces.specs.Common.{tests_of}
 
 -- a cell of a mask moved down
 moved_down : (m k i : ℕ) → has_cell (m / 2 ^ k) i ≡ has_cell m (k + i)
@@ -68,19 +68,13 @@ gathers m =
 gathered_tests : (m : ℕ) → tests_of 5 (gathered (bit_and m 1082401)) ≡ column m
 gathered_tests m = ap (tests_of 5) (gathers m) ∙ tests_mask (column m)
 
-for_five : (P : ℕ → Type 0) → P 0 → P 1 → P 2 → P 3 → P 4 → (k : ℕ) → k < 5 → P k
-for_five P a b c d e zero l = a
-for_five P a b c d e (suc zero) l = b
-for_five P a b c d e (suc (suc zero)) l = c
-for_five P a b c d e (suc (suc (suc zero))) l = d
-for_five P a b c d e (suc (suc (suc (suc zero)))) l = e
-for_five P a b c d e (suc (suc (suc (suc (suc k))))) l = absurd (omega arith)
-
 gathered_cell : (m place : ℕ) → place < 5 → has_cell (gathered (bit_and m 1082401)) place ≡ has_cell m (5 * place)
 unfolding tests_of
-gathered_cell m =
+gathered_cell m place l =
     let at = λ (k : ℕ). ap (λ (bs : List Bool). get_or bs k false) (gathered_tests m) in
-    for_five (λ place. has_cell (gathered (bit_and m 1082401)) place ≡ has_cell m (5 * place)) (at 4) (at 3) (at 2) (at 1) (at 0)
+    let is = λ (k : ℕ). has_cell (gathered (bit_and m 1082401)) k ≡ has_cell m (5 * k) in
+    subst is (let e : suc place - 1 ≡ place = omega arith in e)
+    (for_sides (λ s. is (s - 1)) (at 4) (at 3) (at 2) (at 1) (at 0) (suc place) (omega arith) (omega arith))
 
 -- a column's cells
 pub column_cell : (counters line place gather : ℕ) → 5 ≤ line → place < 5 → gather ≡ bit_and (counters / 2 ^ (line - 5)) 1082401

@@ -1,11 +1,9 @@
 -- The blocks of segments against the lines of the square of side 5.
-use Rattle.std.specs.Prelude.{◌≡◌, ◌+◌, ◌/◌, ◌<◌, ◌≤◌, ◌&&◌, ◌||◌}
-use Rattle.gm_pieces.specs.Common.{ℕ, Bool, true, eqb, eqb-true, ltb, ltb-true, le-ltb, List, [], map, length, take}
-use Rattle.gm_pieces.specs.Common.{get_or, refl, sym, ap, ◌∙◌, arith, Contains, filter, list_all, range_with_len, get_or-map-range_with_len, and_left}
-use Rattle.gm_pieces.specs.Common.{and_right, all_at, at_all, at_each, at_below}
-use Rattle.gm_tactix.specs.declared.segments.TheConstants.{BLOCKS, COUNTS, SHIFTS}
+use Rattle.gm_tactix.proofs.Lower.{◌≡◌, ◌+◌, ◌/◌, ◌<◌, ◌≤◌, ◌&&◌, ◌||◌, ℕ, Bool, true, eqb, eqb-true, ltb, ltb-true, le-ltb, List, [], map, length, take}
+use Rattle.gm_tactix.proofs.Lower.{get_or, refl, sym, ap, ◌∙◌, arith, Contains, filter, list_all, range_with_len, get_or-map-range_with_len, and_left}
+use Rattle.gm_tactix.proofs.Lower.{and_right, all_at, at_each, at_below, BLOCKS, COUNTS, SHIFTS, line_cell, line_place}
 use Rattle.gm_tactix.specs.Segments.{segment_cells, is_segment}
-use Rattle.gm_tactix.specs.Lines.{line_cell, line_place, lies_in, line_segments}
+use Rattle.gm_tactix.specs.Lines.{lies_in, line_segments}
 
 -- the block of a line's content
 abbrev pub block : ℕ → ℕ → List ℕ
@@ -73,38 +71,21 @@ placed line m cell l c d =
 abbrev is_small : ℕ → ℕ → ℕ → Bool
 is_small line content place = ltb (get_or (block line content) place 0 + get_or SHIFTS line 0) 400
 
-abbrev fits : ℕ → ℕ → Bool
-fits line content =
-    ltb (held line content) 16
-    && (eqb (length (block line content)) 16
-    && ((ltb line 5 || ltb (held line content) 11) && list_all (is_small line content) (range_with_len 0 16)))
-
-all_fit : at_all 10 32 fits ≡ true
-all_fit = refl
-
 module _ (line content : ℕ) (l : line < 10) (h : content < 32) where
-  fits_here : fits line content ≡ true
-  fits_here = at_each 10 32 fits all_fit line content l h
-
-  rest_here : (ltb line 5 || ltb (held line content) 11) && list_all (is_small line content) (range_with_len 0 16) ≡ true
-  rest_here =
-      and_right (eqb (length (block line content)) 16) ((ltb line 5 || ltb (held line content) 11) && list_all (is_small line content) (range_with_len 0 16))
-      (and_right (ltb (held line content) 16) _ fits_here)
-
   -- a line has at most 15 of them
   pub most : held line content < 16
-  most = ltb-true _ _ (and_left _ _ fits_here)
+  most = ltb-true _ _ (at_each 10 32 (λ line content. ltb (held line content) 16) refl line content l h)
 
   -- a block has 16 numbers
   pub long : length (block line content) ≡ 16
-  long = eqb-true _ _ (and_left _ _ (and_right _ _ fits_here))
+  long = eqb-true _ _ (at_each 10 32 (λ line content. eqb (length (block line content)) 16) refl line content l h)
 
   -- a column has at most 10
   pub few : 5 ≤ line → held line content < 11
-  few past = ltb-true _ _ (sym (ap (λ (b : Bool). b || ltb (held line content) 11) (le-ltb line 5 past)) ∙ and_left _ _ rest_here)
+  few past = ltb-true _ _ (sym (ap (λ (b : Bool). b || ltb (held line content) 11) (le-ltb line 5 past)) ∙ at_each 10 32
+      (λ line content. ltb line 5 || ltb (held line content) 11) refl line content l h)
 
   -- the numbers are small
   pub small : (place : ℕ) → place < 16 → get_or (block line content) place 0 + get_or SHIFTS line 0 < 400
-  small place k =
-      let all = and_right (ltb line 5 || ltb (held line content) 11) (list_all (is_small line content) (range_with_len 0 16)) rest_here in
-      ltb-true _ _ (at_below 16 (is_small line content) all place k)
+  small place k = ltb-true _ _ (at_below 16 (is_small line content)
+      (at_each 10 32 (λ line content. list_all (is_small line content) (range_with_len 0 16)) refl line content l h) place k)

@@ -1,16 +1,10 @@
 -- Moves on masks, and the boards before a board.
-use Rattle.std.specs.Prelude.{◌≡◌, ◌+◌, ◌*◌, ◌^◌, ◌<◌, ◌≤◌, ◌&&◌}
-use Rattle.gm_pieces.specs.Common.{ℕ, Bool, true, false, not, eqb, List, w32, refl, sym, ap, ap₂, ◌∙◌, subst, arith}
-use Rattle.gm_pieces.specs.Common.{eqb-true, eq-eqb, bit_and, bit_or, count_ones, bit_not, true≢false, false_from_ne_true, or_lt, pow-lt, has_cell, same_tests}
-use Rattle.gm_board.specs.laws.BoardMasks.{filled_by}
-use Rattle.gm_pieces.specs.Common.{same_all, pattern_mask, members, has_and, has_not}
-use Rattle.gm_tactix.specs.Segments.{segment_length, segment_cells, is_segment}
-use Rattle.gm_tactix.specs.Board.{has_counter, is_full, is_free, with_counters, can_take, play, was_taken}
-use Rattle.gm_tactix.specs.laws.SegmentFacts.{square_small, cells_within}
-use Rattle.gm_tactix.specs.laws.MoveFacts.{taken_in}
-use Rattle.gm_tactix.specs.CounterMasks.{counters_of}
-use Rattle.gm_tactix.specs.laws.CounterMaskFacts.{counters_members, counter_at, free_mask, without_mask, with_mask}
-use Rattle.gm_tactix.proofs.MaskSteps.{pattern_below}
+use Rattle.gm_tactix.proofs.Lower.{◌≡◌, ◌≢◌, ◌↔◌, ◌+◌, ◌^◌, ◌<◌, ◌≤◌, ◌&&◌, ℕ, Bool, true, false, not, eqb, List, w32, refl, sym, ap, ◌∙◌, subst, arith}
+use Rattle.gm_tactix.proofs.Lower.{bit_and, bit_or, count_ones, bit_not, true≢false, false_from_ne_true, pow-lt, has_cell, filled_by, same_all, pattern_mask}
+use Rattle.gm_tactix.proofs.Lower.{has_and, has_not, segment_length, segment_cells, is_segment, has_counter, is_full, is_free, with_counters, square_small}
+use Rattle.gm_tactix.proofs.Lower.{cells_within, taken_in, counters_of, counters_members, counter_at, free_mask, without_mask, with_mask}
+use Rattle.std.specs.Prelude.{◌*◌}
+use Rattle.gm_tactix.specs.Board.{can_take, play, was_taken}
 
 -- ---- tests
 pub when_segment : (s : ℕ) (b : List Bool) (m : ℕ) → is_segment s m ≡ true → can_take s b m ≡ is_full b (segment_cells s m)
@@ -32,44 +26,39 @@ take_of s mask m cells low high e f =
     ∙ sym (when_segment s (counters_of (s * s) mask) m e)
 
 -- ---- a move
-square_bits : (s : ℕ) → 1 ≤ s → s ≤ 5 → s * s < 32
-square_bits s low high = let few = square_small s low high in omega (arith, few)
-
 -- the mask without a segment is that of the board after the move
 pub play_of : (s mask m cells : ℕ) → 1 ≤ s → s ≤ 5 → cells < 2 ^ (s * s) → cells ≡ pattern_mask (segment_cells s m)
     → counters_of (s * s) (bit_and mask (bit_not w32 cells)) ≡ play s (counters_of (s * s) mask) m
 unfolding play
 play_of s mask m cells low high w f =
-    let bits = square_bits s low high in
+    let few = square_small s low high in
+    let bits : s * s < 32 = omega (arith, few) in
     let more : 2 ^ (s * s) < 2 ^ 32 = pow-lt bits in
     without_mask (s * s) mask (bit_and mask (bit_not w32 cells)) (segment_cells s m)
     (λ k l. has_and mask (bit_not w32 cells) k
     ∙ ap (λ (x : Bool). has_cell mask k && x) (has_not cells k (omega arith) (omega (arith, bits)) ∙ ap (λ (v : ℕ). not (has_cell v k)) f))
 
 -- ---- a move taken back
--- the code's test of a segment that was taken
-pub taken_of : (s t mask m cells n : ℕ) → 1 ≤ s → s ≤ 5 → mask < 2 ^ (s * s) → is_segment s m ≡ true → cells ≡ pattern_mask (segment_cells s m) → n ≡
-    segment_length m
-    → (eqb (bit_and mask cells) 0 && eqb (count_ones mask + n) t) ≡ was_taken s t (counters_of (s * s) mask) m
-unfolding was_taken
-taken_of s t mask m cells n low high l e f g =
-    let cs = segment_cells s m in
-    let b = counters_of (s * s) mask in
-    let free = free_mask (s * s) mask cs (λ k c. cells_within s low high m k e c) in
-    let same : eqb (bit_and mask cells) 0 ≡ is_free b cs =
-    same_tests _ _ (λ h. free.0 (ap (bit_and mask) (sym f) ∙ eqb-true _ _ h)) (λ h. eq-eqb _ _ (ap (bit_and mask) f ∙ free.1 h)) in
-    let number : count_ones mask + n ≡ members b + segment_length m = ap₂ (λ (x y : ℕ). x + y) (sym (counters_members (s * s) mask l)) g in
-    ap₂ (λ (x y : Bool). x && y) same (ap (λ (k : ℕ). eqb k t) number) ∙ sym (ap (λ (x : Bool). x && (is_free b cs && eqb (members b + segment_length m) t)) e)
+module _ (s t mask m cells : ℕ) (low : 1 ≤ s) (high : s ≤ 5) (e : is_segment s m ≡ true) (f : cells ≡ pattern_mask (segment_cells s m)) where
+  free_is : (bit_and mask cells ≡ 0) ↔ (is_free (counters_of (s * s) mask) (segment_cells s m) ≡ true)
+  free_is = subst (λ (v : ℕ). (bit_and mask v ≡ 0) ↔ (is_free (counters_of (s * s) mask) (segment_cells s m) ≡ true)) (sym f)
+      (free_mask (s * s) mask (segment_cells s m) (λ k c. cells_within s low high m k e c))
+
+  -- the code's test of a segment on free cells
+  pub taken_of : (n : ℕ) → n ≡ count_ones mask + segment_length m → bit_and mask cells ≡ 0 → mask < 2 ^ (s * s) → eqb n t ≡ was_taken s t
+      (counters_of (s * s) mask) m
+  unfolding was_taken
+  taken_of n g z l = rw (e, free_is.0 z) (ap (λ (k : ℕ). eqb k t) (g ∙ ap (λ (k : ℕ). k + segment_length m) (sym (counters_members (s * s) mask l))))
+
+  -- none was taken on other cells
+  pub not_free : bit_and mask cells ≢ 0 → false ≡ was_taken s t (counters_of (s * s) mask) m
+  not_free n = sym (false_from_ne_true _ (λ w. n (free_is.1 (taken_in s t (counters_of (s * s) mask) m w).free)))
 
 -- none was taken where the number is that of no segment
 pub not_taken : (s t : ℕ) (d : List Bool) (m : ℕ) → is_segment s m ≡ false → false ≡ was_taken s t d m
 not_taken s t d m e = sym (false_from_ne_true _ (λ w. true≢false (sym (taken_in s t d m w).segment ∙ e)))
 
 -- the mask with the segment is that of the board before
-pub back_of : (s mask m cells : ℕ) → 1 ≤ s → s ≤ 5 → mask < 2 ^ (s * s) → is_segment s m ≡ true → cells ≡ pattern_mask (segment_cells s m)
-    → (counters_of (s * s) (bit_or mask cells) ≡ with_counters (counters_of (s * s) mask) (segment_cells s m)) × (bit_or mask cells < 2 ^ (s * s))
-back_of s mask m cells low high l e f =
-    let cs = segment_cells s m in (
-      ap (λ (v : ℕ). counters_of (s * s) (bit_or mask v)) f ∙ with_mask (s * s) mask cs,
-      or_lt (s * s) mask cells l (subst (λ (v : ℕ). v < 2 ^ (s * s)) (sym f) (pattern_below (s * s) cs (λ k c. cells_within s low high m k e c))),
-    )
+pub back_of : (s mask m cells : ℕ) → cells ≡ pattern_mask (segment_cells s m) → counters_of (s * s) (bit_or mask cells) ≡ with_counters
+    (counters_of (s * s) mask) (segment_cells s m)
+back_of s mask m cells f = ap (λ (v : ℕ). counters_of (s * s) (bit_or mask v)) f ∙ with_mask (s * s) mask (segment_cells s m)

@@ -1,12 +1,11 @@
 -- The table of the segments' masks against the segments.
-use Rattle.std.specs.Prelude.{◌≡◌, ◌≢◌, ◌+◌, ◌-◌, ◌*◌, ◌^◌, ◌<◌, ◌≤◌, ◌&&◌}
-use Rattle.gm_pieces.specs.Common.{ℕ, Bool, true, false, not, cond, eqb, eqb-true, eq-eqb, ltb, ltb-true, get_or, refl, sym, ap, ◌∙◌, arith, list_all}
-use Rattle.gm_pieces.specs.Common.{range_with_len, cond-true, cond-false, true≢false, and_left, and_right, pattern_mask, at_below}
-use Rattle.gm_tactix.specs.declared.masks.TheConstants.{MASKS, STARTS}
+use Rattle.gm_tactix.proofs.Lower.{◌≡◌, ◌≢◌, ◌+◌, ◌-◌, ◌^◌, ◌<◌, ◌≤◌, ◌&&◌, ℕ, Bool, true, false, not, cond, eqb, eqb-true, eq-eqb, ltb, ltb-true, get_or, refl}
+use Rattle.gm_tactix.proofs.Lower.{sym, ap, ◌∙◌, arith, list_all, range_with_len, cond-true, cond-false, true≢false, and_left, and_right, pattern_mask}
+use Rattle.gm_tactix.proofs.Lower.{at_below, MASKS, STARTS, for_sides, square_small, number_below}
+use Rattle.std.specs.Prelude.{◌*◌}
 use Rattle.std.proofs.lemmas.Bool.{false_from_ne_true, true_from_ne_false}
 use Rattle.gm_tactix.specs.Segments.{segment_cells, is_segment}
 use Rattle.gm_tactix.specs.SegmentMasks.{segment_mask}
-use Rattle.gm_tactix.specs.laws.SegmentFacts.{for_sides, square_small, number_below}
 
 -- what the table says of a number
 abbrev place : ℕ → ℕ → ℕ

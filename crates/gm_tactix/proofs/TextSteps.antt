@@ -1,26 +1,23 @@
 -- Steps on the texts of boards.
-use Rattle.std.specs.Prelude.{◌≡◌, ◌+◌, ◌&&◌, ◌∷◌, ◌++◌}
-use Rattle.gm_pieces.specs.Common.{ℕ, Bool, false, eqb, lt-ltb, List, [], map, length, get_or, refl, sym, ap, ap₂, ◌∙◌, arith}
-use Rattle.gm_pieces.specs.Common.{zero-add, range_with_len, get_or-map, map_push, map-range_with_len_more, has_cell, IsRead}
+use Rattle.gm_tactix.proofs.Lower.{◌≡◌, ◌&&◌, ℕ, Bool, false, eqb, lt-ltb, List, length, get_or, refl, sym, ap, ap₂, ◌∙◌, arith, range_with_len, get_or-map}
+use Rattle.gm_tactix.proofs.Lower.{has_cell, IsRead, counter_back, same_mask, true, map-map, bit_at-zero, cell_by, same_map}
 use Rattle.gm_tactix.specs.Texts.{counter_text, board_text}
-use Rattle.gm_tactix.specs.laws.TextLaws.{text_length, counter_back}
 use Rattle.gm_tactix.specs.CounterMasks.{counters_of}
-use Rattle.gm_tactix.specs.laws.CounterMaskFacts.{counters_length, same_mask}
+use Rattle.gm_board.specs.Images.{board_of}
+use Rattle.gm_pieces.specs.SideTexts.{cell_char, board_text as sides_text}
 
--- the text of no cell
-pub text_none : (mask : ℕ) → board_text (counters_of 0 mask) ≡ []
-unfolding board_text counters_of
-text_none mask = refl
+byte_is : (x : Bool) → cell_char (cell_by x false) ≡ counter_text x
+byte_is true = refl
+byte_is false = refl
 
--- the text of one more cell
-pub text_more : (n mask : ℕ) → board_text (counters_of (n + 1) mask) ≡ board_text (counters_of n mask) ++ counter_text (has_cell mask n) ∷ []
-unfolding board_text counters_of
-text_more n mask = ap (map counter_text) (map-range_with_len_more (has_cell mask) 0 n n (zero-add n)) ∙ map_push counter_text
-    (map (has_cell mask) (range_with_len 0 n)) (has_cell mask n)
-
--- one byte a cell
-pub text_long : (n mask : ℕ) → length (board_text (counters_of n mask)) ≡ n
-text_long n mask = text_length (counters_of n mask) ∙ counters_length n mask
+-- counters are shown as the pieces of one side
+pub text_is : (n mask : ℕ) → sides_text (board_of n mask 0) ≡ board_text (counters_of n mask)
+unfolding sides_text board_of board_text counters_of
+text_is n mask =
+    map-map cell_char (λ (k : ℕ). cell_by (has_cell mask k) (has_cell 0 k)) (range_with_len 0 n)
+    ∙ same_map (λ (k : ℕ). cell_char (cell_by (has_cell mask k) (has_cell 0 k))) (λ (k : ℕ). counter_text (has_cell mask k)) (range_with_len 0 n) (λ k c.
+    ap (λ (y : Bool). cell_char (cell_by (has_cell mask k) y)) (ap (λ (v : ℕ). eqb v 1) (bit_at-zero k)) ∙ byte_is (has_cell mask k))
+    ∙ sym (map-map counter_text (has_cell mask) (range_with_len 0 n))
 
 -- the marks of a board's text are the board's counters
 pub read_all : (n marks : ℕ) (b : List Bool) (text : List ℕ) → IsRead text 120 n marks → length b ≡ n → board_text b ≡ text → b ≡ counters_of n marks

@@ -8,7 +8,6 @@ pub mod masks;
 pub mod moves;
 pub mod parents;
 pub mod picture;
-pub mod segment;
 mod segments;
 pub mod side;
 pub mod tactix;

@@ -31,7 +31,7 @@ pub fn play(side: u32, counters: u32, number: u32) -> u32
 }
 
 /// Returns whether taking the segment with this number can have left these counters of `tier` counters: false if there is no such segment.
-#[tactic(auto, using(crate::proofs::MaskMoves::not_taken, crate::proofs::MaskTable::none_by_mask))]
+#[tactic(auto, using(crate::proofs::MaskMoves::taken_of, crate::proofs::MaskMoves::not_free, crate::proofs::MaskMoves::not_taken, crate::proofs::MaskTable::mask_of_segment, crate::proofs::MaskTable::none_by_mask, crate::proofs::MaskTable::segment_by_mask))]
 pub fn was_taken(side: u32, tier: u64, counters: u32, number: u32) -> bool
     requires low { 1 ≤ side }
     requires high { side ≤ 5 }
@@ -39,16 +39,14 @@ pub fn was_taken(side: u32, tier: u64, counters: u32, number: u32) -> bool
     ensures { result ≡ was_taken_of side tier (counters_of (side * side) counters) number }
 {
     let cells = segment_mask(side, number);
-    if cells == 0 {
-        return false;
-    }
     // The number of a segment tells its length.
-    let number_before = u64::from(counters.count_ones() + number % 16 / 2);
-    counters & cells == 0 && number_before == tier
+    cells != 0
+        && counters & cells == 0
+        && u64::from(counters.count_ones() + number % 16 / 2) == tier
 }
 
 /// Returns the counters before the segment with this number was taken.
-#[tactic(auto, using(crate::specs::laws::MoveFacts::taken_in, crate::proofs::MaskMoves::back_of, crate::proofs::MaskTable::mask_of_segment))]
+#[tactic(auto, using(crate::specs::laws::MoveFacts::taken_in, crate::proofs::MaskMoves::back_of, std::proofs::lemmas::Nat::or_lt, crate::proofs::MaskTable::mask_of_segment))]
 pub fn given_back(side: u32, tier: u64, counters: u32, number: u32) -> u32
     requires low { 1 ≤ side }
     requires high { side ≤ 5 }

@@ -15,16 +15,13 @@ pub fn name(side: u32, misere: bool) -> [u8; NAME]
     requires { side ≤ 5 }
     ensures { result ≡ tactix_name side misere }
 {
-    let digit = b'0' + side as u8;
-    if misere {
-        let mut name = *b"tactix-0-misere\0";
-        name[7] = digit;
-        name
+    let mut name = if misere {
+        *b"tactix-0-misere\0"
     } else {
-        let mut name = *b"tactix-0\0\0\0\0\0\0\0\0";
-        name[7] = digit;
-        name
-    }
+        *b"tactix-0\0\0\0\0\0\0\0\0"
+    };
+    name[7] = b'0' + side as u8;
+    name
 }
 
 /// Returns how many boards of a square of side up to 5 have `tier` counters: 0 if there are fewer cells.
@@ -45,13 +42,10 @@ pub fn tier_size(side: u32, tier: u64) -> u64
 pub fn end(misere: bool, tier: u64) -> Option<End>
     ensures { result ≡ (if tier == 0 then Some (if misere then End.Win else End.Lose) else None) }
 {
-    if tier > 0 {
-        return None;
-    }
-    if misere {
-        Some(End::Win)
-    } else {
-        Some(End::Lose)
+    match (tier, misere) {
+        (0, true) => Some(End::Win),
+        (0, false) => Some(End::Lose),
+        _ => None,
     }
 }
 

@@ -1,10 +1,8 @@
 -- Bytes of records that are read in two parts.
 use Rattle.gm_tierdb.proofs.Lower.{◌≡◌, ℕ, ◌+◌, ◌<◌, ◌≤◌, List, ◌++◌, length, Option, None, Some, Result, Ok, Err, IfErr, IsErrAnd, sym, ap, subst, ◌∙◌}
 use Rattle.gm_tierdb.proofs.Lower.{append_assoc, length-append, arith, flat_map, take-append-le, Solved, Version, One, Two, width, record_bytes, IsStorable}
-use Rattle.gm_tierdb.proofs.Lower.{AreRecords, HasRecords, IsFirstBad, AreRead}
-use Rattle.std.proofs.Common.{◌*◌, IfSome}
-use Rattle.std.proofs.lemmas.Grind.{flat_map-append}
-use Rattle.std.proofs.lemmas.List.Elements.{All-append}
+use Rattle.gm_tierdb.proofs.Lower.{AreRecords, HasRecords, IsFirstBad, AreRead, IfSome, flat_map-append, All-append}
+use Rattle.std.proofs.Common.{◌*◌}
 use Rattle.gm_tierdb.proofs.RecordLemmas.{length_records}
 
 -- the records of one part and of the other
@@ -15,10 +13,6 @@ both_parts v n k size bytes first rest front back e sum are more = record {
   storable = All-append (IsStorable v) front back are.storable more.storable;
   text = e ∙ (λ i. are.text i ++ more.text i) ∙ sym (flat_map-append (record_bytes v) front back);
 }
-
-pub both_have : (v : Version) (n k size : ℕ) (bytes first rest : List ℕ) → bytes ≡ first ++ rest → size ≡ n + k → HasRecords v n first → HasRecords v k rest
-    → HasRecords v size bytes
-both_have v n k size bytes first rest e sum (front, are) (back, more) = (front ++ back, both_parts v n k size bytes first rest front back e sum are more)
 
 pub has_read : (v : Version) (size : ℕ) (part : List ℕ) (read : Option (List (Option Solved))) → AreRead v size part read → HasRecords v size part
 has_read v size part None has = has
@@ -69,7 +63,8 @@ pub read_joined : (v : Version) (n k size : ℕ) (bytes first rest : List ℕ) (
     → size ≡ n + k → AreRead v n first front → AreRead v k rest back
     → IfSome all (λ x. (a : List (Option Solved)) × (b : List (Option Solved)) × (front ≡ Some a) × (back ≡ Some b) × (x ≡ a ++ b)) → AreRead v size bytes all
 read_joined v n k size bytes first rest front back None e sum are more h =
-    both_have v n k size bytes first rest e sum (has_read v n first front are) (has_read v k rest back more)
+    let (a, one) = has_read v n first front are in
+    let (b, two) = has_read v k rest back more in (a ++ b, both_parts v n k size bytes first rest a b e sum one two)
 read_joined v n k size bytes first rest front back (Some x) e sum are more (a, b, ea, eb, ex) =
     subst (λ records. AreRecords v size records bytes) (sym ex)
     (both_parts v n k size bytes first rest a b e sum (subst (AreRead v n first) ea are) (subst (AreRead v k rest) eb more))

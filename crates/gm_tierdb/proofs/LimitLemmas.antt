@@ -1,13 +1,6 @@
 -- Which tables a file of version 1 can have.
-use Rattle.gm_tierdb.proofs.Lower.{◌≡◌, ℕ, ◌≤◌, List, Option, None, Some, refl, arith, Solved, WinLose, Ties, REMOTENESS_1, One, Two, IsStorable}
-use Rattle.std.proofs.Common.{slice_get, MatchOption}
-use Rattle.gm_game.specs.declared.position.Value.{Value}
-use Rattle.gm_game.specs.declared.position.Value.TheVariants.{Lose, Draw, Tie, Win}
-use Rattle.gm_game.specs.declared.position.Phase.{Phase}
-use Rattle.gm_game.specs.Records.{solved}
-use Rattle.gm_table.specs.Levels.{HasLevel, IsGreatest}
-use Rattle.gm_table.specs.RecordCodes.{IsStorableSolved}
-use Rattle.gm_tierdb.specs.TierText.{AreUpTo}
+use Rattle.gm_tierdb.proofs.Lower.{◌≡◌, ℕ, ◌≤◌, List, Option, None, Some, refl, arith, Solved, WinLose, Ties, REMOTENESS_1, One, Two, IsStorable, slice_get}
+use Rattle.gm_tierdb.proofs.Lower.{MatchOption, Value, Lose, Draw, Tie, Win, Phase, solved, HasLevel, IsGreatest, IsStorableSolved, AreUpTo}
 
 -- a record of a table without a level above that of version 1 can be in a file of it
 old_value : (records : List (Option Solved)) → AreUpTo REMOTENESS_1 records → (k : ℕ) (value : Value) (n : ℕ)

@@ -1,16 +1,9 @@
 -- Lists of records and their bytes.
 use Rattle.gm_tierdb.proofs.Lower.{◌≡◌, ℕ, zero, suc, ◌+◌, ◌-◌, ◌<◌, ◌≤◌, List, [], ◌∷◌, ◌++◌, length, take, drop, get_or, All, Option, None, refl, sym, ap}
-use Rattle.gm_tierdb.proofs.Lower.{subst, ◌∙◌, append_assoc, append-nil, length-append, arith, flat_map, to_le_bytes, Solved, Rules, record_at, Version, One}
-use Rattle.gm_tierdb.proofs.Lower.{Two, word, width, IsStorable, record_bytes, AreRecords}
-use Rattle.std.proofs.Common.{◌≢◌, ◌*◌}
-use Rattle.std.proofs.lemmas.List.{flat_map_more, take_more, nil_from_length}
-use Rattle.std.proofs.lemmas.List.Elements.{All-head, All-nil, All-tail}
-use Rattle.std.proofs.lemmas.Option.{slice_get-get_or}
-use Rattle.gm_game.specs.Rules.{at}
-use Rattle.gm_table.specs.Tables.{TableData, IsTable}
-use Rattle.gm_table.specs.RecordCodes.{record_number}
-use Rattle.gm_tierdb.specs.TierText.{IsFor}
-use Rattle.gm_table.proofs.CodeLemmas.{same_bytes, storable_record}
+use Rattle.gm_tierdb.proofs.Lower.{◌∙◌, append_assoc, append-nil, length-append, arith, flat_map, to_le_bytes, Solved, Rules, record_at, Version, One, Two}
+use Rattle.gm_tierdb.proofs.Lower.{word, width, IsStorable, record_bytes, AreRecords, ◌≢◌, flat_map_more, take_more, nil_from_length, All-head, All-nil}
+use Rattle.gm_tierdb.proofs.Lower.{All-tail, slice_get-get_or, at, TableData, IsTable, record_number, IsFor, same_bytes, storable_record}
+use Rattle.std.proofs.Common.{◌*◌}
 use Rattle.gm_tierdb.proofs.LimitLemmas.{old_record}
 
 -- each record has as many bytes
@@ -112,10 +105,6 @@ record_is : (records : List (Option Solved)) (k : ℕ) → k < length records �
 record_is [] k h = absurd (omega arith)
 record_is (o ∷ os) zero h = refl
 record_is (o ∷ os) (suc k) h = record_is os k (omega arith)
-
--- each of the records is storable
-pub storable_at : (v : Version) (records : List (Option Solved)) (k : ℕ) → k < length records → All (IsStorable v) records → IsStorable v (record_at records k)
-storable_at v records k less h = subst (IsStorable v) (sym (record_is records k less)) (h k None less)
 
 pub one_more : (v : Version) (out : List ℕ) (records : List (Option Solved)) (k : ℕ) → k < length records
     → (out ++ flat_map (record_bytes v) (take k records)) ++ record_bytes v (record_at records k) ≡ out ++ flat_map (record_bytes v) (take (k + 1) records)

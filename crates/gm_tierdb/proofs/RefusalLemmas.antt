@@ -1,15 +1,7 @@
 -- What is refused, and what isn't.
-use Rattle.gm_tierdb.proofs.Lower.{◌≡◌, ℕ, ◌<◌, List, length, take, get_or, Option, Result, Ok, Err, IfOk, IfErr, IsErrOf, refl, sym, ap, ◌∙◌, arith}
-use Rattle.gm_tierdb.proofs.Lower.{to_le_bytes, w64, NAME, Solved, Rules, FileError, OutOfMemory, Truncated, BadMagic, WrongGame, WrongTier, WrongSize}
-use Rattle.gm_tierdb.proofs.Lower.{BadRecord, Trailing, BadDigest, OldVersion, Version, One, Two, magic, IsVersionText, HasHeader, RefusesIn, file_len}
-use Rattle.std.proofs.Common.{◌^◌, Bool, true, false, MatchResult}
-use Rattle.std.proofs.Common.{IsTrue, ⊎_elim}
-use Rattle.std.proofs.Math.Bool.{not}
-use Rattle.std.specs.Int.{from_le_bytes}
-use Rattle.std.specs.Str.{bytes_eq}
-use Rattle.std.proofs.lemmas.Nat.{from_le_bytes-to_le_bytes_8}
-use Rattle.std.proofs.lemmas.Slice.Eq.{bytes_eq-Decides}
-use Rattle.gm_tierdb.specs.Refusals.{IsOld}
+use Rattle.gm_tierdb.proofs.Lower.{◌≡◌, ℕ, ◌<◌, List, length, take, get_or, Option, Result, Ok, Err, IfOk, IfErr, IsErrOf, refl, sym, ap, ◌∙◌, arith, NAME}
+use Rattle.gm_tierdb.proofs.Lower.{Solved, Rules, FileError, OutOfMemory, Truncated, BadMagic, WrongGame, WrongTier, WrongSize, BadRecord, Trailing, BadDigest}
+use Rattle.gm_tierdb.proofs.Lower.{OldVersion, Version, One, Two, magic, IsVersionText, HasHeader, RefusesIn, file_len, MatchResult, ⊎_elim, IsOld}
 use Rattle.gm_tierdb.proofs.RecordLemmas.{none_bad}
 use Rattle.gm_tierdb.proofs.TextLemmas.{parts_of_text, same_text}
 
@@ -76,27 +68,3 @@ old_answer listed r named tier bytes (Ok x) found refused records is =
     absurd (not_old Two (take 8 bytes) (parts_of_text Two r named tier (listed x) bytes found).header.0.0.0.1
     (parts_of_text One r named tier records bytes is).header.0.0.0.1)
 old_answer listed r named tier bytes (Err e) found refused records is = ap (λ x. Err x) (old_version r named tier records bytes is e refused)
-
-same_if : (a b : List ℕ) (equal : Bool) → bytes_eq a b ≡ equal → not equal ≡ false → a ≡ b
-same_if a b true e h = (bytes_eq-Decides a b).0 e
-same_if a b false e h = absurd (let z : ⊥ = cc in z)
-
--- lists that were compared are the same, or not
-pub alike : (a b : List ℕ) (differs : Bool) → differs ≡ not (bytes_eq a b) → differs ≡ false → a ≡ b
-alike a b differs is e = same_if a b (bytes_eq a b) refl (sym is ∙ e)
-
-unlike_if : (a b : List ℕ) (equal : Bool) → bytes_eq a b ≡ equal → not equal ≡ true → a ≡ b → ⊥
-unlike_if a b true e h same = let z : ⊥ = cc in z
-unlike_if a b false e h same = let is : bytes_eq a b ≡ true = (bytes_eq-Decides a b).1 same in let z : ⊥ = cc in z
-
-pub unlike : (a b : List ℕ) (differs : Bool) → differs ≡ not (bytes_eq a b) → differs ≡ true → a ≡ b → ⊥
-unlike a b differs is e = unlike_if a b (bytes_eq a b) refl (sym is ∙ e)
-
--- eight bytes are those of one number alone
-pub same_number : (n k : ℕ) → n < 2 ^ 64 → k < 2 ^ 64 → to_le_bytes w64 n ≡ to_le_bytes w64 k → n ≡ k
-same_number n k less small e = sym (from_le_bytes-to_le_bytes_8 n less) ∙ ap (from_le_bytes w64) e ∙ from_le_bytes-to_le_bytes_8 k small
-
--- no Bool is both
-pub not_both : (b : Bool) → b ≡ false → IsTrue b → ⊥
-not_both true e h = let z : ⊥ = cc in z
-not_both false e h = let z : ⊥ = cc in z

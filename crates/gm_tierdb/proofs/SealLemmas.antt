@@ -2,10 +2,8 @@
 use Rattle.gm_tierdb.proofs.Lower.{◌≡◌, ℕ, ◌+◌, ◌-◌, List, length, take, drop, Option, Result, Ok, Err, IsErrAnd, IsErrOf, sym, ap, subst, ◌∙◌, arith, sha256}
 use Rattle.gm_tierdb.proofs.Lower.{NAME, Solved, Rules, Version, One, Two, width, FileError, OutOfMemory, Truncated, BadMagic, WrongGame, WrongTier, WrongSize}
 use Rattle.gm_tierdb.proofs.Lower.{BadRecord, Trailing, BadDigest, OldVersion, AreRecords, IsVersionText, HasHeader, RefusesIn, records_part, body_len}
-use Rattle.gm_tierdb.proofs.Lower.{file_len, IsSealed}
+use Rattle.gm_tierdb.proofs.Lower.{file_len, IsSealed, IsTierText, IsUnsealed, IsWhole, RefusesWhole}
 use Rattle.std.proofs.Common.{◌*◌}
-use Rattle.gm_tierdb.specs.TierText.{IsTierText}
-use Rattle.gm_tierdb.specs.Seals.{IsUnsealed, IsWhole, RefusesWhole}
 use Rattle.gm_tierdb.proofs.TextLemmas.{parts_of_text, text_of_parts, same_text}
 use Rattle.gm_tierdb.proofs.RefusalLemmas.{not_old, only_memory}
 
@@ -63,15 +61,12 @@ refuses_of_whole v r tier bytes Trailing h = h
 refuses_of_whole v r tier bytes BadDigest h = absurd h
 refuses_of_whole v r tier bytes OldVersion h = h
 
-no_refusal : (v : Version) (r : Rules) (tier : ℕ) (bytes : List ℕ) (e : FileError) → e ≡ OutOfMemory → RefusesWhole v r tier bytes e → ⊥
-no_refusal v r tier bytes e is h = subst (RefusesWhole v r tier bytes) is h
-
 -- and nothing but memory refuses it
 pub whole_of_text : (r : Rules) → length r.name ≡ NAME → (tier : ℕ) (records : List (Option Solved)) (bytes : List ℕ)
     → IsTierText r tier records bytes → (e : FileError)
     → RefusesWhole Two r tier bytes e → ⊥
 whole_of_text r named tier records bytes is e h =
-    no_refusal Two r tier bytes e (only_memory Two r named tier records bytes is e (refuses_of_whole Two r tier bytes e h)) h
+    subst (RefusesWhole Two r tier bytes) (only_memory Two r named tier records bytes is e (refuses_of_whole Two r tier bytes e h)) h
 
 -- no whole file is a text of version 1
 pub not_old_text : (r : Rules) → length r.name ≡ NAME → (tier : ℕ) (records : List (Option Solved)) (bytes : List ℕ) → IsVersionText One r tier records bytes

@@ -1,10 +1,9 @@
 -- The parts of a text, and the text of the parts.
 use Rattle.gm_tierdb.proofs.Lower.{◌≡◌, ℕ, ◌+◌, List, [], ◌++◌, length, take, drop, Option, refl, sym, ap, ◌∙◌, append_assoc, take-add, take-append-drop}
 use Rattle.gm_tierdb.proofs.Lower.{length-append, arith, flat_map, to_le_bytes, w64, take-take, sha256, NAME, Solved, Rules, Version, One, Two, width}
-use Rattle.gm_tierdb.proofs.Lower.{record_bytes, magic, body, AreRecords, IsVersionText, HasHeader, records_part, body_len, file_len}
+use Rattle.gm_tierdb.proofs.Lower.{record_bytes, magic, body, AreRecords, IsVersionText, HasHeader, records_part, body_len, file_len, length-sha256}
 use Rattle.std.proofs.Common.{◌*◌}
 use Rattle.std.proofs.Math.Seq.{take-append_seam, drop-append_seam}
-use Rattle.sha2.proofs.Facts256.{length-sha256}
 use Rattle.gm_tierdb.specs.TierText.{version_text}
 use Rattle.gm_tierdb.proofs.RecordLemmas.{length_records, same_records}
 

@@ -6,3 +6,4 @@ pub mod StoreTexts
 pub mod Streams
 pub mod Turns
 pub mod Owners
+pub mod Lower

@@ -1,7 +1,6 @@
 -- The game to which the text of a tier belongs.
 use Rattle.std.specs.Prelude.{◌≡◌, ◌≢◌, ℕ, ◌-◌, ◌<◌, ◌≤◌, ◌⊎◌, List, ◌++◌, length, take, drop, codes}
-use Rattle.std.specs.Fmt.{decimal}
-use Rattle.sha2.specs.Sha256.{sha256}
+use Rattle.gm_tierdb.specs.Lower.{decimal, sha256}
 
 -- an intact text of a tier's file, of any version: it begins as all of them do, and ends with the digest of all bytes before it
 pub record IsIntact (text : List ℕ) : Type 0 where

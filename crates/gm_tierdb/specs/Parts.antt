@@ -1,8 +1,6 @@
 -- The parts of a file that has a header and room for the records and the digest.
 use Rattle.std.specs.Prelude.{◌≡◌, ℕ, ◌+◌, ◌*◌, ◌≤◌, List, length}
-use Rattle.gm_game.specs.Rules.{Rules}
-use Rattle.gm_table.specs.declared.version.Version.{Version}
-use Rattle.gm_table.specs.RecordCodes.{width}
+use Rattle.gm_tierdb.specs.Lower.{Rules, Version, width}
 use Rattle.gm_tierdb.specs.declared.decode.Parts.{Parts}
 use Rattle.gm_tierdb.specs.Refusals.{HasHeader, records_part}
 

@@ -1,16 +1,9 @@
 -- Why bytes are refused: the first reason that applies, in the order of the tests.
 use Rattle.std.specs.Prelude.{◌≡◌, ◌≢◌, ℕ, ◌<◌, ◌≤◌, ◌+◌, ◌*◌, ◌⊎◌, List, ◌++◌, length, take, drop, Option, None, Some, All}
-use Rattle.std.specs.List.{flat_map}
-use Rattle.std.specs.Int.{to_le_bytes, w64}
-use Rattle.sha2.specs.Sha256.{sha256}
-use Rattle.gm_game.specs.declared.position.Solved.{Solved}
-use Rattle.gm_game.specs.Rules.{Rules}
+use Rattle.gm_tierdb.specs.Lower.{flat_map, to_le_bytes, w64, sha256, Solved, Rules, Version, One, Two, width, record_bytes, IsStorable}
 use Rattle.gm_tierdb.specs.declared.file_error.FileError.{FileError}
 use Rattle.gm_tierdb.specs.declared.file_error.FileError.TheVariants.{OutOfMemory, Truncated, BadMagic, WrongGame, WrongTier, WrongSize, BadRecord, Trailing}
 use Rattle.gm_tierdb.specs.declared.file_error.FileError.TheVariants.{BadDigest, OldVersion}
-use Rattle.gm_table.specs.declared.version.Version.{Version}
-use Rattle.gm_table.specs.declared.version.Version.TheVariants.{One, Two}
-use Rattle.gm_table.specs.RecordCodes.{width, record_bytes, IsStorable}
 use Rattle.gm_tierdb.specs.TierText.{magic, AreRecords, IsVersionText}
 
 -- the first bytes are those of an older version

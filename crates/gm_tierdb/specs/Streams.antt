@@ -1,6 +1,6 @@
 -- What is left of a reader and a writer where a text was not read or written whole.
 use Rattle.std.specs.Prelude.{◌≡◌, ℕ, ◌<◌, ◌≤◌, List, ◌++◌, length, Option}
-use Rattle.std.specs.Io.KnownBytes.{Appends, Consumes}
+use Rattle.gm_tierdb.specs.Lower.{Appends, Consumes}
 
 -- the bytes written, if they are known, grow by a first part of the text
 abbrev pub AppendsPart : Option (List ℕ) → Option (List ℕ) → List ℕ → Type 0

@@ -1,10 +1,8 @@
 //! Reading the file of a tier.
 ghost use Rattle.std.specs.Prelude.{◌≡◌, ◌+◌, ◌*◌, ◌^◌, ◌<◌, ◌≤◌, ◌↔◌, IsTrue, IfOk, OnOk, IfErr, IsErrOf, IfSome, IfNone, length, Option, List, MatchResult};
-ghost use Rattle.std.specs.Int.{to_le_bytes, w64};
-ghost use Rattle.gm_game.specs.declared.position.Solved.{Solved};
-ghost use Rattle.gm_table.specs.RecordCodes.{word, width};
+ghost use Rattle.gm_tierdb.specs.Lower.{to_le_bytes, Solved, width};
 ghost use Rattle.gm_tierdb.specs.TierText.{IsTierText, IsTierText1, IsVersionText};
-ghost use Rattle.gm_tierdb.specs.Refusals.{IsFirstBad, AreRead, HasRecords, HasHeader, Refuses, Refuses1, RefusesIn, records_part};
+ghost use Rattle.gm_tierdb.specs.Refusals.{IsFirstBad, AreRead, HasHeader, Refuses, Refuses1, RefusesIn, records_part};
 ghost use Rattle.gm_tierdb.specs.Parts.{AreParts};
 ghost use Rattle.gm_tierdb.specs.Seals.{IsSealed, IsUnsealed, IsWhole, RefusesWhole, RefusesUnsealed};
 
@@ -104,10 +102,7 @@ fn read_list<G: Game>(
     ensures found { IfOk result (λ v. IsVersionText version G.rules tier v.items bytes.now) }
     ensures refused { IfErr result (RefusesIn version G.rules tier bytes.now) }
 {
-    let records = match read_file::<G>(alloc, version, tier, bytes) {
-        Ok(records) => records,
-        Err(why) => return Err(why),
-    };
+    let records = read_file::<G>(alloc, version, tier, bytes)?;
     match records.to_vec(alloc) {
         Ok(list) => Ok(list),
         Err(_) => Err(FileError::OutOfMemory),
@@ -213,10 +208,10 @@ fn check_header<G: Game>(
     if &bytes[MAGIC_LEN..NAME_END] != G::name().as_slice() {
         return Err(FileError::WrongGame);
     }
-    if u64_of(&bytes[NAME_END..TIER_END]) != tier {
+    if &bytes[NAME_END..TIER_END] != tier.to_le_bytes().as_slice() {
         return Err(FileError::WrongTier);
     }
-    if u64_of(&bytes[TIER_END..HEADER_LEN]) != size {
+    if &bytes[TIER_END..HEADER_LEN] != size.to_le_bytes().as_slice() {
         return Err(FileError::WrongSize);
     }
     Ok(())
@@ -230,14 +225,4 @@ fn records_len(version: Version, size: u64, file_len: usize) -> Option<usize>
     let len = version.record_len().checked_mul(size as usize)?;
     let room = file_len.checked_sub(HEADER_LEN + DIGEST_LEN)?;
     if len <= room { Some(len) } else { None }
-}
-
-// Returns the number that eight bytes stand for.
-fn u64_of(bytes: &[u8]) -> u64
-    requires { length bytes.now ≡ 8 }
-    ensures { to_le_bytes w64 result ≡ bytes.now }
-{
-    u64::from_le_bytes([
-        bytes[0], bytes[1], bytes[2], bytes[3], bytes[4], bytes[5], bytes[6], bytes[7],
-    ])
 }

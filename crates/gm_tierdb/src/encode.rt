@@ -1,10 +1,7 @@
 //! Writing the file of a tier.
 ghost use Rattle.std.specs.Prelude.{◌≡◌, ◌↔◌, ◌≤◌, ◌*◌, ◌++◌, replicate, IsTrue, IfOk, OnOk, MatchOption, All};
-ghost use Rattle.std.specs.List.{flat_map};
-ghost use Rattle.std.specs.Int.{to_le_bytes, w64};
-ghost use Rattle.gm_table.specs.RecordCodes.{width, record_bytes, IsStorable};
+ghost use Rattle.gm_tierdb.specs.Lower.{flat_map, to_le_bytes, w64, width, record_bytes, IsStorable, One};
 ghost use Rattle.gm_table.specs.Tables.{record_at};
-ghost use Rattle.gm_table.specs.declared.version.Version.TheVariants.{One};
 ghost use Rattle.gm_tierdb.specs.TierText.{IsTierText, IsTierText1, IsVersionText, AreUpTo, IsFor};
 
 use crate::layout::{DIGEST_LEN, HEADER_LEN};
@@ -134,18 +131,12 @@ fn push_record<G: Game>(
     ensures { OnOk result (file.new.items ≡ file.old.items ++ record_bytes version (record_at table.now.records index)) }
 {
     match version {
-        Version::One => push_short(file, table.at(index)),
+        Version::One => {
+            let number = number_of(Version::One, table.at(index));
+            file.extend_from_slice(&(number as u16).to_le_bytes())
+        }
         Version::Two => file.extend_from_slice(&table.number(index).to_le_bytes()),
     }
-}
-
-// Appends a record of version 1.
-fn push_short(file: &mut Vec<u8>, entry: Option<Solved>) -> Result<(), AllocError>
-    requires { IsStorable One entry }
-    ensures { OnOk result (file.new.items ≡ file.old.items ++ record_bytes One entry) }
-{
-    let number = number_of(Version::One, entry);
-    file.extend_from_slice(&(number as u16).to_le_bytes())
 }
 
 // Appends a number of eight bytes.

@@ -1,6 +1,6 @@
 //! A store that fails on purpose.
 ghost use Rattle.std.specs.Prelude.{◌≡◌, ◌↔◌, ◌+◌, ◌<◌, ◌^◌, IsTrue, IfOk, OnOk, IsErrOf};
-ghost use Rattle.std.specs.Option.{option_map};
+ghost use Rattle.gm_tierdb.specs.Lower.{option_map};
 ghost use Rattle.gm_tierdb.specs.StoreTexts.{AreSame, Sets, MaySet, failures_of};
 ghost use Rattle.gm_tierdb.specs.Turns.{next_call, FailsNext};
 
@@ -46,19 +46,14 @@ impl<S: Store> Flaky<S> {
     {
         self.inner
     }
+}
 
-    // Counts a call (saturating) and returns whether it fails.
-    fn fails_next(&mut self) -> bool
-        ensures answer { IsTrue result ↔ FailsNext self.old.from self.old.to self.old.calls }
-        ensures calls { self.new.calls ≡ next_call self.old.calls }
-        ensures inner { self.new.inner ≡ self.old.inner }
-        ensures broken { self.new.broken ≡ self.old.broken }
-        ensures from { self.new.from ≡ self.old.from }
-        ensures to { self.new.to ≡ self.old.to }
-    {
-        self.calls = self.calls.saturating_add(1);
-        self.from <= self.calls && self.calls <= self.to
-    }
+// Returns whether the call after this many fails.
+fn fails_next(from: u64, to: u64, calls: u64) -> bool
+    ensures { IsTrue result ↔ FailsNext from to calls }
+{
+    let call = calls.saturating_add(1);
+    from <= call && call <= to
 }
 
 impl<S: Store> Store for Flaky<S> {
@@ -93,7 +88,9 @@ impl<S: Store> Store for Flaky<S> {
         ensures from { self.new.from ≡ self.old.from }
         ensures to { self.new.to ≡ self.old.to }
     {
-        if self.fails_next() {
+        let fails = fails_next(self.from, self.to, self.calls);
+        self.calls = self.calls.saturating_add(1);
+        if fails {
             self.broken += 1;
             return Err(StoreError::Failed);
         }
@@ -115,7 +112,9 @@ impl<S: Store> Store for Flaky<S> {
         ensures from { self.new.from ≡ self.old.from }
         ensures to { self.new.to ≡ self.old.to }
     {
-        if self.fails_next() {
+        let fails = fails_next(self.from, self.to, self.calls);
+        self.calls = self.calls.saturating_add(1);
+        if fails {
             self.broken += 1;
             return Err(StoreError::Failed);
         }

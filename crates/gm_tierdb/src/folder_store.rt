@@ -1,7 +1,7 @@
 //! A store in a folder of files.
 ghost use Rattle.std.specs.Prelude.{◌≡◌, ◌+◌, ◌<◌, ◌⊎◌, true, false, None, Some, Ok, IfOk, IsErrOf, string_bytes, string_len};
 ghost use Rattle.gm_tierdb.specs.Owners.{path_text};
-ghost use Rattle.std.specs.Option.{option_or};
+ghost use Rattle.gm_tierdb.specs.Lower.{option_or};
 ghost use Rattle.gm_tierdb.specs.StoreTexts.{failures_of};
 
 use crate::layout::{MAGIC_LEN, NAME_END};
@@ -119,7 +119,7 @@ impl FolderStore {
         read_file(rt, alloc, path.as_str())
     }
 
-    // Writes the text of a tier.
+    // Writes the text of a tier in the place of its file, unless that is an intact one of another game.
     fn put<R: Files>(&mut self, rt: &R, tier: u64, bytes: &[u8]) -> Result<(), StoreError>
         ensures broken { self.new.broken ≡ self.old.broken }
         ensures folder { self.new.folder ≡ self.old.folder }
@@ -132,27 +132,11 @@ impl FolderStore {
         }
         let path = self.path(tier, "gmt")?;
         let beside = self.path(tier, "tmp")?;
-        self.replace(rt, path.as_str(), beside.as_str(), bytes)
-    }
-
-    // Writes a text in the place of a file, unless that is an intact one of another game.
-    fn replace<R: Files>(
-        &mut self,
-        rt: &R,
-        path: &str,
-        beside: &str,
-        bytes: &[u8],
-    ) -> Result<(), StoreError>
-        ensures broken { self.new.broken ≡ self.old.broken }
-        ensures folder { self.new.folder ≡ self.old.folder }
-        ensures unseen { self.new.unseen ≡ self.old.unseen }
-        ensures met_another { (self.new.met_another ≡ self.old.met_another) ⊎ (IsErrOf result StoreError.Failed × (self.new.met_another ≡ true)) }
-    {
-        if holds_another(rt, self.alloc, path, bytes)? {
+        if holds_another(rt, self.alloc, path.as_str(), bytes)? {
             self.met_another = true;
             return Err(StoreError::Failed);
         }
-        write_file(rt, path, beside, bytes)?;
+        write_file(rt, path.as_str(), beside.as_str(), bytes)?;
         sync_folder(rt, self.folder.as_str())
     }
 

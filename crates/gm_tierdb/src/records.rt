@@ -1,10 +1,8 @@
 //! The records of a file, from their bytes.
-ghost use Rattle.std.specs.Prelude.{◌≡◌, ◌*◌, ◌^◌, ◌<◌, ◌++◌, Some, List, Option, IfOk, IfErr, IfSome, IfNone, length};
+ghost use Rattle.std.specs.Prelude.{◌≡◌, ◌*◌, ◌^◌, ◌<◌, ◌++◌, Some, List, Option, IfOk, IfErr, IfSome, length};
 ghost use Rattle.gm_game.specs.declared.position.Solved.{Solved as SolvedSpec};
-ghost use Rattle.std.specs.Int.{to_le_bytes};
-ghost use Rattle.gm_table.specs.RecordCodes.{word, width};
-ghost use Rattle.std.specs.Thread.{IsSync};
-ghost use Rattle.gm_tierdb.specs.Refusals.{IsFirstBad, AreRead, HasRecords};
+ghost use Rattle.gm_tierdb.specs.Lower.{to_le_bytes, word, width, IsSync};
+ghost use Rattle.gm_tierdb.specs.Refusals.{IsFirstBad, AreRead};
 
 use gm_table::number::record_of;
 use gm_table::packed::Packed;
@@ -107,27 +105,15 @@ fn without_memory(version: Version, bytes: &[u8], size: usize) -> Result<Option<
     ensures found { IfOk result (AreRead version size bytes.now) }
     ensures bad { IfErr result (IsFirstBad version size bytes.now) }
 {
-    match first_bad(version, bytes, size) {
-        Some(index) => Err(index),
-        None => Ok(None),
-    }
-}
-
-// Returns the first index without a record.
-fn first_bad(version: Version, bytes: &[u8], size: usize) -> Option<u64>
-    requires { length bytes.now ≡ width version * size }
-    ensures none { IfNone result (HasRecords version size bytes.now) }
-    ensures some { IfSome result (IsFirstBad version size bytes.now) }
-{
     let mut rest = bytes;
     for index in 0..size {
         let (record, more) = rest.split_at(version.record_len());
         match record_of(version, number_at(version, record)) {
-            None => return Some(index as u64),
+            None => return Err(index as u64),
             Some(_found) => rest = more,
         }
     }
-    None
+    Ok(None)
 }
 
 // Returns the number that the bytes of a record stand for.

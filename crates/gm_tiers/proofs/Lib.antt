@@ -2,3 +2,4 @@ pub mod SearchLemmas
 pub mod AnswerLemmas
 pub mod StepLemmas
 pub mod OrderLemmas
+pub mod Lower

@@ -1,24 +1,10 @@
 -- What a sort of tiers by rank and number gives.
-use Rattle.std.proofs.Common.{◌≡◌, ◌≢◌, ℕ, suc, ◌<◌, ◌≤◌, ◌⊎◌, ⊎_elim, false, List, length, get_or, ap, sym, subst, ◌∙◌, arith, length-take, eq-or-lt_of_le}
-use Rattle.std.specs.List.{Contains, AllPairs}
-use Rattle.std.specs.List.Sorted.{IsSortedBy, IsPermutation}
-use Rattle.std.specs.Ordering.{nat_cmp, ordering_then, is_lt}
-use Rattle.std.specs.declared.cmp.Ordering.{Ordering}
-use Rattle.std.specs.Cmp.{IsTotalOrder}
+use Rattle.gm_tiers.proofs.Lower.{◌≡◌, ◌≢◌, ℕ, suc, ◌<◌, ◌≤◌, ◌⊎◌, ⊎_elim, false, List, length, get_or, ap, sym, subst, ◌∙◌, arith, length-take, eq-or-lt_of_le}
+use Rattle.gm_tiers.proofs.Lower.{Contains, AllPairs, IsSortedBy, IsPermutation, nat_cmp, ordering_then, is_lt, Ordering, IsTotalOrder, cases_lt, nat_tests}
+use Rattle.gm_tiers.proofs.Lower.{sorted_far, ranks_by, Contains-permutation, IsPermutation-sym, length_permutation, get_or_from_slice_get, slice_get_within}
+use Rattle.gm_tiers.proofs.Lower.{get_or-take, get_or_default_zero, TIERS, Rules, IsGame, IsReachedFrom, AreFound, IsBefore, IsOrderFrom, ComeChildrenFirst}
 use Rattle.std.proofs.lemmas.Cmp.{nat_cmp_total, then_total, on_total}
-use Rattle.std.proofs.lemmas.Bool.{cases_lt}
-use Rattle.std.proofs.lemmas.Bool.Decides.{nat_tests}
-use Rattle.std.proofs.lemmas.List.Sorted.{sorted_far, ranks_by, Contains-permutation, IsPermutation-sym, length_permutation}
-use Rattle.std.proofs.lemmas.Option.{get_or_from_slice_get, slice_get_within}
-use Rattle.std.proofs.lemmas.List.{get_or-take}
-use Rattle.std.proofs.lemmas.Grind.{get_or_default_zero}
-use Rattle.gm_game.specs.declared.limits.TheConstants.{TIERS}
-use Rattle.gm_game.specs.Rules.{Rules}
-use Rattle.gm_game.specs.Laws.{IsGame}
-use Rattle.gm_tiers.specs.Reach.{IsReachedFrom}
-use Rattle.gm_tiers.specs.Limits.{AreFound}
 use Rattle.gm_tiers.proofs.SearchLemmas.{search_reached, reached_found}
-use Rattle.gm_tiers.specs.Orders.{IsBefore, IsOrderFrom, ComeChildrenFirst}
 
 abbrev pub pair_cmp : ℕ × ℕ → ℕ × ℕ → Ordering
 pair_cmp x y = ordering_then (nat_cmp x.0 y.0) (nat_cmp x.1 y.1)

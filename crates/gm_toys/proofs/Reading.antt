@@ -1,11 +1,6 @@
 -- What reading a number says of positions.
-use Rattle.std.proofs.Common.{◌≡◌, ◌≤◌, ◌↔◌, ℕ, List, Option, Some, true, refl, sym, subst, ap, ◌∙◌, arith}
-use Rattle.std.specs.Fmt.{decimal}
-use Rattle.gm_game.specs.declared.position.Position.{Position}
-use Rattle.gm_game.specs.Rules.{Rules, at}
-use Rattle.gm_game.proofs.SetLemmas.{same_position}
-use Rattle.gm_toys.specs.Subtraction.{subtraction}
-use Rattle.gm_toys.specs.laws.SubtractionLaws.{legal_in, legal_from}
+use Rattle.gm_toys.proofs.Lower.{◌≡◌, ◌≤◌, ◌↔◌, ℕ, List, Option, Some, true, refl, sym, subst, ap, ◌∙◌, arith, decimal, Position, Rules, at, same_position}
+use Rattle.gm_toys.proofs.Lower.{subtraction, legal_in, legal_from}
 
 -- the number up to the last with this text has been read
 abbrev pub IsReadTo : ℕ → List ℕ → Option ℕ → Type 0

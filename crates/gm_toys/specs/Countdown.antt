@@ -1,6 +1,6 @@
 -- The rules of Countdown: at most two may be taken at a time.
-use Rattle.std.specs.Prelude.{ℕ, List, [], ◌∷◌, ◌++◌, codes}
-use Rattle.gm_game.specs.Rules.{Rules}
+use Rattle.gm_toys.specs.Lower.{ℕ, List, codes, Rules}
+use Rattle.std.specs.Prelude.{[], ◌∷◌, ◌++◌}
 use Rattle.gm_toys.specs.Subtraction.{subtraction}
 
 -- the name, padded with zeros

@@ -6,3 +6,4 @@ pub mod Stairs
 pub mod laws
 pub mod Takeaway
 pub mod Pictures
+pub mod Lower

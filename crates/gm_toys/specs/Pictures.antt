@@ -1,9 +1,6 @@
 -- What the games of the program look like: rows of numbers, in which the current one is in brackets, and its moves follow.
-use Rattle.std.specs.Prelude.{[], ◌∷◌, codes}
-use Rattle.gm_draw.specs.declared.pictured.Style.TheVariants.{Row}
-use Rattle.gm_draw.specs.Pictures.{PictureSpec, player_moves}
-use Rattle.gm_draw.specs.GameSpecs.{GameSpec, game_spec}
-use Rattle.gm_draw.specs.Points.{number_points}
+use Rattle.std.specs.Prelude.{[], ◌∷◌}
+use Rattle.gm_toys.specs.Lower.{codes, Row, PictureSpec, player_moves, GameSpec, game_spec, number_points}
 use Rattle.gm_toys.specs.Subtraction.{number_text, step_text}
 use Rattle.gm_toys.specs.Countdown.{countdown}
 use Rattle.gm_toys.specs.Takeaway.{takeaway}

@@ -1,9 +1,6 @@
 -- The rules of Stairs: tiers of one position each, and from each tier one move to the tier below.
-use Rattle.std.specs.Prelude.{ℕ, ◌+◌, ◌-◌, ◌&&◌, ◌==◌, nat_le, nat_lt, Bool, List, [], ◌∷◌, ◌++◌, codes, if◌then◌else◌, None, Some}
-use Rattle.std.specs.Fmt.{decimal}
-use Rattle.gm_game.specs.declared.position.Position.{Position}
-use Rattle.gm_game.specs.declared.position.End.TheVariants.{Lose}
-use Rattle.gm_game.specs.Rules.{Rules, at}
+use Rattle.gm_toys.specs.Lower.{ℕ, nat_le, nat_lt, List, codes, None, Some, decimal, Position, Lose, Rules, at}
+use Rattle.std.specs.Prelude.{◌+◌, ◌-◌, ◌&&◌, ◌==◌, Bool, [], ◌∷◌, ◌++◌, if◌then◌else◌}
 use Rattle.gm_toys.specs.Subtraction.{moves_down}
 
 -- the name, padded with zeros

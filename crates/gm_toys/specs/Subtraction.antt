@@ -1,10 +1,6 @@
 -- Subtraction games: a number goes down by one or more, and the player to move at zero has lost.
-use Rattle.std.specs.Prelude.{ℕ, ◌+◌, ◌-◌, min, ◌&&◌, ◌==◌, nat_le, List, [], if◌then◌else◌, None, Some}
-use Rattle.std.specs.List.{range_with_len}
-use Rattle.std.specs.Fmt.{decimal}
-use Rattle.gm_game.specs.declared.position.Position.{Position}
-use Rattle.gm_game.specs.declared.position.End.TheVariants.{Lose}
-use Rattle.gm_game.specs.Rules.{Rules, at}
+use Rattle.gm_toys.specs.Lower.{ℕ, nat_le, List, None, Some, range_with_len, decimal, Position, Lose, Rules, at}
+use Rattle.std.specs.Prelude.{◌+◌, ◌-◌, min, ◌&&◌, ◌==◌, [], if◌then◌else◌}
 
 -- the moves at i: the numbers from 1 up to the most that may be taken, but at most i
 abbrev pub moves_down : ℕ → ℕ → List ℕ

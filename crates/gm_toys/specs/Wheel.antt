@@ -1,10 +1,6 @@
 -- The rules of Wheel: ten numbers, and moves between them that can go round forever.
-use Rattle.std.specs.Prelude.{ℕ, nat_lt, ◌&&◌, ◌==◌, List, [], ◌∷◌, ◌++◌, codes, if◌then◌else◌, Option, None, Some}
-use Rattle.std.specs.Fmt.{decimal}
-use Rattle.gm_game.specs.declared.position.Position.{Position}
-use Rattle.gm_game.specs.declared.position.End.{End}
-use Rattle.gm_game.specs.declared.position.End.TheVariants.{Lose, Tie}
-use Rattle.gm_game.specs.Rules.{Rules, at}
+use Rattle.gm_toys.specs.Lower.{ℕ, nat_lt, List, codes, Option, None, Some, decimal, Position, End, Lose, Tie, Rules, at}
+use Rattle.std.specs.Prelude.{◌&&◌, ◌==◌, [], ◌∷◌, ◌++◌, if◌then◌else◌}
 
 -- the name, padded with zeros
 abbrev pub wheel_name : List ℕ

@@ -104,10 +104,8 @@ impl<const TWO: bool, const N: u32> Shown for CountsDown<TWO, N> {
     }
 
     fn read(text: &[u8]) -> Option<Position> {
-        match read_number(u64::from(N), text) {
-            Some(index) => Some(Position { tier: 0, index }),
-            None => None,
-        }
+        let index = read_number(u64::from(N), text)?;
+        Some(Position { tier: 0, index })
     }
 
     fn move_text(_p: Position, m: u32) -> Line {

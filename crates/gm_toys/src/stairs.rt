@@ -96,10 +96,8 @@ impl<const N: u32> Shown for Stairs<N> {
     }
 
     fn read(text: &[u8]) -> Option<Position> {
-        match read_number(u64::from(N), text) {
-            Some(tier) => Some(Position { tier, index: 0 }),
-            None => None,
-        }
+        let tier = read_number(u64::from(N), text)?;
+        Some(Position { tier, index: 0 })
     }
 
     fn move_text(_p: Position, m: u32) -> Line {

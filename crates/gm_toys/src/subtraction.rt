@@ -1,7 +1,6 @@
 //! What subtraction games share: each move lowers a number, and texts are decimal numbers.
-ghost use Rattle.std.specs.Prelude.{◌≡◌, ◌↔◌, ℕ, ◌≤◌, Some};
-ghost use Rattle.std.specs.List.{Contains};
-ghost use Rattle.std.specs.Fmt.{decimal};
+ghost use Rattle.std.specs.Prelude.{◌≡◌, ◌↔◌, ◌≤◌};
+ghost use Rattle.gm_toys.specs.Lower.{ℕ, Some, Contains, decimal};
 ghost use Rattle.gm_toys.specs.Subtraction.{moves_down, numbers_above};
 
 use arrayvec::ArrayVec;
@@ -10,7 +9,7 @@ use gm_game::shown::Line;
 use gm_game::text::{push_decimal, read_decimal};
 
 /// Returns the moves at a number: 1 up to `most`, but at most the number itself.
-#[tactic(auto, using(crate::specs::laws::SubtractionLaws::range_push))]
+#[tactic(auto, using(crate::specs::laws::SubtractionLaws::range_push, crate::specs::laws::SubtractionLaws::range_length))]
 pub fn moves_down(most: u32, index: u64) -> ArrayVec<u32, MOVES>
     requires { most ≤ MOVES }
     ensures { result.items ≡ moves_down most index }
@@ -24,7 +23,7 @@ pub fn moves_down(most: u32, index: u64) -> ArrayVec<u32, MOVES>
 }
 
 /// Returns the numbers up to `last` from which taking at most `most` leads to this one, ascending.
-#[tactic(auto, using(crate::specs::laws::SubtractionLaws::range_push))]
+#[tactic(auto, using(crate::specs::laws::SubtractionLaws::range_push, crate::specs::laws::SubtractionLaws::range_length))]
 pub fn numbers_above(most: u32, last: u64, index: u64) -> ArrayVec<u64, PARENTS>
     requires few { most ≤ PARENTS }
     requires within { index ≤ last }

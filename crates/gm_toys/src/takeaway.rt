@@ -94,10 +94,8 @@ impl Shown for Takeaway {
     }
 
     fn read(text: &[u8]) -> Option<Position> {
-        match read_number(COUNTERS, text) {
-            Some(index) => Some(Position { tier: 0, index }),
-            None => None,
-        }
+        let index = read_number(COUNTERS, text)?;
+        Some(Position { tier: 0, index })
     }
 
     fn move_text(_p: Position, m: u32) -> Line {

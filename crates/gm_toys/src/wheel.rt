@@ -1,7 +1,6 @@
 //! Wheel: ten numbers, and moves between them that can go round forever.
-ghost use Rattle.std.specs.Prelude.{◌≡◌, ◌↔◌, ◌<◌, ◌≤◌, ℕ, Some, IsTrue, length};
-ghost use Rattle.std.specs.List.{Contains};
-ghost use Rattle.std.specs.Fmt.{decimal};
+ghost use Rattle.std.specs.Prelude.{◌≡◌, ◌↔◌, ◌<◌, ◌≤◌, length};
+ghost use Rattle.gm_toys.specs.Lower.{ℕ, Some, IsTrue, Contains, decimal};
 ghost use Rattle.gm_toys.specs.Subtraction.{number_text};
 ghost use Rattle.gm_toys.specs.Wheel.{wheel, wheel_targets, wheel_sources, target_text};
 ghost use Rattle.gm_toys.specs.laws.WheelLaws.{wheel_lawful, wheel_readable};
@@ -72,16 +71,11 @@ fn read_target(index: u64, text: &[u8]) -> Option<u32>
     requires { index < 10 }
     ensures { (m : ℕ) → (result ≡ Some m) ↔ (Contains (wheel_targets index) m × (decimal m ≡ text.now)) }
 {
-    match read_number(START, text) {
-        Some(number) => {
-            let target = number as u32;
-            if is_target(index, target) {
-                Some(target)
-            } else {
-                None
-            }
-        }
-        None => None,
+    let target = read_number(START, text)? as u32;
+    if is_target(index, target) {
+        Some(target)
+    } else {
+        None
     }
 }
 
@@ -163,10 +157,8 @@ impl Shown for Wheel {
     }
 
     fn read(text: &[u8]) -> Option<Position> {
-        match read_number(START, text) {
-            Some(index) => Some(Position { tier: 0, index }),
-            None => None,
-        }
+        let index = read_number(START, text)?;
+        Some(Position { tier: 0, index })
     }
 
     fn move_text(_p: Position, m: u32) -> Line {

@@ -5,3 +5,4 @@ pub mod laws
 pub mod ShisimaRules
 pub mod TapatanRules
 pub mod WayPictures
+pub mod Lower

@@ -1,8 +1,6 @@
 -- The rules of Shisima: a board has nine points, the eight of a ring in order and then the center.
 use Rattle.std.specs.Prelude.{ℕ, ◌+◌, ◌-◌, ◌%◌, ◌==◌, true, List, [], ◌∷◌, ◌++◌, map, codes, if◌then◌else◌}
-use Rattle.std.specs.List.{range_with_len}
-use Rattle.gm_game.specs.Rules.{Rules}
-use Rattle.gm_board.specs.declared.cell.Cell.TheVariants.{Empty, Mine, Theirs}
+use Rattle.gm_ways.specs.Lower.{range_with_len, Rules, Empty, Mine, Theirs}
 use Rattle.gm_ways.specs.Ways.{WayGame, way_rules}
 
 -- the ways: a point of the ring is joined to the two beside it and to the center

@@ -1,7 +1,6 @@
 -- The rules of Tapatan: a board has nine points, three rows from the top, each from left to right.
 use Rattle.std.specs.Prelude.{ℕ, ◌+◌, true, List, [], ◌∷◌, ◌++◌, codes}
-use Rattle.gm_game.specs.Rules.{Rules}
-use Rattle.gm_board.specs.declared.cell.Cell.TheVariants.{Empty, Mine, Theirs}
+use Rattle.gm_ways.specs.Lower.{Rules, Empty, Mine, Theirs}
 use Rattle.gm_ways.specs.Ways.{WayGame, way_rules}
 
 -- the ways: along rows and columns, and the center with the four corners

@@ -1,9 +1,6 @@
 -- What games on points look like.
 use Rattle.std.specs.Prelude.{ℕ, List, [], ◌∷◌, map, codes}
-use Rattle.std.specs.List.{range_with_len}
-use Rattle.gm_draw.specs.declared.pictured.Style.TheVariants.{Discs}
-use Rattle.gm_draw.specs.Pictures.{PictureSpec, x_moves}
-use Rattle.gm_draw.specs.GameSpecs.{GameSpec, game_spec}
+use Rattle.gm_ways.specs.Lower.{range_with_len, Discs, PictureSpec, x_moves, GameSpec, game_spec}
 use Rattle.gm_ways.specs.Ways.{WayGame, way_rules}
 use Rattle.gm_ways.specs.WayTexts.{way_text, way_move_text}
 use Rattle.gm_ways.specs.ShisimaRules.{shisima}

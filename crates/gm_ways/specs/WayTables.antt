@@ -1,15 +1,8 @@
 -- What each game on points proves of its tables: tests that compute, and two facts on its condition.
 use Rattle.std.specs.Prelude.{◌≡◌, ℕ, ◌*◌, ◌<◌, ◌≤◌, Bool, true, not, ◌&&◌, ◌==◌, nat_lt, nat_le, List, [], length, slice_index_or, if◌then◌else◌}
-use Rattle.std.specs.List.{Contains, filter, list_all, range_with_len}
-use Rattle.gm_game.specs.declared.limits.TheConstants.{NAME}
-use Rattle.gm_game.specs.Shown.{is_plain}
+use Rattle.std.specs.List.{Contains, filter}
+use Rattle.gm_ways.specs.Lower.{list_all, range_with_len, NAME, is_plain, Cell, Empty, is_group_table, keeps_patterns, permute, from_point, to_point}
 use Rattle.gm_game.specs.Texts.{IsPaddedText}
-use Rattle.gm_board.specs.declared.cell.Cell.{Cell}
-use Rattle.gm_board.specs.declared.cell.Cell.TheVariants.{Empty}
-use Rattle.gm_board.specs.Groups.{is_group_table}
-use Rattle.gm_board.specs.Patterns.{keeps_patterns}
-use Rattle.gm_board.specs.Permutations.{permute}
-use Rattle.gm_pieces.specs.Steps.{from_point, to_point}
 use Rattle.gm_ways.specs.Ways.{WayGame, are_joined, legal}
 
 -- the numbers below n that fail a test: a check that fails names the first, and the others

@@ -1,9 +1,6 @@
 -- The texts of positions and of moves from point to point.
 use Rattle.std.specs.Prelude.{ℕ, List, [], ◌∷◌}
-use Rattle.gm_game.specs.declared.position.Position.{Position}
-use Rattle.gm_pieces.specs.SideTexts.{board_text}
-use Rattle.gm_pieces.specs.Sides.{board_numbered}
-use Rattle.gm_pieces.specs.Steps.{from_point, to_point}
+use Rattle.gm_ways.specs.Lower.{Position, board_text, board_numbered, from_point, to_point}
 use Rattle.gm_ways.specs.Ways.{WayGame}
 
 -- the text of a move: the names of the two points with `-` between them

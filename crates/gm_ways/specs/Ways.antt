@@ -1,18 +1,8 @@
 -- Games on n points that ways join: each side has as many pieces as the other, a piece goes along a way to a free point, the player who fills a line wins,
 -- and a player who can't move has lost. A board is a list of n points as the player to move sees them.
 use Rattle.std.specs.Prelude.{ℕ, ◌*◌, Bool, false, ◌&&◌, ◌==◌, List, [], length, slice_index_or, if◌then◌else◌, Option, None, Some}
-use Rattle.std.specs.List.{list_any}
-use Rattle.gm_game.specs.declared.position.End.{End}
-use Rattle.gm_game.specs.declared.position.End.TheVariants.{Lose}
-use Rattle.gm_game.specs.Rules.{Rules}
-use Rattle.gm_board.specs.declared.cell.Cell.{Cell}
-use Rattle.gm_board.specs.declared.cell.Cell.TheVariants.{Empty}
-use Rattle.gm_board.specs.Arrangements.{arrangements}
-use Rattle.gm_board.specs.Cells.{is_mine, is_theirs, is_empty, cell_at, number_of}
-use Rattle.gm_board.specs.Patterns.{has_filled}
-use Rattle.gm_board.specs.Permutations.{permute}
-use Rattle.gm_pieces.specs.Steps.{from_point, to_point}
-use Rattle.gm_pieces.specs.Sides.{gone, brought_back, board_index, board_numbered}
+use Rattle.gm_ways.specs.Lower.{list_any, End, Lose, Rules, Cell, Empty, arrangements, is_mine, is_theirs, is_empty, cell_at, number_of, has_filled, permute}
+use Rattle.gm_ways.specs.Lower.{from_point, to_point, gone, brought_back, board_index, board_numbered}
 use Rattle.gm_pieces.specs.MoveGames.{MoveGame, move_rules}
 
 -- what each such game states

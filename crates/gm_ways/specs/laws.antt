@@ -4,6 +4,5 @@ pub mod WayBoards
 pub mod WayMoves
 pub mod WayLaws
 pub mod WayTextLaws
-pub mod ShisimaTables
-pub mod TapatanTables
+pub mod Tables
 pub mod WayPictured

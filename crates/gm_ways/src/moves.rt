@@ -1,7 +1,6 @@
 //! Moves along ways.
 ghost use Rattle.std.specs.Prelude.{◌≡◌, ◌&&◌, true};
-ghost use Rattle.gm_board.specs.Cells.{is_mine, is_theirs, is_empty, cell_at};
-ghost use Rattle.gm_board.specs.Images.{board_of};
+ghost use Rattle.gm_ways.specs.Lower.{is_mine, is_theirs, is_empty, cell_at, board_of};
 ghost use Rattle.gm_ways.specs.Ways.{are_joined as are_joined_of, can_move as can_move_of, moved as moved_of, can_have_led_here as was_moved_of};
 ghost use Rattle.gm_ways.specs.Ways.{undo as taken_back_of};
 
@@ -17,43 +16,19 @@ pub fn are_joined<const POINTS: u32, T: WayRules<POINTS>>(a: u32, c: u32) -> boo
     T::neighbors(a).contains(&c)
 }
 
-// Returns whether a piece of the mover's is on the first point, and none on the second.
-#[tactic(auto, using(crate::specs::laws::WayFacts::joined_from, crate::specs::laws::WayFacts::joined_to))]
-fn is_open<const POINTS: u32, T: WayRules<POINTS>>(board: Board<POINTS>, from: u32, to: u32) -> bool
-    requires { are_joined_of T.game.ways from to ≡ true }
-    ensures { result ≡ (is_mine (cell_at (board_of POINTS board.entry.mine board.entry.theirs) from) && is_empty (cell_at
-        (board_of POINTS board.entry.mine board.entry.theirs) to)) }
-{
-    board.has_mine(from) && board.is_free(to)
-}
-
-// Returns whether a piece of the opponent's is on the second point, and none on the first.
-#[tactic(auto, using(crate::specs::laws::WayFacts::joined_from, crate::specs::laws::WayFacts::joined_to))]
-fn is_left<const POINTS: u32, T: WayRules<POINTS>>(board: Board<POINTS>, from: u32, to: u32) -> bool
-    requires { are_joined_of T.game.ways from to ≡ true }
-    ensures { result ≡ (is_theirs (cell_at (board_of POINTS board.entry.mine board.entry.theirs) to) && is_empty (cell_at
-        (board_of POINTS board.entry.mine board.entry.theirs) from)) }
-{
-    board.has_theirs(to) && board.is_free(from)
-}
-
 /// Returns whether the move with this number can be made if the game is not over.
-#[tactic(auto, unfolding(crate::specs::Ways::can_move))]
+#[tactic(auto, using(crate::specs::laws::WayFacts::joined_from, crate::specs::laws::WayFacts::joined_to), unfolding(crate::specs::Ways::can_move))]
 pub fn can_move<const POINTS: u32, T: WayRules<POINTS>>(board: Board<POINTS>, number: u32) -> bool
     ensures { result ≡ can_move_of T.game (board_of POINTS board.entry.mine board.entry.theirs) number }
 {
     let step = Step::numbered(number);
-    if !are_joined::<POINTS, T>(step.from, step.to) {
-        return false;
-    }
-    if !is_open::<POINTS, T>(board, step.from, step.to) {
-        return false;
-    }
-    T::may_go(&board, step.from, step.to)
+    are_joined::<POINTS, T>(step.from, step.to)
+        && (board.has_mine(step.from)
+            && (board.is_free(step.to) && T::may_go(&board, step.from, step.to)))
 }
 
 /// Returns the board after a move, as the other side sees it.
-#[tactic(auto, unfolding(crate::specs::Ways::moved))]
+#[tactic(auto, using(crate::specs::laws::WayMoves::board_step), unfolding(crate::specs::Ways::moved))]
 pub fn moved<const POINTS: u32, T: WayRules<POINTS>>(
     board: Board<POINTS>,
     number: u32,
@@ -66,7 +41,7 @@ pub fn moved<const POINTS: u32, T: WayRules<POINTS>>(
 }
 
 /// Returns whether the move with this number can have led to the board.
-#[tactic(auto, unfolding(crate::specs::Ways::can_have_led_here))]
+#[tactic(auto, using(crate::specs::laws::WayFacts::joined_from, crate::specs::laws::WayFacts::joined_to), unfolding(crate::specs::Ways::can_have_led_here))]
 pub fn can_have_led_here<const POINTS: u32, T: WayRules<POINTS>>(
     board: Board<POINTS>,
     number: u32,
@@ -74,14 +49,12 @@ pub fn can_have_led_here<const POINTS: u32, T: WayRules<POINTS>>(
     ensures { result ≡ was_moved_of T.game (board_of POINTS board.entry.mine board.entry.theirs) number }
 {
     let step = Step::numbered(number);
-    if !are_joined::<POINTS, T>(step.from, step.to) {
-        return false;
-    }
-    is_left::<POINTS, T>(board, step.from, step.to)
+    are_joined::<POINTS, T>(step.from, step.to)
+        && (board.has_theirs(step.to) && board.is_free(step.from))
 }
 
 /// Returns the board before the move with this number, as the side that made it saw it.
-#[tactic(auto, unfolding(crate::specs::Ways::undo))]
+#[tactic(auto, using(crate::specs::laws::WayFacts::ends, crate::specs::laws::WayMoves::led_joined, crate::specs::laws::WayMoves::was_step), unfolding(crate::specs::Ways::undo))]
 pub fn undo<const POINTS: u32, T: WayRules<POINTS>>(
     board: Board<POINTS>,
     number: u32,

@@ -1,7 +1,6 @@
 //! The game that follows from the tables of a game on points.
 ghost use Rattle.std.specs.Prelude.{◌≡◌, ◌<◌, ℕ, List};
-ghost use Rattle.gm_board.specs.declared.cell.Cell.{Cell};
-ghost use Rattle.gm_board.specs.Images.{board_of};
+ghost use Rattle.gm_ways.specs.Lower.{Cell, board_of};
 ghost use Rattle.gm_pieces.specs.SideTexts.{board_text as board_text_of};
 ghost use Rattle.gm_ways.specs.Ways.{way_game};
 ghost use Rattle.gm_ways.specs.WayTexts.{step_text as step_text_of};
@@ -136,6 +135,7 @@ impl<const POINTS: u32, T: WayRules<POINTS>> MoveRules for WayMoves<POINTS, T> {
         Board::in_text(bytes)
     }
 
+    #[tactic(auto, using(crate::specs::laws::WayMoves::move_joined))]
     fn move_text(_board: Board<POINTS>, number: u32) -> Line {
         step_text::<POINTS, T>(number)
     }

@@ -1,6 +1,6 @@
 //! What games on points look like: the tables of a game say it. Shisima and Tapatan.
 ghost use Rattle.std.specs.Prelude.{◌≡◌};
-ghost use Rattle.gm_draw.specs.Pictures.{PictureSpec, IsPictureOf};
+ghost use Rattle.gm_ways.specs.Lower.{PictureSpec, IsPictureOf};
 ghost use Rattle.gm_ways.specs.WayTexts.{way_text};
 ghost use Rattle.gm_ways.specs.WayPictures.{shisima_picture, tapatan_picture};
 ghost use Rattle.gm_ways.specs.laws.WayPictured.{IsWayPictured, shisima_pictured, tapatan_pictured};

@@ -1,8 +1,6 @@
 //! What a game on points that ways join must give.
 ghost use Rattle.std.specs.Prelude.{◌≡◌, ◌<◌, true, [], map, slice_index_or};
-ghost use Rattle.gm_board.specs.BoardMasks.{pattern_mask};
-ghost use Rattle.gm_board.specs.Images.{board_of};
-ghost use Rattle.gm_pieces.specs.Sides.{least_index_under};
+ghost use Rattle.gm_ways.specs.Lower.{pattern_mask, board_of, least_index_under};
 ghost use Rattle.gm_ways.specs.Ways.{WayGame, are_joined};
 ghost use Rattle.gm_ways.specs.WayTables.{IsWayGame};
 

@@ -9,7 +9,7 @@ use gm_game::shown::Line;
 use gm_pieces::step::Step;
 
 /// Returns the text of a move along a way: the names of the two points with `-` between them.
-#[tactic(auto, unfolding(crate::specs::WayTexts::step_text))]
+#[tactic(auto, using(crate::specs::laws::WayFacts::ends), unfolding(crate::specs::WayTexts::step_text))]
 pub fn step_text<const POINTS: u32, T: WayRules<POINTS>>(number: u32) -> Line
     requires { is_step T.game.ways number ≡ true }
     ensures { result.items ≡ step_text_of T.game.point_char number }

@@ -1,11 +1,11 @@
 -- Dao has the laws of a game.
 use Rattle.std.specs.Prelude.{◌≡◌, ◌<◌, if◌then◌else◌}
-use Rattle.gm_pieces.specs.Common.{ℕ, Bool, true, false, not, eqb, length, refl, sym, ap, subst, arith, inl, eq-eqb, IsPaddedText, at, position_of, IsNumbered}
+use Rattle.gm_pieces.specs.Common.{ℕ, Bool, true, not, eqb, refl, sym, ap, subst, arith, inl, eq-eqb, at, position_of, IsNumbered}
 use Rattle.gm_pieces.specs.Common.{Empty, binomial, arrangements, arrangement_index, square_symmetries, board_game, IsMoveGame, IsMoveSymmetric, permuted_group}
-use Rattle.gm_pieces.specs.Common.{is_mine, is_theirs, number_of, board_index, board_numbers, index_below, board_back, index_back}
-use Rattle.gm_dao.specs.DaoRules.{formations, has_formation, legal, board_at, dao_name, start_board, play, dao}
+use Rattle.gm_pieces.specs.Common.{is_mine, number_of, board_index, board_numbers, index_below, board_back, index_back}
+use Rattle.gm_dao.specs.DaoRules.{formations, has_formation, legal, board_at, start_board, play, dao}
 use Rattle.gm_dao.specs.laws.SlideFacts.{group}
-use Rattle.gm_dao.specs.laws.BoardFacts.{legal_in, legal_from, legal_numbers, image_legal}
+use Rattle.gm_dao.specs.laws.BoardFacts.{legal_in, legal_numbers, image_legal}
 use Rattle.gm_dao.specs.laws.MoveFacts.{move_slide, steps_few}
 use Rattle.gm_dao.specs.laws.PlayFacts.{play_legal, image_over, image_move}
 use Rattle.gm_dao.specs.laws.BeforeFacts.{was_in, was_from, played_back, taken_played, befores_few}
@@ -27,25 +27,15 @@ numbered = record {
 }
 
 -- ---- the start
-start_formation : has_formation is_mine start_board ≡ false
-unfolding has_formation formations
-start_formation = refl
-
-start_numbers : (number_of is_mine start_board ≡ 4) × (number_of is_theirs start_board ≡ 4)
-unfolding number_of
-start_numbers = (refl, refl)
-
 start_legal : legal start_board ≡ true
-start_legal = legal_from start_board (record { cells = refl; own = start_numbers.0; other = start_numbers.1; no_formation = start_formation })
-
-name_text : (length dao_name ≡ 16) × IsPaddedText dao_name
-name_text = (refl, refl)
+unfolding legal has_formation formations number_of
+start_legal = refl
 
 -- ---- the game's own laws
 pub lawful : IsMoveGame dao
 lawful = record {
-  name_length = name_text.0;
-  name_text = name_text.1;
+  name_length = refl;
+  name_text = refl;
   start_legal = start_legal;
   numbers_fit = λ t. omega arith;
   moved_legal = λ b m l h. play_legal b m l h;

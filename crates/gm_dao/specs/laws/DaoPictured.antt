@@ -1,15 +1,8 @@
 -- The picture satisfies the laws of pictures.
 use Rattle.std.proofs.Common.{◌≡◌, ℕ, ◌<◌, true, refl, ◌∙◌}
 use Rattle.gm_game.proofs.BoardLaws.{legal_board}
-use Rattle.gm_board.specs.Squares.{cell_text}
-use Rattle.gm_pieces.specs.MoveGames.{board_game}
-use Rattle.gm_pieces.specs.Steps.{from_point, to_point}
-use Rattle.gm_pieces.specs.laws.MoveLaws.{move_in}
-use Rattle.gm_pieces.specs.laws.SideTextFacts.{text_length}
+use Rattle.gm_dao.specs.Lower.{cell_text, board_game, from_point, to_point, move_in, text_length, IsMoveWord, IsPictured, two_points, is_set, pictured_by}
 use Rattle.gm_draw.specs.Points.{square_points}
-use Rattle.gm_draw.specs.Pictured.{IsMoveWord, IsPictured}
-use Rattle.gm_draw.specs.laws.Points.{two_points}
-use Rattle.gm_draw.specs.laws.Templates.{is_set, pictured_by}
 use Rattle.gm_dao.specs.DaoRules.{board_at, dao, dao_rules}
 use Rattle.gm_dao.specs.DaoPicture.{dao_picture}
 use Rattle.gm_dao.specs.Texts.{step_text, position_text, move_text}

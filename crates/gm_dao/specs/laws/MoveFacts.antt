@@ -1,9 +1,9 @@
 -- Moves of Dao: which there are, how many, and the ends of games.
 use Rattle.std.specs.Prelude.{◌≡◌, ◌/◌, ◌<◌, ◌≤◌}
-use Rattle.gm_pieces.specs.Common.{ℕ, true, false, List, length, None, Some, refl, sym, ap, ◌∙◌, arith, cond-true, Lose, Cell, Empty}
-use Rattle.gm_pieces.specs.Common.{Mine, and_left, and_right, and_both, fills, all_at, from_point, to_point, number_below, steps, is_mine, is_theirs, is_empty}
-use Rattle.gm_pieces.specs.Common.{is_taken, cell_at, number_of, IsStep, mine_cell, empty_cell, cells_counted, false_from_ne_true}
-use Rattle.gm_dao.specs.DaoRules.{has_formation, in_line, path, beyond, can_go, can_move, move_number_bound, end_by_last_move, dao}
+use Rattle.gm_pieces.specs.Common.{ℕ, true, false, List, length, None, Some, refl, sym, ap, ◌∙◌, arith, cond-true, Lose, Cell, Empty, Mine, and_left, and_right}
+use Rattle.gm_pieces.specs.Common.{and_both, fills, all_at, from_point, to_point, number_below, steps, is_mine, is_theirs, is_empty, is_taken, cell_at}
+use Rattle.gm_pieces.specs.Common.{number_of, IsStep, mine_cell, empty_cell, cells_counted, false_from_ne_true}
+use Rattle.gm_dao.specs.DaoRules.{has_formation, in_line, path, beyond, can_move, move_number_bound, end_by_last_move, dao}
 use Rattle.gm_dao.specs.laws.CountFacts.{blocks_few}
 use Rattle.gm_dao.specs.laws.SlideFacts.{line_within, way}
 
@@ -15,9 +15,21 @@ pub record IsSlide (b : List Cell) (a c : ℕ) : Type 0 where
   pub clear : fills Empty is_empty b (path a c) ≡ true
   pub stopped : fills Empty is_taken b (beyond a c) ≡ true
 
--- what holds if the test is passed
-pub go_in : (b : List Cell) (a c : ℕ) → can_go b a c ≡ true → IsSlide b a c
-go_in b a c e =
+-- a slide is the step of a piece
+pub slide_step : (b : List Cell) (a c : ℕ) → length b ≡ 16 → IsSlide b a c → IsStep b a c
+slide_step b a c n h =
+    let w = line_within a c h.line in
+    record {
+      from_below = omega (arith, w.0, n);
+      to_below = omega (arith, w.1, n);
+      mine = h.mine;
+      free = empty_cell _ (all_at (λ (k : ℕ). is_empty (cell_at b k)) (path a c) c h.clear (way a c h.line).ends);
+    }
+
+-- if the test holds for a number, the number is that of a slide
+pub move_slide : (b : List Cell) (m : ℕ) → can_move b m ≡ true → IsSlide b (from_point m) (to_point m)
+unfolding can_move
+move_slide b m e =
     let r = and_right _ _ e in
     let s = and_right _ _ r in
     record {
@@ -27,29 +39,10 @@ go_in b a c e =
       stopped = and_right _ _ s;
     }
 
--- if that holds, the test is passed
-pub go_from : (b : List Cell) (a c : ℕ) → IsSlide b a c → can_go b a c ≡ true
-go_from b a c h = and_both _ _ (ap is_mine h.mine) (and_both _ _ h.line (and_both _ _ h.clear h.stopped))
-
--- a slide ends on an empty cell
-pub slide_free : (b : List Cell) (a c : ℕ) → IsSlide b a c → cell_at b c ≡ Empty
-slide_free b a c h = empty_cell _ (all_at (λ (k : ℕ). is_empty (cell_at b k)) (path a c) c h.clear (way a c h.line).ends)
-
--- a slide is the step of a piece
-pub slide_step : (b : List Cell) (a c : ℕ) → length b ≡ 16 → IsSlide b a c → IsStep b a c
-slide_step b a c n h =
-    let w = line_within a c h.line in
-    record { from_below = omega (arith, w.0, n); to_below = omega (arith, w.1, n); mine = h.mine; free = slide_free b a c h }
-
--- if the test holds for a number, the number is that of a slide
-pub move_slide : (b : List Cell) (m : ℕ) → can_move b m ≡ true → IsSlide b (from_point m) (to_point m)
-unfolding can_move
-move_slide b m e = go_in b (from_point m) (to_point m) e
-
 -- the test holds for the number of a slide
 pub slide_move : (b : List Cell) (m : ℕ) → IsSlide b (from_point m) (to_point m) → can_move b m ≡ true
 unfolding can_move
-slide_move b m h = go_from b (from_point m) (to_point m) h
+slide_move b m h = and_both _ _ (ap is_mine h.mine) (and_both _ _ h.line (and_both _ _ h.clear h.stopped))
 
 -- the number of a slide is below 256
 pub line_below : (m : ℕ) → in_line (from_point m) (to_point m) ≡ true → m < move_number_bound

@@ -1,7 +1,7 @@
 -- The texts of Dao are plain, fit a line, and tell positions and moves apart.
 use Rattle.std.specs.Prelude.{◌≡◌, ◌<◌, ◌∷◌}
-use Rattle.gm_pieces.specs.Common.{ℕ, length, refl, arith, IsPlain, IsShown, plain_append, from_point, to_point, same_step, cell_text}
-use Rattle.gm_pieces.specs.Common.{board_text, text_length, text_once, text_plain, cell_plain, AreTexts, texts_are_shown}
+use Rattle.gm_pieces.specs.Common.{ℕ, length, refl, arith, IsPlain, IsShown, plain_append, from_point, to_point, same_step, cell_text, board_text, text_length}
+use Rattle.gm_pieces.specs.Common.{text_once, text_plain, cell_plain, AreTexts, texts_are_shown}
 use Rattle.gm_board.specs.laws.CellTexts.{step_text_once}
 use Rattle.gm_dao.specs.DaoRules.{dao, dao_rules}
 use Rattle.gm_dao.specs.laws.BoardFacts.{legal_in}

@@ -1,15 +1,8 @@
 -- The pictures of rows of numbers satisfy the laws of pictures: the bracket comes after the numbers before the current one.
-use Rattle.std.proofs.Common.{◌≡◌, ◌↔◌, ℕ, ◌+◌, ◌<◌, ◌≤◌, Bool, true, cond, eqb, leb, eqb-true, List, [], ◌∷◌, map, length, sym, ap, subst, ◌∙◌}
-use Rattle.std.proofs.Common.{arith}
-use Rattle.std.specs.Fmt.{decimal}
-use Rattle.std.specs.List.{Contains, list_all, range_with_len}
+use Rattle.std.proofs.Common.{◌≡◌, ◌↔◌, ℕ, ◌+◌, ◌<◌, ◌≤◌, Bool, true, List, [], ◌∷◌, map, length, ◌∙◌}
+use Rattle.gm_draw.specs.Lower.{cond, eqb, leb, eqb-true, sym, ap, subst, decimal, Contains, list_all, range_with_len, Position, Rules, at}
+use Rattle.gm_draw.specs.Lower.{same_position, contains_range, contains_unmap, range_below, and_left, and_right, all_at}
 use Rattle.std.specs.Prelude.{◌&&◌, not, slice_index_or}
-use Rattle.std.proofs.lemmas.Bool.Decides.{nat_tests}
-use Rattle.gm_game.specs.declared.position.Position.{Position}
-use Rattle.gm_game.specs.Rules.{Rules, at}
-use Rattle.gm_game.proofs.SetLemmas.{same_position}
-use Rattle.gm_board.specs.laws.Lists.{contains_range, contains_unmap, range_below, and_left, and_right}
-use Rattle.gm_board.specs.laws.Permutations.{all_at}
 use Rattle.gm_draw.specs.declared.drawn.TheConstants.{DRAWING}
 use Rattle.gm_draw.specs.declared.pictured.Style.{Style}
 use Rattle.gm_draw.specs.declared.pictured.Style.TheVariants.{Row}
@@ -18,6 +11,7 @@ use Rattle.gm_draw.specs.Pictures.{PictureSpec, layout_of, drawn_on, drawn}
 use Rattle.gm_draw.specs.Points.{is_name, are_apart, IsPointWord}
 use Rattle.gm_draw.specs.Pictured.{IsBoardOf, IsMoveWord, most_points, IsPictured}
 use Rattle.gm_draw.specs.laws.Points.{named_point}
+use Rattle.gm_draw.specs.laws.Templates.{low}
 
 -- the number of spaces before the bracket
 abbrev spaces : List ℕ → ℕ
@@ -32,9 +26,6 @@ abbrev pub is_row_set : ℕ → PictureSpec → Bool
 is_row_set n picture =
     list_all (row_test picture.rows) (range_with_len 0 n) && (leb (length picture.board) 256 && (list_all (λ b. not (is_slot b)) picture.board
     && (leb (length picture.points) 26 && (list_all is_name picture.points && are_apart picture.points))))
-
-low : (a b : ℕ) → leb a b ≡ true → a ≤ b
-low a b e = grind (arith, nat_tests)
 
 -- the text of a position is its index in decimal
 abbrev pub number_text : Position → List ℕ

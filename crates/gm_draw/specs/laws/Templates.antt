@@ -1,17 +1,9 @@
 -- Pictures on templates: drawings distinguish positions, since each byte of a position's text has a slot.
-use Rattle.std.proofs.Common.{◌≡◌, ℕ, ◌+◌, ◌-◌, ◌<◌, ◌≤◌, Bool, true, false, cond, eqb, leb, eqb-true, List, [], ◌∷◌, map, length, get_or, refl, sym, ap, subst, ◌∙◌}
-use Rattle.std.proofs.Common.{arith, inl, inr, zero-add}
+use Rattle.std.proofs.Common.{◌≡◌, ℕ, ◌+◌, ◌-◌, ◌<◌, ◌≤◌, Bool, true, List, [], ◌∷◌, map, length, ◌∙◌}
+use Rattle.gm_draw.specs.Lower.{false, cond, eqb, leb, eqb-true, get_or, refl, sym, ap, subst, arith, inl, inr, zero-add, Contains, list_all, range_with_len}
+use Rattle.gm_draw.specs.Lower.{cases_Bool, cond-true, true≢false, nat_tests, ext_get_or, length-map, sum_by-cons, Position, Rules, IsShown, contains_range}
+use Rattle.gm_draw.specs.Lower.{and_left, and_right, all_at}
 use Rattle.std.specs.Prelude.{◌&&◌, ◌==◌, count_by}
-use Rattle.std.specs.List.{Contains, list_all, range_with_len}
-use Rattle.std.proofs.lemmas.Bool.{cases_Bool, cond-true, true≢false}
-use Rattle.std.proofs.lemmas.Bool.Decides.{nat_tests}
-use Rattle.std.proofs.lemmas.List.{ext_get_or, length-map}
-use Rattle.std.proofs.lemmas.List.Sums.{sum_by-cons}
-use Rattle.gm_game.specs.declared.position.Position.{Position}
-use Rattle.gm_game.specs.Rules.{Rules}
-use Rattle.gm_game.specs.Shown.{IsShown}
-use Rattle.gm_board.specs.laws.Lists.{contains_range, and_left, and_right}
-use Rattle.gm_board.specs.laws.Permutations.{all_at}
 use Rattle.gm_draw.specs.declared.drawn.TheConstants.{DRAWING}
 use Rattle.gm_draw.specs.declared.pictured.Layout.{Layout}
 use Rattle.gm_draw.specs.declared.pictured.Layout.TheVariants.{Template, Rows, Squares}
@@ -26,13 +18,10 @@ use Rattle.gm_draw.specs.Pictured.{has_place_once, IsBoardOf, most_points, IsMov
 letter_slot : (x k : ℕ) → eqb x (65 + k) ≡ true → k < 26 → is_slot x ≡ true
 letter_slot x k e l = grind (arith, nat_tests)
 
-letter_place : (x k : ℕ) → eqb x (65 + k) ≡ true → x - 65 ≡ k
-letter_place x k e = (let f : x ≡ 65 + k = eqb-true x (65 + k) e in omega arith)
-
 slot_byte : (text : List ℕ) (x k : ℕ) → eqb x (65 + k) ≡ true → k < 26 → drawn_byte text x ≡ get_or text k 0
 slot_byte text x k e l =
-    cond-true (is_slot x) (get_or text (x - 65) 0) x (letter_slot x k e l)
-    ∙ ap (λ (i : ℕ). get_or text i 0) (letter_place x k e)
+    let f : x ≡ 65 + k = eqb-true x (65 + k) e in
+    cond-true (is_slot x) (get_or text (x - 65) 0) x (letter_slot x k e l) ∙ ap (λ (i : ℕ). get_or text i 0) (let g : x - 65 ≡ k = omega arith in g)
 
 -- texts with the same drawing have the same byte in a slot
 same_in_slot : (t a b : List ℕ) (k : ℕ) → map (drawn_byte a) t ≡ map (drawn_byte b) t → 0 < count_by (λ c. c == 65 + k) t → k < 26 → get_or a k 0 ≡ get_or b k 0
@@ -56,11 +45,6 @@ unfolding filled
 same_in_slots t a b n k few places e below =
     let once = eqb-true _ _ (all_at (has_place_once t) (range_with_len 0 n) k places (contains_range n k below)) in
     same_in_slot t a b k e (omega (arith, once)) (omega arith)
-
--- a drawing is as long as its template
-filled_length : (t a : List ℕ) → length (filled t a) ≡ length t
-unfolding filled
-filled_length t a = length-map t (drawn_byte a)
 
 -- ---- what computation shows about a picture with n points on a template
 abbrev pub is_template : Layout → Bool
@@ -87,11 +71,8 @@ layout_set Template e = refl
 layout_set Rows e = absurd (true≢false (sym e))
 layout_set Squares e = absurd (true≢false (sym e))
 
-low : (a b : ℕ) → leb a b ≡ true → a ≤ b
+pub low : (a b : ℕ) → leb a b ≡ true → a ≤ b
 low a b e = grind (arith, nat_tests)
-
-short : (a : ℕ) → leb a 256 ≡ true → a ≤ DRAWING
-short a e = grind (arith, nat_tests)
 
 pub set_in : (n : ℕ) (picture : PictureSpec) → is_set n picture ≡ true → IsSet n picture
 set_in n picture e =
@@ -103,7 +84,7 @@ set_in n picture e =
     let g = and_right _ _ f in record {
       layout = layout_set (layout_of picture.style) (and_left _ _ e);
       few = low n 26 (and_left _ _ a);
-      fits = short (length picture.board) (and_left _ _ b);
+      fits = low (length picture.board) 256 (and_left _ _ b);
       many = eqb-true _ _ (and_left _ _ c);
       named = and_left _ _ d;
       apart = and_left _ _ f;
@@ -118,10 +99,10 @@ module _ (r : Rules) (shown : Position → List ℕ) (move_shown : Position → 
   drawn_is p = ap (λ (l : Layout). drawn_on l picture (shown p) p.index) (set_in n picture set).layout
 
   pub template_fits : (p : Position) → length (drawn picture shown p) ≤ DRAWING
+  unfolding filled
   template_fits p =
-      let a = ap (λ (t : List ℕ). length t) (drawn_is p) in
-      let b = filled_length picture.board (shown p) in
-      let c = (set_in n picture set).fits in omega (arith, a, b, c)
+      let a = ap (λ (t : List ℕ). length t) (drawn_is p) ∙ length-map picture.board (drawn_byte (shown p)) in
+      let c = (set_in n picture set).fits in omega (arith, a, c)
 
   -- positions with the same drawing have the same bytes in the slots
   pub same_bytes : (p q : Position) (k : ℕ) → drawn picture shown p ≡ drawn picture shown q → k < n → get_or (shown p) k 0 ≡ get_or (shown q) k 0

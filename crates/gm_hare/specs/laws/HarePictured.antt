@@ -21,16 +21,13 @@ set : is_set 11 hare_picture ≡ true
 unfolding hare_picture hare_points point_name
 set = refl
 
-step_words : (m : ℕ) → from_point m < 11 → to_point m < 11 → IsMoveWord hare_picture.style hare_picture.points (step_text m)
-unfolding step_text hare_picture hare_points
-step_words m l h = two_points point_name 11 (from_point m) (to_point m) l h
-
 words : (p : Position) (m : ℕ) → hare_rules.is_legal p ≡ true → Contains (hare_rules.moves p) m
     → IsMoveWord hare_picture.style hare_picture.points (move_text p m)
+unfolding step_text hare_picture hare_points
 words p m l c =
     let k = move_in hare_and_hounds (hunt_board p.index) m c in
     let s = ends m k.below (move_joined (hunt_board p.index) m k.can) in
-    step_words m s.0 s.1
+    two_points point_name 11 (from_point m) (to_point m) s.0 s.1
 
 -- the name of the side to move says the side
 mover_told : (x : Bool) → eqb (length (hunt_mover x)) 6 ≡ x

@@ -7,6 +7,10 @@ use Rattle.gm_pieces.specs.MoveChildren.{position_after}
 use Rattle.gm_pieces.specs.laws.MoveLaws.{move_in}
 
 module _ {B S : Type 0} (g : MoveGame B S) (b : B) where
+  -- a move of the same board is one
+  pub move_at : (a : B) (m : ℕ) → a ≡ b → Contains ((board_game g).moves b) m → IsMove g a m
+  move_at a m e c = subst (λ (x : B). IsMove g x m) (sym e) (move_in g b m c)
+
   -- each of the listed moves is one
   pub listed_move : (ms : List ℕ) (i : ℕ) → ms ≡ (board_game g).moves b → i < length ms → IsMove g b (get_or ms i 0)
   listed_move ms i e l = move_in g b (get_or ms i 0) (subst (λ (xs : List ℕ). Contains xs (get_or ms i 0)) e (Contains-get_or ms i 0 l))

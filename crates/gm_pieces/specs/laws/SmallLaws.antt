@@ -3,7 +3,7 @@ use Rattle.std.specs.Prelude.{◌≡◌, ◌+◌, ◌<◌, ◌≤◌, ◌&&◌, 
 use Rattle.std.specs.Str.{bytes_eq}
 use Rattle.gm_pieces.specs.Common.{ℕ, zero, suc, Bool, true, false, eqb, eqb-true, eq-eqb, leb, leb-true, ltb, ltb-true, List, [], length, refl, sym, ap, ◌∙◌}
 use Rattle.gm_pieces.specs.Common.{subst, arith, inl, inr, Option, None, Some, Contains, filter, list_all, range_with_len, true≢false, and_left, and_right}
-use Rattle.gm_pieces.specs.Common.{and_both, contains_head, at_below, is_plain, cases_eq, End}
+use Rattle.gm_pieces.specs.Common.{and_both, contains_head, at_below, is_plain, cases_eq}
 use Rattle.gm_pieces.specs.Common.{board_game, plays_on, steps, IsMove, IsMoveGame, IsMoveSymmetric, IsNumbered, AreTexts}
 use Rattle.gm_pieces.specs.Small.{SmallGame, is_board, small_game}
 use Rattle.gm_pieces.specs.SmallTables.{failing, first_wrong, implies, keeps, is_kept, redoes, is_redone, tells, is_apart, names, has_room, IsSmallGame}
@@ -34,9 +34,6 @@ chosen : (x y : Bool) → implies x y ≡ true → x ≡ true → y ≡ true
 chosen true y e f = e
 chosen false y e f = absurd (true≢false (sym f))
 
-on_going : (o : Option End) → o ≡ None → plays_on o ≡ true
-on_going o e = ap plays_on e
-
 alone : Contains {X = ℕ} (0 ∷ []) 0
 alone = contains_head 0 []
 
@@ -45,26 +42,23 @@ same_bytes [] = refl
 same_bytes (x ∷ xs) = and_both _ _ (eq-eqb x x refl) (same_bytes xs)
 
 module _ (g : SmallGame) (h : IsSmallGame g) where
-  below : (b : ℕ) → is_board g b ≡ true → b < g.size
-  below b l = ltb-true b g.size (and_left _ _ l)
-
   own : (b : ℕ) → is_board g b ≡ true → g.legal b ≡ true
   own b l = and_right (ltb b g.size) _ l
 
   room : (b : ℕ) → is_board g b ≡ true → (leb (length (filter (g.can_move b) (range_with_len 0 g.bound))) 128
       && leb (length (filter (g.can_have_led_here b) (range_with_len 0 g.bound))) 128) ≡ true
-  room b l = chosen (g.legal b) _ (passes g.size (has_room g) h.few b (below b l)) (own b l)
+  room b l = chosen (g.legal b) _ (passes g.size (has_room g) h.few b (board_below g b l)) (own b l)
 
   kept : (b m : ℕ) → is_board g b ≡ true → IsMove (small_game g) b m → (is_board g (g.moved b m)
       && (g.can_have_led_here (g.moved b m) m && eqb (g.undo (g.moved b m) m) b)) ≡ true
   kept b m l k =
-      let t = chosen (g.legal b && plays_on (g.over b)) _ (passes g.size (keeps g) h.kept b (below b l)) (and_both _ _ (own b l) (on_going (g.over b) k.not_over)) in
+      let t = chosen (g.legal b && plays_on (g.over b)) _ (passes g.size (keeps g) h.kept b (board_below g b l)) (and_both _ _ (own b l) (ap plays_on k.not_over)) in
       chosen (g.can_move b m) _ (at_below g.bound (is_kept g b) t m k.below) k.can
 
   redone : (d m : ℕ) → is_board g d ≡ true → m < g.bound → g.can_have_led_here d m ≡ true → is_board g (g.undo d m) ≡ true → g.can_move (g.undo d m) m ≡ true
       → g.moved (g.undo d m) m ≡ d
   redone d m l k c w v =
-      let t = chosen (g.legal d) _ (passes g.size (redoes g) h.redone d (below d l)) (own d l) in
+      let t = chosen (g.legal d) _ (passes g.size (redoes g) h.redone d (board_below g d l)) (own d l) in
       eqb-true _ _ (chosen (g.can_move (g.undo d m) m) _
       (chosen (is_board g (g.undo d m)) _ (chosen (g.can_have_led_here d m) _ (at_below g.bound (is_redone g d) t m k) c) w) v)
 
@@ -90,7 +84,7 @@ module _ (g : SmallGame) (h : IsSmallGame g) where
   small_numbered = record {
     tier_fits = λ b l. omega arith;
     size_fits = λ b l. let s = h.small in omega (arith, s);
-    index_below = λ b l. below b l;
+    index_below = λ b l. board_below g b l;
     board_back = λ b l. refl;
     index_back = λ t i l k e. refl;
   }
@@ -110,7 +104,7 @@ module _ (g : SmallGame) (h : IsSmallGame g) where
   }
 
   tells_at : (b : ℕ) → is_board g b ≡ true → (leb (length (g.text b)) 64 && (list_all is_plain (g.text b) && eqb (g.told (g.text b)) b)) ≡ true
-  tells_at b l = chosen (g.legal b) _ (passes g.size (tells g) h.texts b (below b l)) (own b l)
+  tells_at b l = chosen (g.legal b) _ (passes g.size (tells g) h.texts b (board_below g b l)) (own b l)
 
   pub told : (b : ℕ) → is_board g b ≡ true → g.told (g.text b) ≡ b
   told b l = eqb-true _ _ (and_right _ _ (and_right _ _ (tells_at b l)))

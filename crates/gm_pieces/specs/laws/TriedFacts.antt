@@ -10,7 +10,7 @@ use Rattle.gm_pieces.specs.declared.candidates.Run.{Run}
 use Rattle.gm_pieces.specs.declared.candidates.Candidates.{Candidates}
 use Rattle.gm_pieces.specs.Tried.{one, run_at, count_of, number_at, AreCandidates, edge}
 
-module _ (p : ℕ → Bool) (n : ℕ) (c : Candidates) (h : AreCandidates p n c) where
+module _ {p : ℕ → Bool} {n : ℕ} {c : Candidates} (h : AreCandidates p n c) where
   -- ---- places
   -- an edge is a candidate, or the bound
   pub edge_at : (k : ℕ) → k < count_of c → edge c n k ≡ number_at c k
@@ -122,27 +122,8 @@ module _ (p : ℕ → Bool) (n : ℕ) (c : Candidates) (h : AreCandidates p n c)
   tried_room k xs few b e is =
       filter_room p n (number_at c k) xs few (h.below k b) e (is ∙ ap (λ (m : ℕ). filter p (range_with_len 0 m)) (edge_at k b))
 
-  few_to : (k : ℕ) → k ≤ count_of c → length (filter p (range_with_len 0 (edge c n k))) ≤ k
-  few_to zero l = let z = ap (λ (xs : List ℕ). length xs) tried_none in omega (arith, z)
-  few_to (suc k) l =
-      let i = few_to k (omega (arith, l)) in
-      let b : k < count_of c = omega (arith, l) in
-      subst (λ (j : ℕ). length (filter p (range_with_len 0 (edge c n j))) ≤ j) (let s : k + 1 ≡ suc k = omega arith in s)
-      (elim (cases_Bool (p (number_at c k))) [
-        | inl e ↦ (
-            let z = ap (λ (xs : List ℕ). length xs) (tried_in k b e) in
-            let a = length-append (filter p (range_with_len 0 (edge c n k))) (number_at c k ∷ []) in
-            omega (arith, z, a, i))
-        | inr e ↦ (let z = ap (λ (xs : List ℕ). length xs) (tried_out k b e) in omega (arith, z, i))
-      ])
-
-  -- no more numbers pass than there are candidates
-  pub tried_few : length (filter p (range_with_len 0 n)) ≤ count_of c
-  tried_few =
-      subst (λ (m : ℕ). length (filter p (range_with_len 0 m)) ≤ count_of c) (edge_past (count_of c) (omega arith)) (few_to (count_of c) (omega arith))
-
   -- ---- indexes that numbers lead to
-  module _ {B : Type 0} (f : B → ℕ) (g : ℕ → Option B) (only : (m : ℕ) → p m ≡ false → g m ≡ None) where
+  module _ {B : Type 0} (f : B → ℕ) {g : ℕ → Option B} (only : (m : ℕ) → p m ≡ false → g m ≡ None) where
     abbrev pub puts : ℕ → List ℕ
     puts m = put_all [] (map f (filter_map g (range_with_len 0 m)))
 
@@ -161,6 +142,26 @@ module _ (p : ℕ → Bool) (n : ℕ) (c : Candidates) (h : AreCandidates p n c)
 
     pub puts_same : (k : ℕ) → k < count_of c → g (number_at c k) ≡ None → puts (edge c n (k + 1)) ≡ puts (edge c n k)
     puts_same k l e = puts_gap k l ∙ put_more_none f g (number_at c k) e ∙ ap puts (sym (edge_at k l))
+
+module _ (p : ℕ → Bool) (n : ℕ) (c : Candidates) (h : AreCandidates p n c) where
+  few_to : (k : ℕ) → k ≤ count_of c → length (filter p (range_with_len 0 (edge c n k))) ≤ k
+  few_to zero l = let z = ap (λ (xs : List ℕ). length xs) (tried_none h) in omega (arith, z)
+  few_to (suc k) l =
+      let i = few_to k (omega (arith, l)) in
+      let b : k < count_of c = omega (arith, l) in
+      subst (λ (j : ℕ). length (filter p (range_with_len 0 (edge c n j))) ≤ j) (let s : k + 1 ≡ suc k = omega arith in s)
+      (elim (cases_Bool (p (number_at c k))) [
+        | inl e ↦ (
+            let z = ap (λ (xs : List ℕ). length xs) (tried_in h k b e) in
+            let a = length-append (filter p (range_with_len 0 (edge c n k))) (number_at c k ∷ []) in
+            omega (arith, z, a, i))
+        | inr e ↦ (let z = ap (λ (xs : List ℕ). length xs) (tried_out h k b e) in omega (arith, z, i))
+      ])
+
+  -- no more numbers pass than there are candidates
+  pub tried_few : length (filter p (range_with_len 0 n)) ≤ count_of c
+  tried_few =
+      subst (λ (m : ℕ). length (filter p (range_with_len 0 m)) ≤ count_of c) (edge_past h (count_of c) (omega arith)) (few_to (count_of c) (omega arith))
 
 -- ---- two runs
 module _ (c : Candidates) where

@@ -11,10 +11,6 @@ use Rattle.gm_tactix.specs.Board.{has_counter, is_full, is_free, is_among, witho
 use Rattle.gm_tactix.specs.laws.SegmentFacts.{among_in, among_from}
 
 -- ---- cells of boards
--- boards that agree on each cell are the same
-pub same_board : (a b : List Bool) → length a ≡ length b → ((k : ℕ) → k < length a → has_counter a k ≡ has_counter b k) → a ≡ b
-same_board a b e h = ext_get_or false a b e h
-
 -- a board has as many cells after cells are emptied
 pub length_without : (b : List Bool) (cs : List ℕ) → length (without b cs) ≡ length b
 unfolding without
@@ -44,19 +40,9 @@ unfolding with_counters
 with_at b cs k l = get_or-map-range_with_len (λ (k : ℕ). has_counter b k || is_among k cs) 0 (length b) k k false l (omega arith)
 
 -- ---- full and free cells
-pub full_at : (b : List Bool) (cs : List ℕ) (k : ℕ) → is_full b cs ≡ true → Contains cs k → has_counter b k ≡ true
-full_at b cs k e c = all_at (has_counter b) cs k e c
-
 -- a free cell has no counter
 pub free_at : (b : List Bool) (cs : List ℕ) (k : ℕ) → is_free b cs ≡ true → Contains cs k → has_counter b k ≡ false
 free_at b cs k e c = not-true _ (all_at (λ (j : ℕ). not (has_counter b j)) cs k e c)
-
--- a cell with a counter is a cell of the board
-pub counter_within : (b : List Bool) (k : ℕ) → has_counter b k ≡ true → k < length b
-counter_within b k e = elim (cases_lt k (length b)) [
-  | inl l ↦ l
-  | inr l ↦ absurd (let p = get_or_past b k false l in let z : ⊥ = cc in z)
-]
 
 -- cells that were emptied are free
 pub free_without : (b : List Bool) (cs : List ℕ) → is_free (without b cs) cs ≡ true
@@ -67,7 +53,7 @@ free_without b cs =
 -- free cells that are filled and emptied again leave the board unchanged
 pub without_with : (b : List Bool) (cs : List ℕ) → is_free b cs ≡ true → without (with_counters b cs) cs ≡ b
 without_with b cs e =
-    same_board (without (with_counters b cs) cs) b (length_without (with_counters b cs) cs ∙ length_with b cs)
+    ext_get_or false (without (with_counters b cs) cs) b (length_without (with_counters b cs) cs ∙ length_with b cs)
     (λ k l. let m : k < length b = omega (arith, length_without (with_counters b cs) cs, length_with b cs) in
     without_at (with_counters b cs) cs k
     ∙ ap (λ (x : Bool). x && not (is_among k cs)) (with_at b cs k m)
@@ -79,11 +65,11 @@ without_with b cs e =
 -- full cells that are emptied and filled again leave the board unchanged
 pub with_without : (b : List Bool) (cs : List ℕ) → is_full b cs ≡ true → with_counters (without b cs) cs ≡ b
 with_without b cs e =
-    same_board (with_counters (without b cs) cs) b (length_with (without b cs) cs ∙ length_without b cs)
+    ext_get_or false (with_counters (without b cs) cs) b (length_with (without b cs) cs ∙ length_without b cs)
     (λ k l. let m : k < length (without b cs) = omega (arith, length_with (without b cs) cs) in
     with_at (without b cs) cs k m
     ∙ ap (λ (x : Bool). x || is_among k cs) (without_at b cs k)
-    ∙ back (has_counter b k) (is_among k cs) (λ f. full_at b cs k e (among_in k cs f)))
+    ∙ back (has_counter b k) (is_among k cs) (λ f. all_at (has_counter b) cs k e (among_in k cs f)))
   where
     back : (x y : Bool) → (y ≡ true → x ≡ true) → ((x && not y) || y) ≡ x
     back x y h = grind arith
@@ -114,11 +100,11 @@ among_later k c step (suc n) l =
 
 without_none : (b : List Bool) → without b [] ≡ b
 without_none b =
-    same_board (without b []) b (length_without b []) (λ k l. without_at b [] k ∙ and_true (has_counter b k))
+    ext_get_or false (without b []) b (length_without b []) (λ k l. without_at b [] k ∙ and_true (has_counter b k))
 
 without_more : (b : List Bool) (c : ℕ) (cs : List ℕ) → without b (c ∷ cs) ≡ set (without b cs) c false
 without_more b c cs =
-    same_board (without b (c ∷ cs)) (set (without b cs) c false)
+    ext_get_or false (without b (c ∷ cs)) (set (without b cs) c false)
     (length_without b (c ∷ cs) ∙ sym (length-set (without b cs) c false ∙ length_without b cs))
     (λ k l. let m : k < length (without b cs) = omega (arith, length_without b (c ∷ cs), length_without b cs) in
     without_at b (c ∷ cs) k ∙
@@ -145,15 +131,8 @@ members_without b c step (suc n) p e =
     let i : members (without b rest) + n ≡ members b = members_without b (c + step) step n p (and_right (has_counter b c) (is_full b rest) e) in
     omega (arith, q, r, i)
 
--- a board without counters has none on any cell
-pub no_counters : (b : List Bool) (k : ℕ) → members b ≡ 0 → has_counter b k ≡ false
-no_counters [] k e = refl
-no_counters (true ∷ b) k e = absurd (omega arith)
-no_counters (false ∷ b) zero e = refl
-no_counters (false ∷ b) (suc k) e = no_counters b k e
-
 -- a board with counters has one on some cell
-pub some_counter : (b : List Bool) → 0 < members b → (k : ℕ) × (has_counter b k ≡ true)
+pub some_counter : (b : List Bool) → 0 < members b → (k : ℕ) × (k < length b) × (has_counter b k ≡ true)
 some_counter [] l = absurd (omega arith)
-some_counter (true ∷ b) l = (0, refl)
-some_counter (false ∷ b) l = let x = some_counter b l in (suc x.0, x.1)
+some_counter (true ∷ b) l = (0, omega arith, refl)
+some_counter (false ∷ b) l = let x = some_counter b l in let k = x.1 in (suc x.0, omega arith, x.2)

@@ -1,13 +1,13 @@
 -- Moves of Tac Tix: which there are, what they leave, and the boards before a board.
 use Rattle.std.specs.Prelude.{◌≡◌, ◌+◌, ◌-◌, ◌*◌, ◌<◌, ◌≤◌, ◌∷◌, ◌++◌}
 use Rattle.gm_pieces.specs.Common.{ℕ, zero, suc, Bool, true, false, cond, eqb, List, [], length, refl, sym, ap, ◌∙◌}
-use Rattle.gm_pieces.specs.Common.{subst, arith, inl, inr, eqb-true, eq-eqb, Contains, filter, range_with_len, cases_lt, ne_eqb, true≢false}
-use Rattle.gm_pieces.specs.Common.{length-range_with_len, get_or-range_with_len, map-range_with_len_more, map-id, IsAscending, contains_head, and_left}
+use Rattle.gm_pieces.specs.Common.{subst, arith, inl, inr, eqb-true, eq-eqb, Contains, filter, range_with_len, cases_lt, ne_eqb}
+use Rattle.gm_pieces.specs.Common.{length-range_with_len, get_or-range_with_len, map-range_with_len_more, map-id, IsAscending, and_left}
 use Rattle.gm_pieces.specs.Common.{and_right, and_both, members, filter_few, nil_or, steps, step_in, step_listed}
-use Rattle.gm_tactix.specs.Segments.{first_cell, segment_length, goes_down, stride, cells_from, segment_cells, is_segment, move_number_bound}
+use Rattle.gm_tactix.specs.Segments.{first_cell, segment_length, goes_down, stride, segment_cells, is_segment, move_number_bound}
 use Rattle.gm_tactix.specs.Board.{is_full, is_free, without, with_counters, can_take, play, was_taken, tactix}
 use Rattle.gm_tactix.specs.laws.SegmentFacts.{number_below, length_bounds, single, single_cells, segments_few}
-use Rattle.gm_tactix.specs.laws.CounterFacts.{length_without, full_at, counter_within, free_without, without_with, with_without, members_without, no_counters}
+use Rattle.gm_tactix.specs.laws.CounterFacts.{length_without, free_without, without_with, with_without, members_without}
 use Rattle.gm_tactix.specs.laws.CounterFacts.{some_counter}
 
 -- ---- ranges
@@ -72,31 +72,21 @@ pub play_members : (s : ℕ) (b : List Bool) (m : ℕ) → 1 ≤ s → can_take 
 unfolding play
 play_members s b m l c = segment_taken s m b l (move_in s b m c).1
 
-cells_head : (c step n : ℕ) → 1 ≤ n → Contains (cells_from c step n) c
-cells_head c step zero l = absurd (omega arith)
-cells_head c step (suc n) l = contains_head c (cells_from (c + step) step n)
-
--- its least cell is one of its cells
-pub first_in : (s m : ℕ) → 1 ≤ segment_length m → Contains (segment_cells s m) (first_cell m)
-unfolding segment_cells
-first_in s m l = cells_head (first_cell m) (stride s m) (segment_length m) l
-
 -- without counters there is no move
 pub no_moves : (s : ℕ) (b : List Bool) → members b ≡ 0 → (m : ℕ) → can_take s b m ≡ true → ⊥
 no_moves s b e m c =
-    let h = move_in s b m c in
-    let n = length_bounds s m h.0 in
-    let full = full_at b (segment_cells s m) (first_cell m) h.1 (first_in s m n.0) in
-    let none = no_counters b (first_cell m) e in true≢false (sym full ∙ none)
+    let n = length_bounds s m (take_segment s b m c) in
+    let taken = play_members s b m (omega (arith, n.0, n.1)) c in
+    omega (arith, taken, n.0, e)
 
 -- a counter can be taken by itself
 some_move : (s : ℕ) (b : List Bool) → 1 ≤ s → length b ≡ s * s → 0 < members b → (m : ℕ) × (can_take s b m ≡ true)
 some_move s b l e h =
     let x = some_counter b h in
-    let k : x.0 < s * s = subst (λ (n : ℕ). x.0 < n) e (counter_within b x.0 x.1) in (
+    let k : x.0 < s * s = subst (λ (n : ℕ). x.0 < n) e x.1 in (
       16 * x.0 + 2,
       move_from s b (16 * x.0 + 2) (single s x.0 l k)
-          (ap (is_full b) (single_cells s x.0) ∙ and_both _ _ x.1 refl),
+          (ap (is_full b) (single_cells s x.0) ∙ and_both _ _ x.2 refl),
     )
 
 -- so a player has no move exactly if there are no counters

@@ -7,6 +7,7 @@ use Rattle.gm_pieces.specs.Common.{all_at, IsGroup, any_at, group_inverse, undon
 use Rattle.std.proofs.lemmas.List.Sorted.{IsPermutation-reverse, IsPermutation-sym, Contains-permutation}
 use Rattle.gm_tactix.specs.Segments.{first_cell, segment_length, goes_down, segment_cells, is_segment, move_number_bound, segments}
 use Rattle.gm_tactix.specs.Board.{is_among}
+use Rattle.gm_tactix.specs.Texts.{last_cell}
 
 -- ---- tests that compute, for each side
 -- the last of a list of cells, or 0
@@ -28,18 +29,13 @@ number_of s (c ∷ cs) = number_between s (length (c ∷ cs)) c (last_of (c ∷ 
 abbrev pub are_cells : ℕ → List ℕ → ℕ → Bool
 are_cells s cs m = is_segment s m && (same_list cs (segment_cells s m) || same_list cs (reverse (segment_cells s m)))
 
--- whether each symmetry takes each segment to a segment
-unfoldable pub keeps_segments : ℕ → Bool
-keeps_segments s = list_all (λ g. list_all (λ m. are_cells s (permute 0 (segment_cells s m) g) (number_of s (permute 0 (segment_cells s m) g)))
-    (segments s)) (square_symmetries s)
+-- whether a symmetry takes a segment to a segment
+abbrev keeps : ℕ → List ℕ → ℕ → Bool
+keeps s g m = are_cells s (permute 0 (segment_cells s m) g) (number_of s (permute 0 (segment_cells s m) g))
 
--- whether the cells of each segment are on the square
-unfoldable pub segments_within : ℕ → Bool
-segments_within s = list_all (λ m. list_all (λ k. ltb k (s * s)) (segment_cells s m)) (segments s)
-
--- whether there are at most 128 segments, each on the square and taken to a segment by each symmetry
-unfoldable pub segments_pass : ℕ → Bool
-segments_pass s = leb (length (segments s)) 128 && (segments_within s && keeps_segments s)
+-- whether the cells of a segment are on the square, its last cell too
+abbrev is_within : ℕ → ℕ → Bool
+is_within s m = list_all (λ k. ltb k (s * s)) (last_cell s m ∷ segment_cells s m)
 
 -- what holds for each side from 1 to 5
 pub for_sides : (P : ℕ → Type 0) → P 1 → P 2 → P 3 → P 4 → P 5 → (s : ℕ) → 1 ≤ s → s ≤ 5 → P s
@@ -51,9 +47,18 @@ for_sides P a b c d e (suc (suc (suc (suc zero)))) l h = d
 for_sides P a b c d e (suc (suc (suc (suc (suc zero))))) l h = e
 for_sides P a b c d e (suc (suc (suc (suc (suc (suc s)))))) l h = absurd (omega arith)
 
-pass : (s : ℕ) → 1 ≤ s → s ≤ 5 → segments_pass s ≡ true
-unfolding segments_pass keeps_segments segments_within segment_cells is_segment square_symmetries
-pass = for_sides (λ s. segments_pass s ≡ true) refl refl refl refl refl
+all_kept : (s : ℕ) → 1 ≤ s → s ≤ 5 → list_all (λ g. list_all (keeps s g) (segments s)) (square_symmetries s) ≡ true
+unfolding segment_cells is_segment square_symmetries
+all_kept = for_sides (λ s. list_all (λ g. list_all (keeps s g) (segments s)) (square_symmetries s) ≡ true) refl refl refl refl refl
+
+all_within : (s : ℕ) → 1 ≤ s → s ≤ 5 → list_all (is_within s) (segments s) ≡ true
+unfolding segment_cells is_segment
+all_within = for_sides (λ s. list_all (is_within s) (segments s) ≡ true) refl refl refl refl refl
+
+-- there are at most 128 segments
+pub segments_few : (s : ℕ) → 1 ≤ s → s ≤ 5 → length (segments s) ≤ 128
+unfolding is_segment
+segments_few = for_sides (λ s. length (segments s) ≤ 128) (omega arith) (omega arith) (omega arith) (omega arith) (omega arith)
 
 -- a square has at most 25 cells
 pub square_small : (s : ℕ) → 1 ≤ s → s ≤ 5 → s * s ≤ 25
@@ -110,30 +115,21 @@ pub in_segments : (s m : ℕ) → is_segment s m ≡ true → Contains (segments
 in_segments s m e = filter_to (is_segment s) (range_with_len 0 (move_number_bound s)) m (contains_range (move_number_bound s) m (number_below s m e)) e
 
 module _ (s : ℕ) (low : 1 ≤ s) (high : s ≤ 5) where
-  passed : segments_pass s ≡ true
-  passed = pass s low high
-
-  -- there are at most 128 segments
-  pub segments_few : length (segments s) ≤ 128
-  unfolding segments_pass
-  segments_few = leb-true (length (segments s)) 128 (and_left _ _ passed)
+  within : (m : ℕ) → is_segment s m ≡ true → is_within s m ≡ true
+  within m e = all_at (is_within s) (segments s) m (all_within s low high) (in_segments s m e)
 
   -- the cells of a segment are on the square
   pub cells_within : (m k : ℕ) → is_segment s m ≡ true → Contains (segment_cells s m) k → k < s * s
-  unfolding segments_pass segments_within
-  cells_within m k e c =
-      ltb-true k (s * s)
-      (all_at (λ (j : ℕ). ltb j (s * s)) (segment_cells s m) k
-      (all_at (λ (n : ℕ). list_all (λ (j : ℕ). ltb j (s * s)) (segment_cells s n)) (segments s) m (and_left _ _ (and_right _ _ passed)) (in_segments s m e)) c)
+  cells_within m k e c = ltb-true k (s * s) (all_at (λ (j : ℕ). ltb j (s * s)) (segment_cells s m) k (and_right _ _ (within m e)) c)
 
-  kept : (g : List ℕ) (m : ℕ) → Contains (square_symmetries s) g → is_segment s m ≡ true
-      → are_cells s (permute 0 (segment_cells s m) g) (number_of s (permute 0 (segment_cells s m) g)) ≡ true
-  unfolding segments_pass keeps_segments
+  -- its last cell is
+  pub last_within : (m : ℕ) → is_segment s m ≡ true → last_cell s m < s * s
+  last_within m e = ltb-true _ _ (and_left _ _ (within m e))
+
+  kept : (g : List ℕ) (m : ℕ) → Contains (square_symmetries s) g → is_segment s m ≡ true → keeps s g m ≡ true
   kept g m c e =
-      all_at (λ (n : ℕ). are_cells s (permute 0 (segment_cells s n) g) (number_of s (permute 0 (segment_cells s n) g))) (segments s) m
-      (all_at (λ (h : List ℕ). list_all (λ (n : ℕ). are_cells s (permute 0 (segment_cells s n) h) (number_of s (permute 0 (segment_cells s n) h)))
-      (segments s)) (square_symmetries s) g
-      (and_right _ _ (and_right _ _ passed)) c) (in_segments s m e)
+      all_at (keeps s g) (segments s) m (all_at (λ (h : List ℕ). list_all (keeps s h) (segments s)) (square_symmetries s) g (all_kept s low high) c)
+      (in_segments s m e)
 
 -- ---- what is among the cells of an image
 -- a cell that is among cells is one of them

@@ -3,13 +3,13 @@ use Rattle.std.specs.Prelude.{◌≡◌, ◌-◌, ◌*◌, ◌<◌, ◌≤◌, �
 use Rattle.gm_pieces.specs.Common.{ℕ, Bool, true, false, not, eqb, List, reverse, length, get_or, None, Some, refl, sym, ap}
 use Rattle.gm_pieces.specs.Common.{ap₂, ◌∙◌, subst, arith, inl, inr, eqb-true, eq-eqb, ltb, ltb-true, Contains, range_with_len, cases_Bool}
 use Rattle.gm_pieces.specs.Common.{nat_tests, length-reverse, reverse-reverse, length-replicate, length-range_with_len, Position, Lose, Win, IsPaddedText}
-use Rattle.gm_pieces.specs.Common.{IsNumbered, and_both, all_from, binomial, binomial_small, members, rank, unrank, rank_below, unrank_length, unrank_members}
+use Rattle.gm_pieces.specs.Common.{IsNumbered, and_both, all_from, all_at, ext_get_or, binomial, binomial_small, members, rank, unrank, rank_below, unrank_length, unrank_members}
 use Rattle.gm_pieces.specs.Common.{rank_unrank, unrank_rank, members_le, weight, permute, permute_get, IsGroup, group_length, image_length, image_sum}
 use Rattle.gm_pieces.specs.Common.{square_symmetries, square_group, range_in, board_game, move_rules, IsMoveGame, IsMoveSymmetric, permuted_group}
 use Rattle.gm_tactix.specs.Segments.{segment_cells}
 use Rattle.gm_tactix.specs.Board.{has_counter, is_full, without, can_take, play, tactix_name, counters_index, counters_at, side_of, tactix}
 use Rattle.gm_tactix.specs.laws.SegmentFacts.{for_sides, square_small, number_below, length_bounds, cells_within, segment_image, among_in, among_from}
-use Rattle.gm_tactix.specs.laws.CounterFacts.{same_board, length_without, without_at, full_at, members_weight, members_reverse}
+use Rattle.gm_tactix.specs.laws.CounterFacts.{length_without, without_at, members_weight, members_reverse}
 use Rattle.gm_tactix.specs.laws.MoveFacts.{range_from, range_ascending, move_in, move_from, moves_few, play_length, play_members, undone, redone, befores_few}
 
 -- ---- numbering
@@ -111,10 +111,10 @@ module _ (s : ℕ) (low : 1 ≤ s) (high : s ≤ 5) where
       all_from (has_counter image) ds (λ k f.
       let l : k < s * s = cells_within s low high x.0 k x.1 f in
       let there : Contains cs (get_or g k 0) = among_in (get_or g k 0) cs (sym (x.2 k l) ∙ among_from k ds f) in
-      image_at g b k c l ∙ full_at b cs (get_or g k 0) v.1 there) in (
+      image_at g b k c l ∙ all_at (has_counter b) cs (get_or g k 0) v.1 there) in (
         x.0,
         move_from s image x.0 x.1 full,
-        same_board (without image ds) (permute false g (without b cs))
+        ext_get_or false (without image ds) (permute false g (without b cs))
             (length_without image ds ∙ long ∙ sym (image_length false (s * s) (square_symmetries s) group g c (without b cs)))
             (λ k l. let h : k < s * s = omega (arith, length_without image ds, long) in
             without_at image ds k

@@ -1,46 +1,33 @@
 -- The pictures satisfy the laws of pictures.
-use Rattle.std.proofs.Common.{◌≡◌, ℕ, ◌*◌, ◌<◌, ◌≤◌, Bool, true, false, ◌&&◌, eqb, ltb, ltb-true, refl, sym, subst, ◌∙◌, inl, inr}
-use Rattle.std.specs.List.{list_all}
+use Rattle.std.proofs.Common.{◌≡◌, ℕ, ◌*◌, ◌≤◌, Bool, true, false, eqb, refl, sym, subst, ◌∙◌, inl, inr}
 use Rattle.std.proofs.lemmas.Bool.{cases_Bool, cond-true, cond-false}
 use Rattle.gm_board.specs.Squares.{cell_text}
-use Rattle.gm_board.specs.laws.Lists.{and_left, and_right}
-use Rattle.gm_board.specs.laws.Permutations.{all_at}
 use Rattle.gm_pieces.specs.laws.MoveLaws.{move_in}
 use Rattle.gm_draw.specs.Points.{square_points, IsPointWord}
 use Rattle.gm_draw.specs.Pictured.{IsMoveWord, IsPictured}
 use Rattle.gm_draw.specs.laws.Points.{one_point, two_points}
 use Rattle.gm_draw.specs.laws.Templates.{is_set, pictured_by}
-use Rattle.gm_tactix.specs.Segments.{first_cell, segment_length, is_segment, segments}
+use Rattle.gm_tactix.specs.Segments.{first_cell, segment_length, is_segment}
 use Rattle.gm_tactix.specs.Board.{side_of, counters_at, tactix, tactix_rules}
 use Rattle.gm_tactix.specs.TactixPicture.{tactix_board, tactix_picture}
 use Rattle.gm_tactix.specs.Texts.{last_cell, segment_text, position_text, move_text}
-use Rattle.gm_tactix.specs.laws.SegmentFacts.{for_sides, in_segments}
+use Rattle.gm_tactix.specs.laws.SegmentFacts.{for_sides, first_within, last_within}
 use Rattle.gm_tactix.specs.laws.MoveFacts.{move_in as segment_in}
 use Rattle.gm_tactix.specs.laws.TactixLaws.{board_length, side_low, side_high}
 use Rattle.gm_tactix.specs.laws.TextLaws.{text_length, texts_readable}
 
--- a picture of each side, and both ends of each segment on the square
-abbrev ends_within : ℕ → ℕ → Bool
-ends_within s m = ltb (first_cell m) (s * s) && ltb (last_cell s m) (s * s)
-
-abbrev side_test : ℕ → Bool
-side_test s = is_set (s * s) (tactix_picture s false) && (is_set (s * s) (tactix_picture s true) && list_all (ends_within s) (segments s))
-
-each_side : (s : ℕ) → 1 ≤ s → s ≤ 5 → side_test s ≡ true
-unfolding tactix_picture tactix_board square_points is_segment
-each_side = for_sides (λ s. side_test s ≡ true) refl refl refl refl refl
-
+-- a picture of each side
 tactix_set : (s : ℕ) (misere : Bool) → 1 ≤ s → s ≤ 5 → is_set (s * s) (tactix_picture s misere) ≡ true
-tactix_set s false low high = and_left _ _ (each_side s low high)
-tactix_set s true low high = and_left _ _ (and_right _ _ (each_side s low high))
+unfolding tactix_picture tactix_board square_points
+tactix_set s false low high = for_sides (λ s. is_set (s * s) (tactix_picture s false) ≡ true) refl refl refl refl refl s low high
+tactix_set s true low high = for_sides (λ s. is_set (s * s) (tactix_picture s true) ≡ true) refl refl refl refl refl s low high
 
 segment_words : (s m : ℕ) (misere : Bool) → 1 ≤ s → s ≤ 5 → is_segment s m ≡ true → IsMoveWord (tactix_picture s misere).style (tactix_picture s misere).points
     (segment_text s m)
 unfolding segment_text tactix_picture square_points
 segment_words s m misere low high e =
-    let w = all_at (ends_within s) (segments s) m (and_right _ _ (and_right _ _ (each_side s low high))) (in_segments s m e) in
-    let first : first_cell m < s * s = ltb-true _ _ (and_left _ _ w) in
-    let last : last_cell s m < s * s = ltb-true _ _ (and_right _ _ w) in
+    let first = first_within s m e in
+    let last = last_within s low high m e in
     elim (cases_Bool (eqb (segment_length m) 1)) [
       | inl f ↦ subst (IsPointWord (square_points s)) (sym (cond-true _ _ _ f)) (one_point (cell_text s) (s * s) (first_cell m) first)
       | inr f ↦ subst (IsPointWord (square_points s)) (sym (cond-false _ _ _ f)) (two_points (cell_text s) (s * s) (first_cell m) (last_cell s m) first last)

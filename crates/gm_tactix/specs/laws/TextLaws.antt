@@ -3,9 +3,9 @@ use Rattle.std.specs.Prelude.{◌≡◌, ◌+◌, ◌-◌, ◌*◌, ◌≤◌, �
 use Rattle.gm_pieces.specs.Common.{ℕ, Bool, true, false, cond, eqb, eqb-true, List, [], length, refl, sym, ap, ◌∙◌, arith, list_all, cond_both, length-map}
 use Rattle.gm_pieces.specs.Common.{is_plain, IsPlain, IsShown, plain_map, and_left, and_right, all_at, cell_text, map_once, AreTexts, texts_are_shown}
 use Rattle.gm_tactix.specs.Segments.{first_cell, segment_length, is_segment, segments}
-use Rattle.gm_tactix.specs.Board.{side_of, tactix, tactix_rules}
+use Rattle.gm_tactix.specs.Board.{side_of, can_take, tactix, tactix_rules}
 use Rattle.gm_tactix.specs.laws.SegmentFacts.{for_sides, square_small, in_segments}
-use Rattle.gm_tactix.specs.laws.MoveFacts.{move_in}
+use Rattle.gm_tactix.specs.laws.MoveFacts.{take_segment}
 use Rattle.gm_tactix.specs.laws.TactixLaws.{numbered, side_low, side_high}
 use Rattle.gm_tactix.specs.Texts.{counter_text, board_text, last_cell, segment_text, position_text, move_text}
 
@@ -44,28 +44,9 @@ number_in_text s cs = 0
 abbrev pub text_passes : ℕ → ℕ → Bool
 text_passes s m = eqb (number_in_text s (segment_text s m)) m && list_all is_plain (segment_text s m)
 
--- whether the test passes for each segment
-unfoldable pub texts_pass : ℕ → Bool
-texts_pass s = list_all (text_passes s) (segments s)
-
-each_passes : (s : ℕ) → 1 ≤ s → s ≤ 5 → texts_pass s ≡ true
-unfolding texts_pass segment_text is_segment
-each_passes = for_sides (λ s. texts_pass s ≡ true) refl refl refl refl refl
-
-passes : (s m : ℕ) → 1 ≤ s → s ≤ 5 → is_segment s m ≡ true → text_passes s m ≡ true
-unfolding texts_pass
-passes s m low high e = all_at (text_passes s) (segments s) m (each_passes s low high) (in_segments s m e)
-
-number_back : (s m : ℕ) → 1 ≤ s → s ≤ 5 → is_segment s m ≡ true → number_in_text s (segment_text s m) ≡ m
-number_back s m low high e = eqb-true _ _ (and_left _ _ (passes s m low high e))
-
--- the text of a segment is plain
-pub segment_plain : (s m : ℕ) → 1 ≤ s → s ≤ 5 → is_segment s m ≡ true → IsPlain (segment_text s m)
-segment_plain s m low high e = and_right _ _ (passes s m low high e)
-
--- segments with the same text are the same
-pub segment_once : (s m n : ℕ) → 1 ≤ s → s ≤ 5 → is_segment s m ≡ true → is_segment s n ≡ true → segment_text s m ≡ segment_text s n → m ≡ n
-segment_once s m n low high e f g = sym (number_back s m low high e) ∙ ap (number_in_text s) g ∙ number_back s n low high f
+each_passes : (s : ℕ) → 1 ≤ s → s ≤ 5 → list_all (text_passes s) (segments s) ≡ true
+unfolding segment_text is_segment
+each_passes = for_sides (λ s. list_all (text_passes s) (segments s) ≡ true) refl refl refl refl refl
 
 -- the text of a segment has at most five bytes
 pub segment_short : (s m : ℕ) → length (segment_text s m) ≤ 5
@@ -75,15 +56,23 @@ segment_short s m =
     (λ (t : List ℕ). length t ≤ 5) (λ e. omega arith) (λ e. omega arith)
 
 -- ---- the laws of texts
-pub readable : (s : ℕ) (misere : Bool) → 1 ≤ s → s ≤ 5 → AreTexts (tactix s misere) board_text (λ t m. segment_text s m)
-readable s misere low high = record {
-  text_plain = λ b l. text_plain b;
-  text_fits = λ b l. let a = text_length b in let e = eqb-true _ _ l in let few = square_small s low high in omega (arith, a, e, few);
-  text_once = λ a b l k e. text_once a b e;
-  step_plain = λ b m l h. segment_plain s m low high (move_in s b m h.can).0;
-  step_fits = λ b m l h. let short = segment_short s m in omega (arith, short);
-  step_once = λ b m n l h k e. segment_once s m n low high (move_in s b m h.can).0 (move_in s b n k.can).0 e;
-}
+module _ (s : ℕ) (low : 1 ≤ s) (high : s ≤ 5) where
+  passes : (b : List Bool) (m : ℕ) → can_take s b m ≡ true → text_passes s m ≡ true
+  passes b m h = all_at (text_passes s) (segments s) m (each_passes s low high) (in_segments s m (take_segment s b m h))
+
+  -- the number of a move comes back from its text
+  number_back : (b : List Bool) (m : ℕ) → can_take s b m ≡ true → number_in_text s (segment_text s m) ≡ m
+  number_back b m h = eqb-true _ _ (and_left _ _ (passes b m h))
+
+  pub readable : (misere : Bool) → AreTexts (tactix s misere) board_text (λ t m. segment_text s m)
+  readable misere = record {
+    text_plain = λ b l. text_plain b;
+    text_fits = λ b l. let a = text_length b in let e = eqb-true _ _ l in let few = square_small s low high in omega (arith, a, e, few);
+    text_once = λ a b l k e. text_once a b e;
+    step_plain = λ b m l h. and_right _ _ (passes b m h.can);
+    step_fits = λ b m l h. let short = segment_short s m in omega (arith, short);
+    step_once = λ b m n l h k e. sym (number_back b m h.can) ∙ ap (number_in_text s) e ∙ number_back b n k.can;
+  }
 
 -- the laws of texts, for positions and their moves in the game for any N
 pub texts_readable : (n : ℕ) (misere : Bool) → IsShown (tactix_rules n misere) (position_text n) (move_text n)
@@ -91,4 +80,4 @@ texts_readable n misere =
     let s = side_of n in
     let low = side_low n in
     let high = side_high n in
-    texts_are_shown (tactix s misere) board_text (λ t m. segment_text s m) (numbered s low high misere) (readable s misere low high)
+    texts_are_shown (tactix s misere) board_text (λ t m. segment_text s m) (numbered s low high misere) (readable s low high misere)

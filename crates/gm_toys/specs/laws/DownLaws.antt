@@ -1,7 +1,6 @@
 -- Countdown and Chain have the laws of a game.
 use Rattle.std.proofs.Common.{ℕ, ◌<◌, ◌^◌, Bool, true, false, if◌then◌else◌, List, refl, arith}
-use Rattle.gm_game.specs.Laws.{IsGame}
-use Rattle.gm_game.specs.Rules.{Rules}
+use Rattle.gm_toys.specs.Lower.{IsGame, Rules}
 use Rattle.gm_toys.specs.Subtraction.{subtraction}
 use Rattle.gm_toys.specs.Countdown.{countdown_name}
 use Rattle.gm_toys.specs.Chain.{chain_name}

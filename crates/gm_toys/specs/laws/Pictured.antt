@@ -1,10 +1,8 @@
 -- The pictures satisfy the laws of pictures.
 use Rattle.std.proofs.Common.{ℕ, ◌+◌, min, List, refl, arith}
-use Rattle.std.specs.Fmt.{decimal, digits}
+use Rattle.gm_toys.specs.Lower.{decimal, IsPictured, one_point, AreNumbers, AreRowed, rowed, row_pictured}
+use Rattle.std.specs.Fmt.{digits}
 use Rattle.gm_draw.specs.Points.{number_points}
-use Rattle.gm_draw.specs.Pictured.{IsPictured}
-use Rattle.gm_draw.specs.laws.Points.{one_point}
-use Rattle.gm_draw.specs.laws.Rows.{AreNumbers, AreRowed, rowed, row_pictured}
 use Rattle.gm_toys.specs.Subtraction.{subtraction, number_text, step_text}
 use Rattle.gm_toys.specs.Countdown.{countdown, countdown_name}
 use Rattle.gm_toys.specs.Takeaway.{takeaway, takeaway_name}

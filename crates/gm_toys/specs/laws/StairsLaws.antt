@@ -1,17 +1,9 @@
 -- Stairs has the laws of a game, and its texts can be read back.
 use Rattle.std.proofs.Common.{◌≡◌, ℕ, ◌+◌, ◌-◌, ◌<◌, ◌≤◌, ◌^◌, inl, inr, min, Bool, true, false, [], ◌&&◌, eqb, length, refl, None, arith, sym, ap, subst, ◌∙◌}
-use Rattle.std.specs.Prelude.{nat_le, nat_lt}
-use Rattle.std.proofs.lemmas.Bool.Decides.{nat_tests}
-use Rattle.std.proofs.lemmas.List.FromFn.{length-range_with_len}
-use Rattle.std.specs.List.{Contains}
-use Rattle.gm_game.specs.declared.position.Position.{Position}
-use Rattle.gm_game.specs.Laws.{IsGame}
-use Rattle.gm_game.specs.Shown.{IsShown}
-use Rattle.gm_game.specs.Rules.{at, children, IsAscending, IsCanonical, IsCanonicalChild, IsParent}
-use Rattle.gm_game.proofs.Lists.{contains_none, contains_first, contains_cases, map_in, map_from}
-use Rattle.gm_game.proofs.SetLemmas.{same_position}
+use Rattle.gm_toys.specs.Lower.{nat_le, nat_lt, nat_tests, length-range_with_len, Contains, Position, IsGame, IsShown, at, IsAscending, IsCanonical}
+use Rattle.gm_toys.specs.Lower.{IsCanonicalChild, IsParent, contains_none, contains_first, contains_cases, same_position}
 use Rattle.gm_toys.specs.Subtraction.{moves_down, step_text}
-use Rattle.gm_toys.specs.laws.SubtractionLaws.{range_in, range_from, range_ascending, no_moves, some_moves, decimals_readable}
+use Rattle.gm_toys.specs.laws.SubtractionLaws.{child_in, child_from, range_in, range_from, range_ascending, no_moves, some_moves, decimals_readable}
 use Rattle.gm_toys.specs.Stairs.{stairs, only_if, tier_below, position_above, tier_text}
 
 -- what is in a list of at most one number
@@ -68,20 +60,6 @@ above_in n c t i h =
 above_from : (n c t i : ℕ) → t ≡ c + 1 → t ≤ n → i ≡ 0 → Contains (position_above n c t) i
 above_from n c t i e l z = subst (λ x. Contains (position_above n c t) x) (sym z) (only_from (eqb t (c + 1) && nat_le t n) 0 (grind (arith, nat_tests)))
 
--- a canonical child comes from a move
-child_in : (n t i : ℕ) (c : Position) → IsCanonicalChild (stairs n) (at t i) c → (0 < t) × (at (t - 1) i ≡ c)
-child_in n t i c h =
-    let r = stairs n in
-    let (d, k, e) = map_in r.canonical (children r (at t i)) c h in
-    let (m, j, f) = map_in (r.play (at t i)) (moves_down 1 t) d k in
-    let (one, l) = step_in t m j in
-    (l, ap (λ (x : ℕ). at (t - x) i) (sym one) ∙ (f ∙ e))
-
-child_from : (n t i : ℕ) → 0 < t → IsCanonicalChild (stairs n) (at t i) (at (t - 1) i)
-child_from n t i l =
-    let r = stairs n in
-    map_from r.canonical (children r (at t i)) (at (t - 1) i) (map_from (r.play (at t i)) (moves_down 1 t) 1 (step_from t l))
-
 parents_in : (n : ℕ) (c : Position) (t i : ℕ) → IsCanonical (stairs n) c → Contains ((stairs n).parents c t) i → IsParent (stairs n) c t i
 parents_in n c t i k h =
     let r = stairs n in
@@ -90,14 +68,16 @@ parents_in n c t i k h =
     let down : t - 1 ≡ c.tier = omega arith in
     let back : at (t - 1) i ≡ c = same_position (at (t - 1) i) c down (z ∙ sym ci) in (
       record { legal = stairs_legal_from n t i high z; canonical = refl; unended = unended_from n t i (omega arith) },
-      subst (IsCanonicalChild r (at t i)) back (child_from n t i (omega arith)),
+      subst (IsCanonicalChild r (at t i)) back
+          (child_from r (at t i) 1 (step_from t (omega arith))),
     )
 
 parents_from : (n : ℕ) (c : Position) (t i : ℕ) → IsParent (stairs n) c t i → Contains ((stairs n).parents c t) i
 parents_from n c t i (inner, child) =
     let (high, z) = stairs_legal_in n (at t i) inner.legal in
-    let (l, e) = child_in n t i c child in
-    let down : t - 1 ≡ c.tier = ap (λ (p : Position). p.tier) e in
+    let (m, k, e) = child_in (stairs n) (at t i) c child in
+    let (one, up) = step_in t m k in
+    let down : t - m ≡ c.tier = ap (λ (p : Position). p.tier) e in
     above_from n c.tier t i (omega arith) high z
 
 -- the laws of a game hold

@@ -1,21 +1,10 @@
 -- Subtraction games have the laws of a game, and their texts can be read back.
 use Rattle.std.proofs.Common.{◌≡◌, ℕ, zero, suc, ◌+◌, ◌-◌, ◌<◌, ◌≤◌, ◌^◌, inl, min, true, false, eqb, if◌then◌else◌, List, [], ◌∷◌, ◌++◌, length, refl, None}
 use Rattle.std.proofs.Common.{arith, sym, ap, subst, ◌∙◌}
-use Rattle.std.proofs.lemmas.Bool.Decides.{nat_tests}
-use Rattle.std.proofs.lemmas.Grind.{common_steps}
+use Rattle.gm_toys.specs.Lower.{nat_tests, common_steps, length-range_with_len, get_or-range_with_len, Contains, range_with_len, decimal, Position, MOVES, NAME}
+use Rattle.gm_toys.specs.Lower.{IsGame, IsShown, IsPaddedText, Rules, at, children, IsAscending, IsCanonical, IsCanonicalChild, IsParent, map_in, map_from}
+use Rattle.gm_toys.specs.Lower.{plain_decimal, same_position}
 use Rattle.std.proofs.lemmas.Fmt.{length-decimal-le, decimal_injective}
-use Rattle.std.proofs.lemmas.List.FromFn.{length-range_with_len, get_or-range_with_len}
-use Rattle.std.specs.List.{Contains, range_with_len}
-use Rattle.std.specs.Fmt.{decimal}
-use Rattle.gm_game.specs.declared.position.Position.{Position}
-use Rattle.gm_game.specs.declared.limits.TheConstants.{MOVES, NAME}
-use Rattle.gm_game.specs.Laws.{IsGame}
-use Rattle.gm_game.specs.Shown.{IsShown}
-use Rattle.gm_game.specs.Texts.{IsPaddedText}
-use Rattle.gm_game.specs.Rules.{Rules, at, children, IsAscending, IsCanonical, IsCanonicalChild, IsParent}
-use Rattle.gm_game.proofs.Lists.{map_in, map_from}
-use Rattle.gm_game.proofs.PlainTexts.{plain_decimal}
-use Rattle.gm_game.proofs.SetLemmas.{same_position}
 use Rattle.gm_toys.specs.Subtraction.{moves_down, numbers_above, subtraction, number_text, step_text}
 
 -- the numbers of a range
@@ -37,6 +26,9 @@ range_push a (suc n) =
     let e : suc n + 1 ≡ suc (n + 1) = omega arith in
     let f : a + 1 + n ≡ a + suc n = omega arith in
     rw e (ap (λ (xs : List ℕ). a ∷ xs) (range_push (a + 1) n ∙ ap (λ (x : ℕ). range_with_len (a + 1) n ++ x ∷ []) f))
+
+pub range_length : (xs : List ℕ) (a n : ℕ) → xs ≡ range_with_len a n → length xs ≡ n
+range_length xs a n e = ap (λ (ys : List ℕ). length ys) e ∙ length-range_with_len a n
 
 pub range_ascending : (a n : ℕ) → IsAscending (range_with_len a n)
 range_ascending a zero = tt
@@ -75,18 +67,14 @@ up_above name most n c t =
     [ true ↦ range_ascending (c.index + 1) (min most (n - c.index)) | false ↦ tt ]
 
 -- a canonical child comes from a move
-child_in : (name : List ℕ) (most n t i : ℕ) (c : Position) → IsCanonicalChild (subtraction name most n) (at t i) c → (m : ℕ) × Contains (moves_down most i)
-    m × (at t (i - m) ≡ c)
-child_in name most n t i c h =
-    let r = subtraction name most n in
-    let (d, k, e) = map_in r.canonical (children r (at t i)) c h in
-    let (m, j, f) = map_in (r.play (at t i)) (moves_down most i) d k in
-    (m, j, f ∙ e)
+pub child_in : (r : Rules) (p c : Position) → IsCanonicalChild r p c → (m : ℕ) × Contains (r.moves p) m × (r.canonical (r.play p m) ≡ c)
+child_in r p c h =
+    let (d, k, e) = map_in r.canonical (children r p) c h in
+    let (m, j, f) = map_in (r.play p) (r.moves p) d k in
+    (m, j, ap r.canonical f ∙ e)
 
-child_from : (name : List ℕ) (most n t i m : ℕ) → Contains (moves_down most i) m → IsCanonicalChild (subtraction name most n) (at t i) (at t (i - m))
-child_from name most n t i m k =
-    let r = subtraction name most n in
-    map_from r.canonical (children r (at t i)) (at t (i - m)) (map_from (r.play (at t i)) (moves_down most i) m k)
+pub child_from : (r : Rules) (p : Position) (m : ℕ) → Contains (r.moves p) m → IsCanonicalChild r p (r.canonical (r.play p m))
+child_from r p m k = map_from r.canonical (children r p) (r.play p m) (map_from (r.play p) (r.moves p) m k)
 
 parents_in : (name : List ℕ) (most n : ℕ) (c : Position) (t i : ℕ) → IsCanonical (subtraction name most n) c → Contains
     ((subtraction name most n).parents c t) i → IsParent (subtraction name most n) c t i
@@ -98,7 +86,7 @@ parents_in name most n c t i k h =
     let away : i - (i - c.index) ≡ c.index = omega arith in
     let back : at t (i - (i - c.index)) ≡ c = same_position (at t (i - (i - c.index))) c (z ∙ sym ct) away in (
       record { legal = legal_from name most n t i z (omega arith); canonical = refl; unended = unended_from name most n t i (omega arith) },
-      subst (IsCanonicalChild r (at t i)) back (child_from name most n t i (i - c.index) (range_from 1 (min most i) (i - c.index) (omega arith) (omega arith))),
+      subst (IsCanonicalChild r (at t i)) back (child_from r (at t i) (i - c.index) (range_from 1 (min most i) (i - c.index) (omega arith) (omega arith))),
     )
 
 parents_from : (name : List ℕ) (most n : ℕ) (c : Position) (t i : ℕ) → IsParent (subtraction name most n) c t i → Contains
@@ -106,7 +94,7 @@ parents_from : (name : List ℕ) (most n : ℕ) (c : Position) (t i : ℕ) → I
 parents_from name most n c t i (inner, child) =
     let r = subtraction name most n in
     let (z, le) = legal_in name most n (at t i) inner.legal in
-    let (m, k, e) = child_in name most n t i c child in
+    let (m, k, e) = child_in r (at t i) c child in
     let (low, high) = range_in 1 (min most i) m k in
     let index : i - m ≡ c.index = ap (λ (p : Position). p.index) e in
     subst (λ (u : ℕ). Contains (r.parents c u) i) (sym z) (range_from (c.index + 1) (min most (n - c.index)) i (omega arith) (omega arith))

@@ -1,18 +1,10 @@
 -- Wheel has the laws of a game, and its texts can be read back.
 use Rattle.std.proofs.Common.{◌≡◌, ◌≢◌, ℕ, zero, suc, ◌<◌, ◌≤◌, inl, Bool, true, false, List, [], length, ◌&&◌, eqb, refl, None, arith, sym, ap, subst, ◌∙◌}
-use Rattle.std.proofs.lemmas.Bool.{and_parts}
-use Rattle.std.proofs.lemmas.Bool.Decides.{nat_tests}
-use Rattle.std.proofs.lemmas.Grind.{common_steps}
-use Rattle.std.specs.Prelude.{nat_lt, if◌then◌else◌}
-use Rattle.std.specs.List.{Contains, list_all, list_any}
-use Rattle.gm_game.specs.declared.position.Position.{Position}
-use Rattle.gm_game.specs.Laws.{IsGame}
-use Rattle.gm_game.specs.Shown.{IsShown}
-use Rattle.gm_game.specs.Rules.{at, children, IsAscending, IsCanonical, IsCanonicalChild, IsParent}
-use Rattle.gm_game.proofs.Lists.{contains_none, map_in, map_from, all_in, any_in}
-use Rattle.gm_game.proofs.SetLemmas.{same_position}
+use Rattle.gm_toys.specs.Lower.{and_parts, nat_tests, common_steps, nat_lt, Contains, list_all, list_any, Position, IsGame, IsShown, at, IsAscending}
+use Rattle.gm_toys.specs.Lower.{IsCanonical, IsCanonicalChild, IsParent, contains_none, all_in, any_in, same_position}
+use Rattle.std.specs.Prelude.{if◌then◌else◌}
 use Rattle.gm_toys.specs.Subtraction.{number_text}
-use Rattle.gm_toys.specs.laws.SubtractionLaws.{decimals_readable}
+use Rattle.gm_toys.specs.laws.SubtractionLaws.{child_in, child_from, decimals_readable}
 use Rattle.gm_toys.specs.Wheel.{wheel, wheel_targets, wheel_sources, wheel_end, target_text}
 
 -- what holds of each of the ten numbers
@@ -96,16 +88,6 @@ few_parents c t l = let few = few_sources c.index l in elim (eqb t 0) as (λ b. 
 parents_up : (c : Position) (t : ℕ) → c.index < 10 → IsAscending (wheel.parents c t)
 parents_up c t l = elim (eqb t 0) as (λ b. IsAscending (if b then wheel_sources c.index else [])) [ true ↦ sources_up c.index l | false ↦ tt ]
 
--- a canonical child comes from a move
-child_in : (t i : ℕ) (c : Position) → IsCanonicalChild wheel (at t i) c → Contains (wheel_targets i) c.index
-child_in t i c h =
-    let (d, k, e) = map_in wheel.canonical (children wheel (at t i)) c h in
-    let (m, j, f) = map_in (wheel.play (at t i)) (wheel_targets i) d k in
-    subst (λ x. Contains (wheel_targets i) x) (ap (λ (p : Position). p.index) (f ∙ e)) j
-
-child_from : (t i m : ℕ) → Contains (wheel_targets i) m → IsCanonicalChild wheel (at t i) (at t m)
-child_from t i m k = map_from wheel.canonical (children wheel (at t i)) (at t m) (map_from (wheel.play (at t i)) (wheel_targets i) m k)
-
 parents_in : (c : Position) (t i : ℕ) → IsCanonical wheel c → Contains (wheel.parents c t) i → IsParent wheel c t i
 parents_in c t i k h =
     let z : t ≡ 0 = own_tier c t i h in
@@ -117,13 +99,14 @@ parents_in c t i k h =
         canonical = refl;
         unended = goes_on i il (λ e. contains_none c.index (subst (λ xs. Contains xs c.index) e m));
       },
-      subst (IsCanonicalChild wheel (at t i)) same (child_from t i c.index m),
+      subst (IsCanonicalChild wheel (at t i)) same (child_from wheel (at t i) c.index m),
     )
 
 parents_from : (c : Position) (t i : ℕ) → IsParent wheel c t i → Contains (wheel.parents c t) i
 parents_from c t i (inner, child) =
     let (z, l) = wheel_legal_in (at t i) inner.legal in
-    let (low, back) = target_in i l c.index (child_in t i c child) in
+    let (m, k, e) = child_in wheel (at t i) c child in
+    let (low, back) = target_in i l c.index (subst (λ x. Contains (wheel_targets i) x) (ap (λ (p : Position). p.index) e) k) in
     subst (λ (u : ℕ). Contains (wheel.parents c u) i) (sym z) back
 
 -- the laws of a game hold

@@ -1,24 +1,11 @@
 -- Boards of points: numbers of pieces, lines, and what images keep of them.
 use Rattle.std.specs.Prelude.{◌≡◌}
-use Rattle.gm_pieces.specs.Common.{ℕ, Bool, true, false, cond, eqb-true, eq-eqb, List, length, None, Some, refl, sym, ap, ◌∙◌, Contains, cond-false}
-use Rattle.gm_pieces.specs.Common.{true≢false, Lose, Cell, Empty, and_left, and_right, and_both, is_mine, is_theirs, image_length, has_filled, filled_image}
-use Rattle.gm_pieces.specs.Common.{permute, image_number, HasNumbers}
+use Rattle.gm_pieces.specs.Common.{ℕ, Bool, true, false, cond, eqb-true, eq-eqb, List, length, None, Some, refl, sym, ap, ◌∙◌, Contains, cond-false, true≢false}
+use Rattle.gm_pieces.specs.Common.{Lose, Cell, Empty, and_left, and_right, and_both, is_mine, is_theirs, image_length, has_filled, filled_image, permute}
+use Rattle.gm_pieces.specs.Common.{image_number, HasNumbers}
 use Rattle.gm_ways.specs.Ways.{WayGame, has_numbers, legal, end_by_last_move}
 use Rattle.gm_ways.specs.WayTables.{IsWayGame}
 use Rattle.gm_ways.specs.laws.WayFacts.{group}
-
--- ---- numbers of pieces
--- what holds if the test is passed
-pub numbers_in : (n m t : ℕ) (b : List Cell) → has_numbers n m t b ≡ true → HasNumbers n m t b
-unfolding has_numbers
-numbers_in n m t b l =
-    let r = and_right _ _ l in
-    record { cells = eqb-true _ _ (and_left _ _ l); own = eqb-true _ _ (and_left _ _ r); other = eqb-true _ _ (and_right _ _ r) }
-
--- if that holds, the test is passed
-pub numbers_from : (n m t : ℕ) (b : List Cell) → HasNumbers n m t b → has_numbers n m t b ≡ true
-unfolding has_numbers
-numbers_from n m t b h = and_both _ _ (eq-eqb _ _ h.cells) (and_both _ _ (eq-eqb _ _ h.own) (eq-eqb _ _ h.other))
 
 -- ---- legal boards
 pub record IsLegal (n : ℕ) (g : WayGame) (b : List Cell) : Type 0 where
@@ -31,22 +18,26 @@ unless false y e = (refl, e)
 
 -- what holds if the test is passed
 pub legal_in : (n : ℕ) (g : WayGame) (b : List Cell) → legal n g b ≡ true → IsLegal n g b
-unfolding legal
-legal_in n g b l = let u = unless _ _ l in record { numbers = numbers_in n g.pieces g.pieces b u.1; no_line = u.0 }
+unfolding legal has_numbers
+legal_in n g b l =
+    let u = unless _ _ l in
+    let r = and_right _ _ u.1 in
+    record {
+      numbers = record { cells = eqb-true _ _ (and_left _ _ u.1); own = eqb-true _ _ (and_left _ _ r); other = eqb-true _ _ (and_right _ _ r) };
+      no_line = u.0;
+    }
 
 -- if that holds, the test is passed
 pub legal_from : (n : ℕ) (g : WayGame) (b : List Cell) → IsLegal n g b → legal n g b ≡ true
-unfolding legal
-legal_from n g b h = cond-false _ _ _ h.no_line ∙ numbers_from n g.pieces g.pieces b h.numbers
+unfolding legal has_numbers
+legal_from n g b h =
+    let k = h.numbers in
+    cond-false _ _ _ h.no_line ∙ and_both _ _ (eq-eqb _ _ k.cells) (and_both _ _ (eq-eqb _ _ k.own) (eq-eqb _ _ k.other))
 
-line_none : (x : Bool) → cond x (Some Lose) None ≡ None → x ≡ false
+-- if the last move has not ended the game there is no line
+pub line_none : (x : Bool) → cond x (Some Lose) None ≡ None → x ≡ false
 line_none true e = absurd (let z : ⊥ = cc in z)
 line_none false e = refl
-
--- if the last move has not ended the game the opponent has no line
-pub not_over : (g : WayGame) (b : List Cell) → end_by_last_move g b ≡ None → has_filled Empty g.lines is_theirs b ≡ false
-unfolding end_by_last_move
-not_over g b e = line_none _ e
 
 -- ---- images
 module _ (n : ℕ) (g : WayGame) (h : IsWayGame n g) (p : List ℕ) (b : List Cell) (c : Contains g.symmetries p) where

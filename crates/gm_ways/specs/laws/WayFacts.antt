@@ -1,9 +1,8 @@
 -- What the tables of a game on points say.
-use Rattle.std.specs.Prelude.{◌≡◌, ◌*◌, ◌<◌, ◌≤◌, if◌then◌else◌}
-use Rattle.gm_pieces.specs.Common.{ℕ, Bool, true, false, eqb, ltb, eqb-true, eq-eqb, ltb-true, leb-true, List}
-use Rattle.gm_pieces.specs.Common.{[], length, get_or, sym, ap, ◌∙◌, subst, arith, inl, inr, Contains, filter, list_all, list_any, range_with_len}
-use Rattle.gm_pieces.specs.Common.{filter_to, cases_Bool, not, cases_lt, true≢false, get_or_past, is_plain, and_left, and_right, contains_range, all_at, IsGroup, group_from_table, any_at}
-use Rattle.gm_pieces.specs.Common.{from_point, to_point, number_below}
+use Rattle.std.specs.Prelude.{◌≡◌, ◌<◌, if◌then◌else◌}
+use Rattle.gm_pieces.specs.Common.{ℕ, Bool, true, false, eqb, ltb, eqb-true, eq-eqb, ltb-true, List, [], length, get_or, sym, ap, ◌∙◌, subst, arith}
+use Rattle.gm_pieces.specs.Common.{inl, inr, Contains, list_all, list_any, range_with_len, filter_to, cases_Bool, not, cases_lt, true≢false}
+use Rattle.gm_pieces.specs.Common.{get_or_past, is_plain, and_left, and_right, contains_range, all_at, IsGroup, group_from_table, any_at, from_point, to_point}
 use Rattle.std.proofs.lemmas.List.{get_or_default}
 use Rattle.gm_ways.specs.Ways.{WayGame, are_joined}
 use Rattle.gm_ways.specs.WayTables.{IsWayGame, wrong, is_within, is_step, keeps_way, keeps_ways, is_name}
@@ -23,15 +22,12 @@ chosen : (x y : Bool) → (if x then y else true) ≡ true → x ≡ true → y 
 chosen true y e f = e
 chosen false y e f = absurd (true≢false (sym f))
 
-past_none : (ways : List (List ℕ)) (a c : ℕ) → length ways ≤ a → are_joined ways a c ≡ false
-unfolding are_joined
-past_none ways a c l = ap (λ (ks : List ℕ). list_any (λ (k : ℕ). eqb k c) ks) (get_or_past ways a [] l)
-
 -- a way leads from a point that the table has
 from_row : (ways : List (List ℕ)) (a c : ℕ) → are_joined ways a c ≡ true → a < length ways
+unfolding are_joined
 from_row ways a c e = elim (cases_lt a (length ways)) [
   | inl l ↦ l
-  | inr l ↦ absurd (true≢false (sym e ∙ past_none ways a c l))
+  | inr l ↦ absurd (true≢false (sym e ∙ ap (λ (ks : List ℕ). list_any (λ (k : ℕ). eqb k c) ks) (get_or_past ways a [] l)))
 ]
 
 module _ (n : ℕ) (g : WayGame) (h : IsWayGame n g) where
@@ -48,13 +44,9 @@ module _ (n : ℕ) (g : WayGame) (h : IsWayGame n g) where
       let row = and_right (ltb a n) _ (passes (length g.ways) (is_within n g.ways) h.ways a (from_row g.ways a c e)) in
       subst (λ (k : ℕ). k < n) (eqb-true x.0 c x.2) (ltb-true x.0 n (all_at (λ (c : ℕ). ltb c n) (get_or g.ways a []) x.0 row x.1))
 
-  -- the number of a move along a way is below 16 times the number of points
-  pub step_below : (m : ℕ) → is_step g.ways m ≡ true → m < 16 * n
-  step_below m e = number_below m n (joined_from (from_point m) (to_point m) e)
-
-  -- there are at most 128 moves along ways
-  pub steps_few : length (filter (is_step g.ways) (range_with_len 0 (16 * n))) ≤ 128
-  steps_few = leb-true _ _ h.moves
+  -- a move along a way leads from one of the points to one of them
+  pub ends : (m : ℕ) → is_step g.ways m ≡ true → (from_point m < n) × (to_point m < n)
+  ends m e = (joined_from (from_point m) (to_point m) e, joined_to (from_point m) (to_point m) e)
 
   -- ---- symmetries
   -- the symmetries are a group

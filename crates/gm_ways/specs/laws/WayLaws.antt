@@ -1,16 +1,17 @@
 -- A game whose tables are right has the laws of a game.
 use Rattle.std.specs.Prelude.{◌<◌, if◌then◌else◌}
-use Rattle.gm_pieces.specs.Common.{ℕ, eqb, refl, sym, subst, arith, inl, IsNumbered, Empty, arrangements, arrangements_fit, board_game}
-use Rattle.gm_pieces.specs.Common.{IsMoveGame, IsMoveSymmetric, permuted_group, index_below, board_back, index_back}
-use Rattle.gm_ways.specs.Ways.{WayGame, legal, way_game}
+use Rattle.gm_pieces.specs.Common.{ℕ, eqb, refl, sym, subst, arith, inl, IsNumbered, Empty, arrangements, arrangements_fit, board_game, IsMoveGame}
+use Rattle.gm_pieces.specs.Common.{IsMoveSymmetric, steps, permuted_group, index_below, board_back, index_back}
+use Rattle.gm_ways.specs.Ways.{WayGame, legal, can_move, can_have_led_here, way_game}
 use Rattle.gm_ways.specs.WayTables.{IsWayGame}
 use Rattle.gm_ways.specs.laws.WayFacts.{group}
 use Rattle.gm_ways.specs.laws.WayBoards.{legal_in, image_legal, image_over}
-use Rattle.gm_ways.specs.laws.WayMoves.{moves_few, befores_few, moved_legal, undone, redone, image_move}
+use Rattle.gm_ways.specs.laws.WayMoves.{few, move_joined, led_joined, moved_legal, undone, redone, image_move}
 
 module _ (n : ℕ) (g : WayGame) (h : IsWayGame n g) where
   -- the laws of moves
   pub way_lawful : IsMoveGame (way_game n g)
+  unfolding steps
   way_lawful = record {
     name_length = h.name_length;
     name_text = h.name_text;
@@ -22,8 +23,8 @@ module _ (n : ℕ) (g : WayGame) (h : IsWayGame n g) where
     child_tiers_ascending = λ t. tt;
     undone = λ b m l k. undone n g h b m (legal_in n g b l).numbers.cells k.can;
     redone = λ t d m l w k e i. redone g d m w;
-    moves_few = λ b l. moves_few n g h b;
-    befores_few = λ t d l. befores_few n g h d;
+    moves_few = λ b l. few n g h (can_move g b) (move_joined g b);
+    befores_few = λ t d l. few n g h (can_have_led_here g d) (led_joined g d);
     child_tiers_few = λ t. omega arith;
   }
 

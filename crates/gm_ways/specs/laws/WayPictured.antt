@@ -1,20 +1,9 @@
 -- The pictures of games on points satisfy the laws of pictures.
-use Rattle.std.proofs.Common.{◌≡◌, ℕ, ◌<◌, true, List, [], ◌∷◌, refl, sym, subst, ◌∙◌}
+use Rattle.std.proofs.Common.{◌≡◌, ℕ, true, List, [], ◌∷◌, refl, sym, subst, ◌∙◌}
 use Rattle.std.specs.List.{Contains}
-use Rattle.gm_game.specs.declared.position.Position.{Position}
-use Rattle.gm_game.proofs.BoardLaws.{legal_board}
+use Rattle.gm_ways.specs.Lower.{Position, legal_board, board_numbered, from_point, to_point, move_in, text_length, Style, Discs, PictureSpec, IsPointWord}
+use Rattle.gm_ways.specs.Lower.{IsMoveWord, IsPictured, two_points, is_set, pictured_by}
 use Rattle.gm_pieces.specs.MoveGames.{board_game}
-use Rattle.gm_pieces.specs.Sides.{board_numbered}
-use Rattle.gm_pieces.specs.Steps.{from_point, to_point}
-use Rattle.gm_pieces.specs.laws.MoveLaws.{move_in}
-use Rattle.gm_pieces.specs.laws.SideTextFacts.{text_length}
-use Rattle.gm_draw.specs.declared.pictured.Style.{Style}
-use Rattle.gm_draw.specs.declared.pictured.Style.TheVariants.{Discs}
-use Rattle.gm_draw.specs.Pictures.{PictureSpec}
-use Rattle.gm_draw.specs.Points.{IsPointWord}
-use Rattle.gm_draw.specs.Pictured.{IsMoveWord, IsPictured}
-use Rattle.gm_draw.specs.laws.Points.{two_points}
-use Rattle.gm_draw.specs.laws.Templates.{is_set, pictured_by}
 use Rattle.gm_ways.specs.Ways.{WayGame, way_game, way_rules}
 use Rattle.gm_ways.specs.WayTables.{IsWayGame}
 use Rattle.gm_ways.specs.WayTexts.{step_text as way_step, way_text, way_move_text}
@@ -22,24 +11,19 @@ use Rattle.gm_ways.specs.ShisimaRules.{shisima}
 use Rattle.gm_ways.specs.TapatanRules.{tapatan}
 use Rattle.gm_ways.specs.WayPictures.{way_points, shisima_picture, tapatan_picture}
 use Rattle.gm_ways.specs.laws.WayBoards.{legal_in as legal_way}
-use Rattle.gm_ways.specs.laws.WayFacts.{joined_from, joined_to}
-use Rattle.gm_ways.specs.laws.WayMoves.{move_in as way_in}
+use Rattle.gm_ways.specs.laws.WayFacts.{ends}
+use Rattle.gm_ways.specs.laws.WayMoves.{move_joined}
 use Rattle.gm_ways.specs.laws.WayTextLaws.{way_shown}
-use Rattle.gm_ways.specs.laws.ShisimaTables.{tables as shisima_tables}
-use Rattle.gm_ways.specs.laws.TapatanTables.{tables as tapatan_tables}
+use Rattle.gm_ways.specs.laws.Tables.{shisima_tables, tapatan_tables}
 
 -- the words of moves are two points
-way_step_words : (n : ℕ) (g : WayGame) (m : ℕ) → from_point m < n → to_point m < n → IsPointWord (way_points n g.point_char)
-    (way_step g.point_char m)
-unfolding way_step way_points
-way_step_words n g m l h = two_points (λ k. g.point_char k ∷ []) n (from_point m) (to_point m) l h
-
 way_words : (n : ℕ) (g : WayGame) → IsWayGame n g → (p : Position) (m : ℕ) → (way_rules n g).is_legal p ≡ true → Contains ((way_rules n g).moves p) m
     → IsPointWord (way_points n g.point_char) (way_move_text g p m)
+unfolding way_step way_points
 way_words n g h p m l c =
     let b = board_numbered n g.pieces g.pieces p.index in
-    let joined = (way_in g b m (move_in (way_game n g) b m c).can).joined in
-    way_step_words n g m (joined_from n g h (from_point m) (to_point m) joined) (joined_to n g h (from_point m) (to_point m) joined)
+    let w = ends n g h m (move_joined g b m (move_in (way_game n g) b m c).can) in
+    two_points (λ k. g.point_char k ∷ []) n (from_point m) (to_point m) w.0 w.1
 
 -- what is shown of a picture of a game
 abbrev pub IsWayPictured : ℕ → WayGame → PictureSpec → Type 0

@@ -1,5 +1,4 @@
-use Rattle.gamesman.proofs.Lower.{None, inr, sym, subst, err_from_is_err_and, AreAnalysisLines, IsUnsearched}
-use Rattle.gamesman.specs.Analysing.{IsAnalysisText}
+use Rattle.gamesman.proofs.Lower.{None, inr, sym, subst, err_from_is_err_and, AreAnalysisLines, IsUnsearched, IsAnalysisText}
 use Rattle.gamesman.proofs.Telling.{unbuilt_told, put_told}
 use Rattle.gamesman.proofs.analyse.analyse.Goals as goal
 

@@ -1,6 +1,4 @@
-use Rattle.gamesman.proofs.Lower.{◌≡◌, ℕ, List, Some, Result, Ok, Err, sym, subst, if◌then◌else◌, on_ok_weaker, IsAnalysisLine}
-use Rattle.std.specs.Prelude.{OnOk, is_ok}
-use Rattle.gm_table.specs.Tables.{table_of}
+use Rattle.gamesman.proofs.Lower.{◌≡◌, ℕ, List, Some, Result, Ok, Err, sym, subst, if◌then◌else◌, on_ok_weaker, IsAnalysisLine, OnOk, is_ok, table_of}
 use Rattle.gamesman.proofs.analyse.push_line.Goals as goal
 
 taken : {T E : Type 0} → (r : Result T E) (new more old : List ℕ) → new ≡ (if is_ok r then more else old) → OnOk r (new ≡ more)

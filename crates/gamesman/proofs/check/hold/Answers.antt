@@ -1,6 +1,6 @@
 use Rattle.gamesman.proofs.Checks.{held_with}
-use Rattle.gamesman.proofs.check.hold.Goals as goal
 use Rattle.gamesman.proofs.check.hold.Goals.{in-Ok, in-Err}
+use Rattle.gamesman.proofs.check.hold.Goals as goal
 
 pub returns : goal.returns
 returns g c = elim c.match-insert.branch [

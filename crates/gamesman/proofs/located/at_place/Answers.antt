@@ -1,6 +1,4 @@
-use Rattle.gamesman.proofs.Lower.{inl, inr, sym, subst, err_from_is_err_and, Position, AreAllHeld, OutOfMemory}
-use Rattle.gm_play.specs.PlaceTexts.{IsPositionText}
-use Rattle.gamesman.specs.Searches.{IsAtText, IsUnplaced}
+use Rattle.gamesman.proofs.Lower.{inl, inr, sym, subst, err_from_is_err_and, Position, AreAllHeld, OutOfMemory, IsPositionText, IsAtText, IsUnplaced}
 use Rattle.gamesman.proofs.Telling.{memory_told, memory_unbuilt, unbuilt_told, unknown_told, no_place_told, put_told}
 use Rattle.gamesman.proofs.Reached.{reached_held}
 use Rattle.gamesman.proofs.located.at_place.Goals as goal

@@ -1,10 +1,7 @@
 use Rattle.gamesman.proofs.Lower.{◌≡◌, ℕ, List, Option, None, Some, Result, Ok, Err, IfSome, inl, inr, refl, ap, subst, Bor, err_from_is_err_and, Position}
-use Rattle.gamesman.proofs.Lower.{Rules, IsReadAs, Fault}
-use Rattle.gm_play.specs.PlayTexts.{IsNoPosition}
-use Rattle.gamesman.specs.Plays.{IsFrom, IsFromNone}
+use Rattle.gamesman.proofs.Lower.{Rules, IsReadAs, Fault, IsNoPosition, IsFrom, IsFromNone, PictureSpec}
 use Rattle.gamesman.proofs.Cut.{kept, one_answer}
 use Rattle.gamesman.proofs.play.play.Goals as goal
-use Rattle.gm_draw.specs.Pictures.{PictureSpec}
 
 -- a failed result
 abbrev IsFailed : Result Position Fault → Type 0

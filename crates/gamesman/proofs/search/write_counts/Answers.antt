@@ -1,5 +1,4 @@
-use Rattle.gamesman.proofs.Lower.{None, inr, sym, subst, err_from_is_err_and, IsCountsOf, IsUnsearched}
-use Rattle.gm_analyse.specs.Bars.{IsCountsText}
+use Rattle.gamesman.proofs.Lower.{None, inr, sym, subst, err_from_is_err_and, IsCountsOf, IsUnsearched, IsCountsText}
 use Rattle.gamesman.proofs.Telling.{memory_told, memory_unbuilt, put_told}
 use Rattle.gamesman.proofs.search.write_counts.Goals as goal
 

@@ -1,5 +1,4 @@
-use Rattle.gamesman.proofs.Lower.{None, inr, sym, subst, err_from_is_err_and, IsLongestOf, IsUnsearched}
-use Rattle.gm_analyse.specs.Longest.{IsLongestText}
+use Rattle.gamesman.proofs.Lower.{None, inr, sym, subst, err_from_is_err_and, IsLongestOf, IsUnsearched, IsLongestText}
 use Rattle.gamesman.proofs.Telling.{memory_told, memory_unbuilt, put_told}
 use Rattle.gamesman.proofs.search.write_longest.Goals as goal
 

@@ -1,5 +1,4 @@
-use Rattle.gamesman.proofs.Lower.{None, inr, refl, sym, ◌∙◌, err_from_is_err_and, IsUnsearched}
-use Rattle.gamesman.specs.Solving.{IsReport}
+use Rattle.gamesman.proofs.Lower.{None, inr, refl, sym, ◌∙◌, err_from_is_err_and, IsUnsearched, IsReport}
 use Rattle.gamesman.proofs.Telling.{unbuilt_told, put_told}
 use Rattle.gamesman.proofs.solve.solve.Goals as goal
 

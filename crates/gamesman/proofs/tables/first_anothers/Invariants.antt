@@ -1,5 +1,4 @@
-use Rattle.gamesman.proofs.Lower.{◌≡◌}
-use Rattle.gamesman.specs.Shelves.{failed_in}
+use Rattle.gamesman.proofs.Lower.{◌≡◌, failed_in}
 use Rattle.gamesman.proofs.tables.first_anothers.Given as goal
 
 abbrev pub invariant-loop-tier : goal.invariant-loop-tier

@@ -1,5 +1,5 @@
-use Rattle.gm_analyse.proofs.Lower.{◌≡◌, ◌++◌, take, flat_map, csv_head, csv_row}
+use Rattle.gm_analyse.proofs.Lower.{◌≡◌, ◌++◌, take, flat_map, csv_row}
 use Rattle.gm_analyse.proofs.bars.csv_rows.Given as goal
 
 abbrev pub invariant-loop-x : goal.invariant-loop-x
-invariant-loop-x l = l.rows.items ≡ csv_head l.by_tier ++ flat_map csv_row (take l.x-index l.counts)
+invariant-loop-x l = l.rows.items ≡ l.initial.rows.items ++ flat_map csv_row (take l.x-index l.counts)

@@ -1,5 +1,4 @@
-use Rattle.gm_analyse.proofs.Lower.{◌≡◌, max, take, TierCount}
-use Rattle.std.proofs.Common.{fold}
+use Rattle.gm_analyse.proofs.Lower.{◌≡◌, max, take, TierCount, fold}
 use Rattle.gm_analyse.proofs.bars.most.Given as goal
 
 abbrev pub invariant-loop-x : goal.invariant-loop-x

@@ -1,5 +1,4 @@
-use Rattle.gm_analyse.proofs.Lower.{[], inl, inr, subst, contains_none, contains_cases}
-use Rattle.gm_play.specs.Reached.{AreAllHeld}
+use Rattle.gm_analyse.proofs.Lower.{[], inl, inr, subst, contains_none, contains_cases, AreAllHeld}
 use Rattle.gm_analyse.proofs.by_tier.add_tier.Goals as goal
 
 pub invariant_of-one : goal.invariant_of-one

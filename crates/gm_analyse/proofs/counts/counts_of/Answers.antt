@@ -1,5 +1,4 @@
-use Rattle.gm_analyse.proofs.Lower.{IfOk-from_err, ◌≡◌, sym, subst, arith}
-use Rattle.gm_analyse.specs.Listing.{AreBefore}
+use Rattle.gm_analyse.proofs.Lower.{◌≡◌, sym, subst, arith, AreBefore}
 use Rattle.gm_analyse.proofs.CountLists.{no_counts, value_added}
 use Rattle.gm_analyse.proofs.Lists.{Num, num_once, all_counts}
 use Rattle.gm_analyse.proofs.counts.counts_of.Goals as goal
@@ -20,9 +19,3 @@ returns g c =
     let records = c.args.table.now.records in
     let last : c.loop-value.value-index ≡ 4 = omega arith in
     all_counts records c.loop-value.counts.items (subst (λ n. AreBefore (Num records) n 0 c.loop-value.counts.items) last c.loop-value.invariant)
-
-pub returns-in_err-numbers : goal.returns-in_err-numbers
-returns-in_err-numbers g c = IfOk-from_err c.from_residual.result _ c.from_residual.ensures.0
-
-pub returns-in_err-push_counts : goal.returns-in_err-push_counts
-returns-in_err-push_counts g c = IfOk-from_err c.from_residual-in_err-push_counts.result _ c.from_residual-in_err-push_counts.ensures.0

@@ -1,4 +1,4 @@
-use Rattle.gm_analyse.specs.Listing.{AreBefore}
+use Rattle.gm_analyse.proofs.Lower.{AreBefore}
 use Rattle.gm_analyse.proofs.Lists.{Num}
 use Rattle.gm_analyse.proofs.counts.counts_of.Given as goal
 

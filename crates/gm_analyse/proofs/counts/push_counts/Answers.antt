@@ -1,10 +1,8 @@
-use Rattle.gm_analyse.proofs.Lower.{◌≡◌, ◌+◌, ℕ, List, [], ◌∷◌, ◌++◌, Vec, get_or, sym, ap, ◌∙◌, arith, append-nil, Global, Count}
-use Rattle.std.proofs.Common.{drop}
-use Rattle.std.proofs.lemmas.List.{drop_all, drop_more}
-use Rattle.gm_analyse.specs.Listing.{counted}
+use Rattle.gm_analyse.proofs.Lower.{◌≡◌, ◌+◌, ℕ, List, [], ◌∷◌, ◌++◌, Vec, get_or, sym, ap, ◌∙◌, arith, append-nil, Global, Count, drop, drop_all, counted}
+use Rattle.gm_analyse.proofs.Lower.{drop_more}
 use Rattle.gm_analyse.proofs.CountLists.{one_counted}
-use Rattle.gm_analyse.proofs.counts.push_counts.Goals as goal
 use Rattle.gm_analyse.proofs.counts.push_counts.Goals.{then-number-gt0+in_ok-push, else-number-gt0}
+use Rattle.gm_analyse.proofs.counts.push_counts.Goals as goal
 
 pub loop-remoteness-preserved : goal.loop-remoteness-preserved
 loop-remoteness-preserved c =

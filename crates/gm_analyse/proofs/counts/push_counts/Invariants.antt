@@ -1,6 +1,4 @@
-use Rattle.gm_analyse.proofs.Lower.{◌≡◌, ◌++◌}
-use Rattle.std.proofs.Common.{drop}
-use Rattle.gm_analyse.specs.Listing.{counted}
+use Rattle.gm_analyse.proofs.Lower.{◌≡◌, ◌++◌, drop, counted}
 use Rattle.gm_analyse.proofs.counts.push_counts.Given as goal
 
 abbrev pub invariant-loop-remoteness : goal.invariant-loop-remoteness

@@ -1,4 +1,4 @@
-use Rattle.gm_analyse.proofs.Lower.{IsLongestWin}
+use Rattle.gm_analyse.specs.LongestWins.{IsLongestWin}
 use Rattle.gm_analyse.proofs.longest.longest_win.Given as goal
 
 abbrev pub invariant-loop-index : goal.invariant-loop-index

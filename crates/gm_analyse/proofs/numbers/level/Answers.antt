@@ -1,8 +1,6 @@
-use Rattle.gm_analyse.proofs.Lower.{◌≡◌, sym, subst, Position, HasValue_once}
-use Rattle.std.proofs.Common.{rules}
-use Rattle.gm_find.specs.Reaching.{IsReachedByPlay}
-use Rattle.gm_analyse.proofs.numbers.level.Goals as goal
+use Rattle.gm_analyse.proofs.Lower.{◌≡◌, sym, subst, Position, HasValue_once, rules, IsReachedByPlay}
 use Rattle.gm_analyse.proofs.numbers.level.Goals.{then-ne-via-then-ne, then-ne-via-else-ne+then-not-is_in}
+use Rattle.gm_analyse.proofs.numbers.level.Goals as goal
 
 pub returns-then-ne-clause-level : goal.returns-then-ne-clause-level
 returns-then-ne-clause-level g c n counted = elim c.then-ne.branch [

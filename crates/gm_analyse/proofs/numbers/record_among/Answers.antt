@@ -1,5 +1,4 @@
-use Rattle.gm_analyse.proofs.Lower.{◌≤◌, sym, subst, IfSome, Option, REMOTENESS, Solved, Among, IsRecordAmong}
-use Rattle.gm_play.proofs.Small.{value_small}
+use Rattle.gm_analyse.proofs.Lower.{◌≤◌, sym, subst, IfSome, Option, REMOTENESS, Solved, Among, IsRecordAmong, value_small}
 use Rattle.gm_analyse.proofs.Reporting.{canonical_among, legal_among}
 use Rattle.gm_analyse.proofs.numbers.record_among.Goals as goal
 

@@ -1,5 +1,4 @@
-use Rattle.gm_analyse.proofs.Lower.{IfOk-from_err, ◌≡◌, sym, subst, arith, is_some, all_positions}
-use Rattle.gm_analyse.specs.Listing.{AreBefore}
+use Rattle.gm_analyse.proofs.Lower.{◌≡◌, sym, subst, arith, is_some, all_positions, AreBefore}
 use Rattle.gm_analyse.proofs.CountLists.{no_counts, value_added}
 use Rattle.gm_analyse.proofs.Listed.{Num, num_once, all_counts}
 use Rattle.gm_analyse.proofs.totals.counts.Goals as goal
@@ -27,9 +26,3 @@ returns g c =
     let last : c.loop-value.value-index ≡ 4 = omega arith in
     all_counts r c.args.among (is_some c.args.reached) tiers c.loop-value.counts.items
     (subst (λ n. AreBefore (Num r c.args.among (is_some c.args.reached) (all_positions r tiers)) n 0 c.loop-value.counts.items) last c.loop-value.invariant)
-
-pub returns-in_err-numbers : goal.returns-in_err-numbers
-returns-in_err-numbers g c = IfOk-from_err c.from_residual.result _ c.from_residual.ensures.0
-
-pub returns-in_err-push_counts : goal.returns-in_err-push_counts
-returns-in_err-push_counts g c = IfOk-from_err c.from_residual-in_err-push_counts.result _ c.from_residual-in_err-push_counts.ensures.0

@@ -1,5 +1,4 @@
-use Rattle.gm_analyse.proofs.Lower.{is_some, all_positions}
-use Rattle.gm_analyse.specs.Listing.{AreBefore}
+use Rattle.gm_analyse.proofs.Lower.{is_some, all_positions, AreBefore}
 use Rattle.gm_analyse.proofs.Listed.{Num}
 use Rattle.gm_analyse.proofs.totals.counts.Given as goal
 

@@ -1,9 +1,4 @@
-use Rattle.std.proofs.Common.{◌≡◌, ℕ, ◌+◌, ◌/◌, ◌%◌, ◌^◌, [], get_or, refl, ap, ◌∙◌, arith}
-use Rattle.std.specs.Prelude.{count_ones}
-use Rattle.gm_board.specs.laws.Binomials.{binomial_small}
-use Rattle.gm_board.specs.Masks.{mask_rank}
-use Rattle.gm_board.specs.laws.Masks.{mask_rank_below}
-use Rattle.gm_board.specs.declared.ranks.TheConstants.{UPPER}
+use Rattle.gm_board.proofs.Lower.{◌≡◌, ℕ, ◌+◌, ◌/◌, ◌%◌, ◌^◌, [], get_or, refl, ap, ◌∙◌, arith, count_ones, binomial_small, mask_rank, mask_rank_below, UPPER}
 use Rattle.gm_board.proofs.RankTables.{long_rank_is}
 use Rattle.gm_board.proofs.ranks.long_rank.Goals as goal
 

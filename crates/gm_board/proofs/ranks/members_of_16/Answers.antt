@@ -1,4 +1,4 @@
-use Rattle.std.proofs.Common.{ℕ, ◌+◌, ◌/◌, ◌%◌, ◌^◌, refl, ap₂, ◌∙◌}
+use Rattle.gm_board.proofs.Lower.{ℕ, ◌+◌, ◌/◌, ◌%◌, ◌^◌, refl, ap₂, ◌∙◌}
 use Rattle.gm_board.proofs.RankTables.{ones_of_both}
 use Rattle.gm_board.proofs.ranks.members_of_16.Goals as goal
 

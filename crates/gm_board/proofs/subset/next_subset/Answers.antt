@@ -1,8 +1,8 @@
-use Rattle.gm_board.proofs.Lower.{◌+◌, ◌-◌, ◌*◌, ◌%◌, ◌^◌, arith, trailing_zeros}
-use Rattle.std.proofs.Common.{w32}
+use Rattle.gm_board.proofs.Lower.{◌+◌, ◌-◌, ◌%◌, ◌^◌, arith, trailing_zeros}
+use Rattle.std.proofs.Common.{◌*◌, w32}
 use Rattle.gm_board.proofs.NextSteps.{IsStep, next_of, next_within}
-use Rattle.gm_board.proofs.subset.next_subset.Goals as goal
 use Rattle.gm_board.proofs.subset.next_subset.Goals.{After-trailing_ones-run}
+use Rattle.gm_board.proofs.subset.next_subset.Goals as goal
 
 -- what the code makes
 made : (c : After-trailing_ones-run) → IsStep c.args.mask c.trailing_ones-run.result

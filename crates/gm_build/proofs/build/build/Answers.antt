@@ -1,5 +1,4 @@
-use Rattle.std.proofs.Common.{ℕ, IfOk, IfErr, IsTrue, ap, subst}
-use Rattle.gm_build.proofs.Lower.{Position, IsOrderFrom, IsBuildError, IsStopped}
+use Rattle.gm_build.proofs.Lower.{ℕ, IfOk, IfErr, IsTrue, ap, subst, Position, IsOrderFrom, IsBuildError, IsStopped}
 use Rattle.gm_build.proofs.build.build.Goals as goal
 
 pub returns-clause-order : goal.returns-clause-order

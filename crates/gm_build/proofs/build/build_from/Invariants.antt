@@ -1,5 +1,4 @@
-use Rattle.std.proofs.Common.{◌≡◌, IfSome, IsTrue, take}
-use Rattle.gm_build.specs.Steps.{IsAhead}
+use Rattle.gm_build.proofs.Lower.{◌≡◌, IfSome, IsTrue, take, IsAhead}
 use Rattle.gm_build.proofs.SoFar.{IsSoFar}
 use Rattle.gm_build.proofs.build.build_from.Given as goal
 

@@ -1,4 +1,4 @@
-use Rattle.std.proofs.Common.{◌≡◌, rules, Some}
+use Rattle.gm_build.proofs.Lower.{◌≡◌, rules, Some}
 use Rattle.gm_build.proofs.StoreLemmas.{found_in}
 use Rattle.gm_build.proofs.found.load_tier.Goals as goal
 

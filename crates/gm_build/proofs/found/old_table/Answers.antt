@@ -1,4 +1,4 @@
-use Rattle.std.proofs.Common.{rules}
+use Rattle.gm_build.proofs.Lower.{rules}
 use Rattle.gm_build.proofs.found.old_table.Goals as goal
 
 pub returns-in-Ok-clause-tier : goal.returns-in-Ok-clause-tier

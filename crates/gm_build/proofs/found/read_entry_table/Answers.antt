@@ -1,5 +1,4 @@
-use Rattle.std.proofs.Common.{subst}
-use Rattle.gm_build.proofs.Lower.{IfOk-from_err, IsInspected}
+use Rattle.gm_build.proofs.Lower.{subst, IfOk-from_err, IsInspected}
 use Rattle.gm_build.proofs.found.read_entry_table.Goals as goal
 
 pub returns-in_err-table-clause-tier : goal.returns-in_err-table-clause-tier

@@ -1,4 +1,4 @@
-use Rattle.std.proofs.Common.{◌≡◌, rules, None, Some, refl}
+use Rattle.gm_build.proofs.Lower.{◌≡◌, rules, None, Some, refl}
 use Rattle.gm_build.proofs.StoreLemmas.{inspected_in}
 use Rattle.gm_build.proofs.inspect.inspect_tier.Goals as goal
 

@@ -1,11 +1,6 @@
-use Rattle.std.proofs.Common.{◌≡◌, ℕ, List, Option, Result, Ok, Err, IfOk, IfErr, IsOk, ◌↔◌, refl}
-use Rattle.gm_build.proofs.Lower.{Rules, TableData}
-use Rattle.gm_game.specs.Records.{IsTrueTable}
-use Rattle.gm_game.specs.declared.limits.TheConstants.{REMOTENESS}
+use Rattle.gm_build.proofs.Lower.{◌≡◌, ℕ, List, Option, Result, Ok, Err, IfOk, IfErr, IsOk, ◌↔◌, refl, Rules, TableData, IsTrueTable, REMOTENESS, AreWrong}
+use Rattle.gm_build.proofs.Lower.{CheckError, IsChecked}
 use Rattle.gm_game.specs.declared.position.Solved.{Solved}
-use Rattle.gm_table.specs.Checks.{AreWrong}
-use Rattle.gm_table.specs.declared.checker.CheckError.{CheckError}
-use Rattle.gm_build.specs.Inspections.{IsChecked}
 use Rattle.gm_build.proofs.inspect.read_table.Goals as goal
 
 -- what the checker answers, in one

@@ -1,4 +1,4 @@
-use Rattle.std.proofs.Common.{sym, ◌∙◌}
+use Rattle.gm_build.proofs.Lower.{sym, ◌∙◌}
 use Rattle.gm_build.proofs.WholeLines.{line_written}
 use Rattle.gm_build.proofs.whole_line.write_line.Goals as goal
 

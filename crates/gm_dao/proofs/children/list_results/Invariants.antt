@@ -1,6 +1,5 @@
-use Rattle.std.specs.Prelude.{◌≡◌}
+use Rattle.gm_dao.proofs.Lower.{◌≡◌, dao}
 use Rattle.gm_pieces.specs.Common.{map, take, board_of, position_after}
-use Rattle.gm_dao.specs.DaoRules.{dao}
 use Rattle.gm_dao.proofs.children.list_results.Given as goal
 
 abbrev pub invariant-loop-m : goal.invariant-loop-m

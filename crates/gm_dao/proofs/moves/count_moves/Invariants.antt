@@ -1,6 +1,6 @@
-use Rattle.std.specs.Prelude.{◌≡◌, ◌*◌, ◌-◌, ◌/◌, ◌^◌, ◌≤◌}
+use Rattle.gm_dao.proofs.Lower.{◌≡◌, ◌-◌, ◌/◌, ◌^◌, ◌≤◌, can_move}
+use Rattle.std.specs.Prelude.{◌*◌}
 use Rattle.gm_pieces.specs.Common.{board_of, length, filter, range_with_len}
-use Rattle.gm_dao.specs.DaoRules.{can_move}
 use Rattle.gm_dao.proofs.moves.count_moves.Given as goal
 
 abbrev pub invariant-loop-rest : goal.invariant-loop-rest

@@ -1,10 +1,9 @@
-use Rattle.std.specs.Prelude.{◌+◌, ◌*◌, ◌<◌}
+use Rattle.gm_dao.proofs.Lower.{◌+◌, ◌<◌, can_move, move_number_bound, AreMovesBelow}
+use Rattle.std.specs.Prelude.{◌*◌}
 use Rattle.gm_pieces.specs.Common.{ℕ, length, sym, ◌∙◌, arith, board_of, next_cell, cell_below, filter_room, steps}
-use Rattle.gm_dao.specs.DaoRules.{can_move, move_number_bound}
-use Rattle.gm_dao.specs.MaskSlides.{AreMovesBelow}
 use Rattle.gm_dao.proofs.LoopSteps.{AreGoals, goals_are, goals_skip, end_at, move_more}
-use Rattle.gm_dao.proofs.moves.push_moves.Goals as goal
 use Rattle.gm_dao.proofs.moves.push_moves.Goals.{After-goals-reached}
+use Rattle.gm_dao.proofs.moves.push_moves.Goals as goal
 
 reached : (c : After-goals-reached) → AreGoals (board_of 16 c.args.board.mine c.args.board.theirs) c.args.from c.goals-reached.result
 reached c =

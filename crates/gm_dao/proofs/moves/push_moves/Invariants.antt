@@ -1,6 +1,6 @@
-use Rattle.std.specs.Prelude.{◌≡◌, ◌+◌, ◌*◌, ◌-◌, ◌/◌, ◌^◌, ◌≤◌}
+use Rattle.gm_dao.proofs.Lower.{◌≡◌, ◌+◌, ◌-◌, ◌/◌, ◌^◌, ◌≤◌, AreMovesBelow}
+use Rattle.std.specs.Prelude.{◌*◌}
 use Rattle.gm_pieces.specs.Common.{board_of}
-use Rattle.gm_dao.specs.MaskSlides.{AreMovesBelow}
 use Rattle.gm_dao.proofs.moves.push_moves.Given as goal
 
 abbrev pub invariant-loop-rest : goal.invariant-loop-rest

@@ -1,13 +1,10 @@
-use Rattle.std.specs.Prelude.{◌+◌, ◌*◌}
-use Rattle.gm_pieces.specs.Common.{ℕ, sym, ◌∙◌, arith, board_of, next_cell, cell_below, before_at}
-use Rattle.gm_pieces.specs.laws.Listed.{put_room}
-use Rattle.gm_dao.specs.DaoRules.{least_index_of, dao}
-use Rattle.gm_dao.specs.MaskSlides.{way_back, AreBeforesBelow}
-use Rattle.gm_dao.specs.laws.BoardFacts.{legal_in}
+use Rattle.gm_dao.proofs.Lower.{◌+◌, least_index_of, dao, way_back, AreBeforesBelow, legal_in, put_room}
+use Rattle.std.specs.Prelude.{◌*◌}
+use Rattle.gm_pieces.specs.Common.{ℕ, sym, ap, ◌∙◌, arith, board_of, next_cell, cell_below, before_at}
 use Rattle.gm_dao.proofs.LoopSteps.{end_at}
-use Rattle.gm_dao.proofs.CameSteps.{came_skip, before_less, before_more, before_here, was_step, was_slid}
-use Rattle.gm_dao.proofs.parents.put_befores.Goals as goal
+use Rattle.gm_dao.proofs.CameSteps.{came_skip, before_less, before_more, back_at, was_step, was_slid}
 use Rattle.gm_dao.proofs.parents.put_befores.Goals.{in-Some, in-None}
+use Rattle.gm_dao.proofs.parents.put_befores.Goals as goal
 
 pub gone_before-requires-clause-from : goal.gone_before-requires-clause-from
 gone_before-requires-clause-from c =
@@ -46,7 +43,7 @@ put-requires c =
     let e = c.in-Some.earlier in
     put_room (λ (m : ℕ). before_at dao c.args.tier d (way_back m)) least_index_of 256 _ (board_of 16 e.mine e.theirs)
     c.loop-rest.list.items
-    c.requires.few (omega (arith, l, c.requires.cell)) (before_here c.args.tier d _ c.args.to _ l c.in-Some.ensures.0)
+    c.requires.few (omega (arith, l, c.requires.cell)) (ap (before_at dao c.args.tier d) (back_at _ c.args.to l) ∙ c.in-Some.ensures.0)
     (came_skip c.args.tier d c.args.to c.free.result c.taken.result c.requires.legal c.requires.cell c.free.ensures.cells c.taken.ensures.cells g
     c.loop-rest.next _ c.loop-rest.list.items c.sources-came.ensures.cells (omega (arith, l)) z.none i.below)
 

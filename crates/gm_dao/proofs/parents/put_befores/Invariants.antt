@@ -1,6 +1,6 @@
-use Rattle.std.specs.Prelude.{◌≡◌, ◌+◌, ◌*◌, ◌-◌, ◌/◌, ◌^◌, ◌≤◌}
+use Rattle.gm_dao.proofs.Lower.{◌≡◌, ◌+◌, ◌-◌, ◌/◌, ◌^◌, ◌≤◌, AreBeforesBelow}
+use Rattle.std.specs.Prelude.{◌*◌}
 use Rattle.gm_pieces.specs.Common.{board_of}
-use Rattle.gm_dao.specs.MaskSlides.{AreBeforesBelow}
 use Rattle.gm_dao.proofs.parents.put_befores.Given as goal
 
 abbrev pub invariant-loop-rest : goal.invariant-loop-rest

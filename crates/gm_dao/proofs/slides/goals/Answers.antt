@@ -1,5 +1,5 @@
 use Rattle.gm_pieces.specs.Common.{arith, weight}
-use Rattle.gm_dao.specs.MaskSlides.{slides_by_masks}
+use Rattle.gm_dao.proofs.Lower.{slides_by_masks}
 use Rattle.gm_dao.proofs.LoopSteps.{passed_more}
 use Rattle.gm_dao.proofs.slides.goals.Goals as goal
 

@@ -1,4 +1,4 @@
-use Rattle.gm_dao.specs.MaskSlides.{slides_by_masks}
+use Rattle.gm_dao.proofs.Lower.{slides_by_masks}
 use Rattle.gm_dao.proofs.LoopSteps.{HasPassed}
 use Rattle.gm_dao.proofs.slides.goals.Given as goal
 

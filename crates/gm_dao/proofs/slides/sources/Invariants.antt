@@ -1,4 +1,4 @@
-use Rattle.gm_dao.specs.MaskSlides.{came_by_masks}
+use Rattle.gm_dao.proofs.Lower.{came_by_masks}
 use Rattle.gm_dao.proofs.LoopSteps.{HasPassed}
 use Rattle.gm_dao.proofs.slides.sources.Given as goal
 

@@ -1,4 +1,4 @@
-use Rattle.std.proofs.Common.{length}
+use Rattle.gm_draw.proofs.Lower.{length}
 use Rattle.gm_draw.proofs.chessboard.+man_on.Given as goal
 
 abbrev pub decreases-man_on : goal.decreases-man_on

@@ -1,6 +1,4 @@
-use Rattle.std.proofs.Common.{List, ℕ, ◌++◌, ap, sym, ◌∙◌, arith}
-use Rattle.gm_draw.specs.Chessboards.{chess_byte}
-use Rattle.gm_draw.specs.Templates.{spread}
+use Rattle.gm_draw.proofs.Lower.{List, ℕ, ◌++◌, ap, sym, ◌∙◌, arith, chess_byte, spread}
 use Rattle.gm_draw.proofs.Spreading.{spread_next, spread_all}
 use Rattle.gm_draw.proofs.chessboard.filled.Goals as goal
 

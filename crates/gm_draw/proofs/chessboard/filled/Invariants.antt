@@ -1,6 +1,5 @@
-use Rattle.std.proofs.Common.{◌≡◌, ◌+◌, ◌*◌, ◌≤◌, ◌++◌, drop, length}
-use Rattle.gm_draw.specs.Chessboards.{chess_byte}
-use Rattle.gm_draw.specs.Templates.{spread}
+use Rattle.gm_draw.proofs.Lower.{◌≡◌, ◌+◌, ◌≤◌, ◌++◌, drop, length, chess_byte, spread}
+use Rattle.std.proofs.Common.{◌*◌}
 use Rattle.gm_draw.proofs.chessboard.filled.Given as goal
 
 abbrev pub invariant-loop-byte : goal.invariant-loop-byte

@@ -1,5 +1,4 @@
-use Rattle.std.proofs.Common.{◌≡◌, map, take}
-use Rattle.gm_draw.specs.Templates.{drawn_byte}
+use Rattle.gm_draw.proofs.Lower.{◌≡◌, map, take, drawn_byte}
 use Rattle.gm_draw.proofs.drawn.fill.Given as goal
 
 abbrev pub invariant-loop-byte : goal.invariant-loop-byte

@@ -1,5 +1,4 @@
-use Rattle.std.proofs.Common.{◌≡◌, ◌≤◌, drop}
-use Rattle.gm_draw.specs.Diagrams.{widest}
+use Rattle.gm_draw.proofs.Lower.{◌≡◌, ◌≤◌, drop, widest}
 use Rattle.gm_draw.proofs.frame.widest.Given as goal
 
 abbrev pub invariant-loop-byte : goal.invariant-loop-byte

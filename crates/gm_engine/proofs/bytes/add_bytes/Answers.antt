@@ -1,5 +1,4 @@
-use Rattle.std.proofs.Common.{rules, ◌≡◌, ◌++◌, ◌∷◌, [], ap, ◌<◌, length, arith, ◌∙◌}
-use Rattle.gm_table.specs.Packed.{unpacked}
+use Rattle.gm_engine.proofs.Lower.{rules, ◌≡◌, ◌++◌, ◌∷◌, [], ap, ◌<◌, length, arith, ◌∙◌, unpacked}
 use Rattle.gm_engine.proofs.Trueness.{record_more, append_one}
 use Rattle.gm_engine.proofs.bytes.add_bytes.Goals as goal
 

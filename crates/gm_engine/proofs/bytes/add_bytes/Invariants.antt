@@ -1,5 +1,4 @@
-use Rattle.std.proofs.Common.{◌≡◌, ◌++◌, ℕ, List, map, take}
-use Rattle.gm_engine.specs.Records.{record_with}
+use Rattle.gm_engine.proofs.Lower.{◌≡◌, ◌++◌, ℕ, List, map, take, record_with}
 use Rattle.gm_engine.proofs.bytes.add_bytes.Given as goal
 
 abbrev pub invariant-loop-index : goal.invariant-loop-index

@@ -1,6 +1,5 @@
-use Rattle.std.proofs.Common.{◌≡◌, ◌++◌, ◌*◌, ℕ, List, length, map, take}
-use Rattle.gm_table.specs.Packed.{unpacked}
-use Rattle.gm_engine.specs.Records.{words_of}
+use Rattle.gm_engine.proofs.Lower.{◌≡◌, ◌++◌, ℕ, List, length, map, take, unpacked, words_of}
+use Rattle.std.proofs.Common.{◌*◌}
 use Rattle.gm_engine.proofs.bytes.add_words.Given as goal
 
 abbrev pub invariant-loop-index : goal.invariant-loop-index

@@ -1,4 +1,4 @@
-use Rattle.std.proofs.Common.{rules, ◌≡◌, get_or}
+use Rattle.gm_engine.proofs.Lower.{rules, ◌≡◌, get_or}
 use Rattle.gm_engine.proofs.Words.{word_is}
 use Rattle.gm_engine.proofs.bytes.number_in.Goals as goal
 

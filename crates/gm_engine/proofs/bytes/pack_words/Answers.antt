@@ -1,7 +1,4 @@
-use Rattle.std.proofs.Common.{rules, ◌≡◌, ◌≤◌, ◌<◌, ◌++◌, ◌∷◌, [], List, Option, length, map, subst, sym, arith}
-use Rattle.gm_game.specs.declared.position.Solved.{Solved}
-use Rattle.gm_table.specs.Packed.{unpacked}
-use Rattle.gm_engine.specs.Records.{words_of}
+use Rattle.gm_engine.proofs.Lower.{rules, ◌≡◌, ◌≤◌, ◌<◌, ◌++◌, ◌∷◌, [], List, Option, length, map, subst, sym, arith, Solved, unpacked, words_of}
 use Rattle.gm_engine.proofs.Words.{packed_next, packed_all}
 use Rattle.gm_engine.proofs.bytes.pack_words.Goals as goal
 

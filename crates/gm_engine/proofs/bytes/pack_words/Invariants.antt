@@ -1,6 +1,4 @@
-use Rattle.std.proofs.Common.{◌≡◌, ◌++◌, length, map}
-use Rattle.gm_table.specs.Packed.{unpacked}
-use Rattle.gm_engine.specs.Records.{words_of}
+use Rattle.gm_engine.proofs.Lower.{◌≡◌, ◌++◌, length, map, unpacked, words_of}
 use Rattle.gm_engine.proofs.bytes.pack_words.Given as goal
 
 abbrev pub invariant-loop-rest : goal.invariant-loop-rest

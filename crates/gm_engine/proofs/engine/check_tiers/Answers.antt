@@ -1,5 +1,4 @@
-use Rattle.std.proofs.Common.{rules, ◌≡◌, ◌≤◌, ◌++◌, ◌+◌, take, drop, length, slice_index_or, subst, sym, arith}
-use Rattle.gm_engine.specs.Records.{IsTrueTier, AreTrue, room}
+use Rattle.gm_engine.proofs.Lower.{rules, ◌≡◌, ◌≤◌, ◌++◌, ◌+◌, take, drop, length, slice_index_or, subst, sym, arith, IsTrueTier, AreTrue, room}
 use Rattle.gm_engine.proofs.Trueness.{one_more_at, cut_more, first_of, enough_for, none_left}
 use Rattle.gm_engine.proofs.Ordering.{have_more, disordered}
 use Rattle.gm_engine.proofs.Refused.{unchecked}

@@ -1,7 +1,4 @@
-use Rattle.std.proofs.Common.{take, drop}
-use Rattle.gm_play.specs.Reached.{AreClosed}
-use Rattle.gm_engine.specs.Records.{AreTrue}
-use Rattle.gm_engine.specs.Refusing.{HaveTables}
+use Rattle.gm_engine.proofs.Lower.{take, drop, AreClosed, AreTrue, HaveTables}
 use Rattle.gm_engine.proofs.engine.hold_all.Given as goal
 
 abbrev pub invariant-loop-tier : goal.invariant-loop-tier

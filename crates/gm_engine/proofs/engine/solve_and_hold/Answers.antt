@@ -1,5 +1,4 @@
-use Rattle.std.proofs.Common.{rules, ◌++◌, ◌∷◌, [], ℕ, List, Ok, Err, OnOk, subst, sym}
-use Rattle.gm_engine.specs.Records.{AreTrue}
+use Rattle.gm_engine.proofs.Lower.{rules, ◌++◌, ◌∷◌, [], ℕ, List, Ok, Err, OnOk, subst, sym, AreTrue}
 use Rattle.gm_engine.proofs.Refused.{unadded}
 use Rattle.gm_engine.proofs.Trueness.{one_more, from_table}
 use Rattle.gm_engine.proofs.engine.solve_and_hold.Goals as goal

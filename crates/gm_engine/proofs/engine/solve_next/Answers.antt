@@ -1,4 +1,4 @@
-use Rattle.std.proofs.Common.{rules, length}
+use Rattle.gm_engine.proofs.Lower.{rules, length}
 use Rattle.gm_engine.proofs.Refused.{unadded, unsolved_before, unsolved_here}
 use Rattle.gm_engine.proofs.engine.solve_next.Goals as goal
 

@@ -1,6 +1,4 @@
-use Rattle.std.proofs.Common.{rules, ℕ, List, take, sym, subst}
-use Rattle.std.proofs.lemmas.List.{take_more}
-use Rattle.gm_engine.specs.Records.{AreTrue}
+use Rattle.gm_engine.proofs.Lower.{rules, ℕ, List, take, sym, subst, take_more, AreTrue}
 use Rattle.gm_engine.proofs.Ordering.{have_more, in_order}
 use Rattle.gm_engine.proofs.Refused.{unsolved_one}
 use Rattle.gm_engine.proofs.engine.solve_tiers.Goals as goal

@@ -1,4 +1,4 @@
-use Rattle.gm_find.proofs.Lower.{sym, subst, All, is_some, Position, IsKnownAt}
+use Rattle.gm_find.proofs.Lower.{is_some, Position, IsKnownAt}
 use Rattle.gm_find.proofs.Picking.{picked_all}
 use Rattle.gm_find.proofs.Telling.{all_known}
 use Rattle.gm_find.proofs.choice.find_some.Goals as goal
@@ -10,6 +10,5 @@ look_up-requires g c =
     let P : Position → Type 0 = IsKnownAt r known.tables.now in
     let each = all_known r known.tables.now c.args.sought (is_some c.args.reached) _ known.tiers.now c.in_ok-all-in-Random.all.items known.held
     c.in_ok-all-in-Random.ensures in
-    subst (All P) (sym c.as_slice-in-Random.ensures.value)
-    (picked_all P c.as_slice.result.now c.in_ok-some-in-Random.some.items c.in_ok-some-in-Random.ensures.picked
-    (subst (All P) (sym c.as_slice.ensures.value) each))
+    rw c.as_slice-in-Random.ensures.value
+    (picked_all P c.as_slice.result.now c.in_ok-some-in-Random.some.items c.in_ok-some-in-Random.ensures.picked (rw c.as_slice.ensures.value each))

@@ -1,4 +1,4 @@
-use Rattle.gm_find.proofs.Lower.{sym, subst, ◌∙◌, All, is_some, IsFirst, IsMatch, all_positions, IsKnownAt}
+use Rattle.gm_find.proofs.Lower.{sym, subst, ◌∙◌, is_some, IsFirst, IsMatch, all_positions}
 use Rattle.gm_find.proofs.Telling.{all_known, both_told}
 use Rattle.gm_find.proofs.found.find.Goals as goal
 
@@ -6,9 +6,8 @@ pub look_up-requires : goal.look_up-requires
 look_up-requires g c =
     let r = g.G.Game.rules in
     let known = c.args.known.now in
-    subst (All (IsKnownAt r known.tables.now)) (sym c.as_slice.ensures.value)
-    (all_known r known.tables.now c.args.sought (is_some c.args.reached) c.args.limit known.tiers.now c.in_ok-positions.positions.items known.held
-    c.in_ok-positions.ensures)
+    rw c.as_slice.ensures.value (all_known r known.tables.now c.args.sought (is_some c.args.reached) c.args.limit known.tiers.now
+    c.in_ok-positions.positions.items known.held c.in_ok-positions.ensures)
 
 pub returns : goal.returns
 returns g c =

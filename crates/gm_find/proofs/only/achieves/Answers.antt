@@ -1,11 +1,12 @@
-use Rattle.gm_find.proofs.Matching.{achieves_is, is_achieved}
+use Rattle.gm_find.proofs.Lower.{subst, Position, IsTrueValue, Achieves, IsAchievedBy}
+use Rattle.gm_find.proofs.Matching.{achieves_is}
+use Rattle.gm_find.proofs.Onlies.{same_answer}
 use Rattle.gm_find.proofs.only.achieves.Goals as goal
 
 pub returns : goal.returns
 returns g c =
     let r = g.G.Game.rules in
     let p = c.args.known.now.position in
-    let after = c.value.result in (
-      λ h. achieves_is r p c.play.result.position c.args.m c.args.aim after c.play.ensures c.value.ensures.value (c.is_achieved.ensures.0 h),
-      λ h. c.is_achieved.ensures.1 (is_achieved r p c.play.result.position c.args.m c.args.aim after c.play.ensures c.value.ensures.value h),
-    )
+    let is_true = subst (λ (q : Position). IsTrueValue r q c.value.result) c.play.ensures c.value.ensures.value in
+    same_answer c.is_achieved.result (IsAchievedBy c.args.aim c.value.result) (Achieves r c.args.aim p c.args.m)
+    (achieves_is r p c.args.m c.args.aim c.value.result is_true) c.is_achieved.ensures

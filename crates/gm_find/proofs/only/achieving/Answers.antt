@@ -1,8 +1,7 @@
-use Rattle.gm_find.proofs.Lower.{◌++◌, ◌∷◌, [], ℕ, List, take, get_or, sym, subst, arith, length-append, take_more, AreThose, Achieves}
-use Rattle.std.proofs.Common.{length-take}
+use Rattle.gm_find.proofs.Lower.{◌++◌, ◌∷◌, [], ℕ, take, get_or, arith, length-append, take_more, Achieves, length-take}
 use Rattle.gm_find.proofs.ListLemmas.{those_push, those_skip, those_few}
-use Rattle.gm_find.proofs.only.achieving.Goals as goal
 use Rattle.gm_find.proofs.only.achieving.Goals.{then-achieves, else-achieves}
+use Rattle.gm_find.proofs.only.achieving.Goals as goal
 
 pub overflow_add-number : goal.overflow_add-number
 overflow_add-number g c =
@@ -24,13 +23,12 @@ loop-m-preserved g c =
     elim c.if-achieves.branch [
       | then-achieves w ↦ (
         kept ++ m ∷ [],
-        subst (λ (xs : List ℕ). AreThose P xs (kept ++ m ∷ [])) (sym more) (those_push P (take k items) kept m those (c.achieves.ensures.0 w.if-achieves.true)),
+        rw more (those_push P (take k items) kept m those (c.achieves.ensures.0 w.if-achieves.true)),
         let n = length-append kept (m ∷ []) in let same = w.number-is in omega arith,
       )
       | else-achieves w ↦ (
         kept,
-        subst (λ (xs : List ℕ). AreThose P xs kept) (sym more) (those_skip P (take k items) kept m those
-            (λ p. let t = c.achieves.ensures.1 p in let f = w.if-achieves.false in cc)),
+        rw more (those_skip P (take k items) kept m those (λ p. let t = c.achieves.ensures.1 p in let f = w.if-achieves.false in cc)),
         let same = w.number-is in omega arith,
       )
     ]

@@ -1,7 +1,8 @@
-use Rattle.gm_find.proofs.Lower.{◌≡◌, ◌+◌, ◌++◌, ◌∷◌, [], ℕ, List, take, get_or, IsTrue, sym, ap, ◌∙◌, subst, Contains, take_more, take_all, Contains-get_or}
-use Rattle.gm_find.proofs.Onlies.{IsOnlySoFar, contains_taken, only_skip, only_more, only_two, only_all}
-use Rattle.gm_find.proofs.only.has_only_result.Goals as goal
+use Rattle.gm_find.proofs.Lower.{Contains-append_left, drop, take-append-drop, ◌≡◌, ℕ, List, take, get_or, sym, ap, ◌∙◌, subst, Contains, take_more, take_all}
+use Rattle.gm_find.proofs.Lower.{Contains-get_or}
+use Rattle.gm_find.proofs.Onlies.{only_skip, only_more, only_two, only_all}
 use Rattle.gm_find.proofs.only.has_only_result.Goals.{then-achieves+else-not-agrees, else-achieves}
+use Rattle.gm_find.proofs.only.has_only_result.Goals as goal
 
 pub returns-then-not-agrees : goal.returns-then-not-agrees
 returns-then-not-agrees g c =
@@ -15,7 +16,7 @@ returns-then-not-agrees g c =
     (c.canonical-found.ensures ∙ ap r.canonical c.play.ensures) in (
       λ t. absurd (cc),
       λ x. absurd (only_two r c.args.aim c.args.known.now.position (take k items) m c.loop-m.only c.canonical-found.result c.loop-m.invariant
-          (λ n has. subst (λ (xs : List ℕ). Contains xs n) all (contains_taken k items n has))
+          (λ n has. subst (λ (xs : List ℕ). Contains xs n) (take-append-drop k items ∙ all) (Contains-append_left (take k items) (drop k items) n has))
           listed (c.achieves.ensures.0 c.if-achieves.true) leads
           (λ a. let t = c.agrees.ensures.1 a in let f = c.if-not-agrees.true in cc) x),
     )
@@ -28,24 +29,18 @@ loop-m-preserved g c =
     let items = c.as_slice-m-items.result.now in
     let k = c.loop-m.m-index in
     let m = get_or items k 0 in
-    let more : take (k + 1) items ≡ take k items ++ m ∷ [] = take_more items k 0 c.loop-m-test.true in
     elim c.if-achieves.branch [
       | then-achieves+else-not-agrees w ↦ (
-          let leads : r.canonical (r.play p m) ≡ w.canonical-found.result = sym (w.canonical-found.ensures ∙ ap r.canonical w.play.ensures) in
+          let leads = sym (w.canonical-found.ensures ∙ ap r.canonical w.play.ensures) in
           let kept = c.achieves.ensures.0 w.if-achieves.true in
           let agrees = w.agrees.ensures.0 w.if-not-agrees.false in
-          let grown = only_more r aim p (take k items) m c.loop-m.only w.canonical-found.result c.loop-m.invariant kept leads agrees in
-          subst (λ (xs : List ℕ). IsOnlySoFar r aim p xs c.if-achieves.only) (sym more) (subst (IsOnlySoFar r aim p (take k items ++ m ∷ [])) (sym w.only-is) grown))
-      | else-achieves w ↦ (
-          let same = only_skip r aim p (take k items) m c.loop-m.only c.loop-m.invariant (λ n. let t = c.achieves.ensures.1 n in let f = w.if-achieves.false in cc) in
-          subst (λ (xs : List ℕ). IsOnlySoFar r aim p xs c.if-achieves.only) (sym more) (subst (IsOnlySoFar r aim p (take k items ++ m ∷ [])) (sym w.only-is) same))
+          rw (take_more items k 0 c.loop-m-test.true, w.only-is)
+          (only_more r aim p (take k items) m c.loop-m.only w.canonical-found.result c.loop-m.invariant kept leads agrees))
+      | else-achieves w ↦ rw (take_more items k 0 c.loop-m-test.true, w.only-is)
+          (only_skip r aim p (take k items) m c.loop-m.only c.loop-m.invariant (λ n. let t = c.achieves.ensures.1 n in let f = w.if-achieves.false in cc))
     ]
 
 pub returns : goal.returns
 returns g c =
-    let r = g.G.Game.rules in
-    let items = c.as_slice-m-items.result.now in
-    let all = take_all c.loop-m.m-index items c.loop-m-test.false ∙ c.as_slice-m-items.ensures.value ∙ c.moves-moves.ensures in
-    let whole = subst (λ (xs : List ℕ). IsOnlySoFar r c.args.aim c.args.known.now.position xs c.loop-m.only) all c.loop-m.invariant in
-    let ends = only_all r c.args.aim c.args.known.now.position c.loop-m.only whole in
-    (λ t. ends.0 (subst IsTrue c.is_some.ensures t), λ x. subst IsTrue (sym c.is_some.ensures) (ends.1 x))
+    let all = take_all c.loop-m.m-index c.as_slice-m-items.result.now c.loop-m-test.false ∙ c.as_slice-m-items.ensures.value ∙ c.moves-moves.ensures in
+    rw c.is_some.ensures (only_all g.G.Game.rules c.args.aim c.args.known.now.position c.loop-m.only (rw all at c.loop-m.invariant))

@@ -1,5 +1,4 @@
-use Rattle.gm_find.proofs.Lower.{◌-◌, length, sym, ◌∙◌, is_some, Position, at, held_own, IsMatch}
-use Rattle.std.proofs.lemmas.Result.{on_ok_weaker}
+use Rattle.gm_find.proofs.Lower.{◌-◌, length, sym, ◌∙◌, is_some, Position, at, held_own, IsMatch, on_ok_weaker}
 use Rattle.gm_find.proofs.ListLemmas.{run_first}
 use Rattle.gm_find.proofs.Matching.{run_has}
 use Rattle.gm_find.proofs.positions.add_tier.Goals as goal

@@ -1,6 +1,5 @@
-use Rattle.gm_find.proofs.Lower.{◌≡◌, ◌+◌, ◌++◌, ◌∷◌, [], ℕ, List, take, get_or, ap, sym, subst, ◌∙◌, is_some, take_more, take_all, append-nil, Contains-get_or}
-use Rattle.gm_find.proofs.Lower.{Position, IsFirst, IsMatch, positions_in, all_positions}
-use Rattle.std.proofs.lemmas.Grind.{flat_map-append}
+use Rattle.gm_find.proofs.Lower.{◌≡◌, ◌+◌, ◌++◌, ◌∷◌, [], ℕ, List, take, get_or, ap, subst, ◌∙◌, is_some, take_more, take_all, append-nil, Contains-get_or}
+use Rattle.gm_find.proofs.Lower.{Position, IsFirst, IsMatch, positions_in, all_positions, flat_map-append}
 use Rattle.gm_find.proofs.ListLemmas.{first_append}
 use Rattle.gm_find.proofs.positions.find_positions.Goals as goal
 
@@ -22,8 +21,7 @@ loop-tier-preserved g c =
     let longer : all_positions r (take (k + 1) tiers) ≡ all_positions r (take k tiers) ++ positions_in r t =
     ap (all_positions r) (take_more tiers k 0 c.loop-tier-test.true) ∙ flat_map-append (positions_in r) (take k tiers) (t ∷ []) ∙ ap
     (λ (xs : List Position). all_positions r (take k tiers) ++ xs) (append-nil (positions_in r t)) in
-    subst (λ (ys : List Position). IsFirst P c.args.limit (all_positions r (take (k + 1) tiers)) ys) (sym is)
-    (subst (λ (xs : List Position). IsFirst P c.args.limit xs (cur ++ more)) (sym longer) both)
+    rw (is, longer) both
 
 pub returns : goal.returns
 returns g c =

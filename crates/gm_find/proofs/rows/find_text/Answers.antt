@@ -1,5 +1,4 @@
-use Rattle.gm_find.proofs.Lower.{ap, ◌∙◌, flat_map, found_row}
-use Rattle.std.proofs.lemmas.Result.{IfOk-weaker}
+use Rattle.gm_find.proofs.Lower.{ap, ◌∙◌, flat_map, found_row, IfOk-weaker}
 use Rattle.gm_find.proofs.rows.find_text.Goals as goal
 
 pub returns : goal.returns

@@ -1,5 +1,4 @@
-use Rattle.gm_find.proofs.Lower.{◌≡◌, ◌≤◌, ◌+◌, ◌-◌, take, length, ArePicked}
-use Rattle.std.proofs.Common.{min}
+use Rattle.gm_find.proofs.Lower.{◌≡◌, ◌≤◌, ◌+◌, ◌-◌, take, length, ArePicked, min}
 use Rattle.gm_find.proofs.sample.sample_of.Given as goal
 
 abbrev pub invariant-loop-place : goal.invariant-loop-place

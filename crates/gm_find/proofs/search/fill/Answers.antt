@@ -1,4 +1,4 @@
-use Rattle.gm_find.proofs.Lower.{◌∙◌, [], List, Position, sym, ap, subst, IsSearched}
+use Rattle.gm_find.proofs.Lower.{◌∙◌, [], sym, ap}
 use Rattle.gm_find.proofs.Searching.{begins, last_legal, all_searched}
 use Rattle.gm_find.proofs.search.fill.Goals as goal
 
@@ -14,9 +14,7 @@ returns-in-None g c = all_searched g.G.Game.rules g.met.G.Game.lawful c.loop.fou
 
 pub find_children-requires : goal.find_children-requires
 find_children-requires g c =
-    last_legal g.G.Game.rules g.met.G.Game.lawful c.loop.found.keys c.pop.new.self.items c.in-Some.p
-    (subst (λ (w : List Position). IsSearched g.G.Game.rules c.loop.found.keys w []) c.in-Some.ensures.items c.loop.invariant)
+    last_legal g.G.Game.rules g.met.G.Game.lawful c.loop.found.keys c.pop.new.self.items c.in-Some.p (rw c.in-Some.ensures.items at c.loop.invariant)
 
 pub loop-preserved : goal.loop-preserved
-loop-preserved g c = c.in_ok-find_children-in-Some.ensures
-    (subst (λ (w : List Position). IsSearched g.G.Game.rules c.loop.found.keys w []) c.in-Some.ensures.items c.loop.invariant)
+loop-preserved g c = c.in_ok-find_children-in-Some.ensures (rw c.in-Some.ensures.items at c.loop.invariant)

@@ -3,8 +3,8 @@ use Rattle.gm_game.proofs.Lower.{subst, take_all, Contains-get_or, list_all, Sol
 use Rattle.std.specs.List.{Contains}
 use Rattle.gm_game.proofs.Folding.{least_push, all_won_push, known_push, one_more, evaluated_small, fits_since, evaluated_open, when_known, when_unknown}
 use Rattle.gm_game.proofs.Folding.{evaluated_at_end}
-use Rattle.gm_game.proofs.ahead.+look_ahead.Goals as goal
 use Rattle.gm_game.proofs.ahead.+look_ahead.Goals.{then-known, else-known}
+use Rattle.gm_game.proofs.ahead.+look_ahead.Goals as goal
 
 pub loop-m-preserved : goal.loop-m-preserved
 loop-m-preserved g t c =

@@ -1,5 +1,4 @@
-use Rattle.gm_json.proofs.Lower.{◌≡◌, ◌<◌, length, arith, rules, on_ok_weaker, IsAnswer, IsOfOutput}
-use Rattle.std.proofs.KnownBytes.{Keeps-refl}
+use Rattle.gm_json.proofs.Lower.{◌≡◌, ◌<◌, length, arith, rules, on_ok_weaker, IsAnswer, IsOfOutput, Keeps-refl}
 use Rattle.gm_json.proofs.Serving.{all_served, last_done, last_failed, last_refused}
 use Rattle.gm_json.proofs.Exits.{passed, err_kind}
 use Rattle.gm_json.proofs.ask.answer_last.Goals as goal

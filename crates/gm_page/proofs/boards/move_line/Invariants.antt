@@ -1,6 +1,5 @@
-use Rattle.std.proofs.Common.{◌≡◌, ℕ, ◌≤◌, ◌+◌, ◌*◌, ◌++◌, length, take}
-use Rattle.std.specs.Prelude.{codes}
-use Rattle.std.specs.List.{flat_map}
+use Rattle.gm_page.proofs.Lower.{◌≡◌, ℕ, ◌≤◌, ◌+◌, ◌++◌, length, take, codes, flat_map}
+use Rattle.std.proofs.Common.{◌*◌}
 use Rattle.gm_page.proofs.boards.move_line.Given as goal
 
 abbrev pub invariant-loop-m : goal.invariant-loop-m

@@ -1,5 +1,4 @@
-use Rattle.gm_page.proofs.Lower.{[], ◌∷◌, List, map, ap, ◌∙◌, Data, array, view, items_of, text_of, text, move_cells}
-use Rattle.serde_json.proofs.Views.{view-Array}
+use Rattle.gm_page.proofs.Lower.{[], ◌∷◌, List, map, ap, ◌∙◌, Data, array, view, items_of, text_of, text, move_cells, view-Array}
 use Rattle.gm_page.proofs.Rowing.{trees_all}
 use Rattle.gm_page.proofs.rows.group_value.Goals as goal
 

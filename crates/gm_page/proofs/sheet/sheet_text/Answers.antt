@@ -1,12 +1,10 @@
-use Rattle.gm_page.proofs.Lower.{List, sym, subst, All, IfOk-weaker, Found, AreEntries}
+use Rattle.gm_page.proofs.Lower.{◌≡◌, ◌++◌, ℕ, List, sym, subst, ap, ap₂, ◌∙◌, flat_map, All, IfOk-weaker, Found, AreEntries, All-contains_itself, chosen_in}
+use Rattle.gm_page.proofs.Lower.{IsKnownAt, entry_text, answer_text, heading, lists}
 use Rattle.std.specs.Option.{is_some}
-use Rattle.std.proofs.lemmas.List.Elements.{All-contains_itself}
-use Rattle.gm_find.proofs.Telling.{chosen_in}
-use Rattle.gm_page.specs.Sheets.{IsKnownAt}
 use Rattle.gm_page.proofs.sheet.sheet_text.Goals as goal
 
-pub sheet_of_found-requires : goal.sheet_of_found-requires
-sheet_of_found-requires g c =
+pub push_entries-requires : goal.push_entries-requires
+push_entries-requires g c =
     let r = g.G.Game.rules in
     let xs = c.in_ok-found.found.items in
     subst (All (IsKnownAt r c.args.known.now.tables.now)) (sym c.as_slice.ensures.value)
@@ -18,11 +16,16 @@ sheet_of_found-requires g c =
 
 pub returns : goal.returns
 returns g c =
-    IfOk-weaker c.sheet_of_found.result _ _ (λ v (es, are, is). record {
+    let (es, are, a, b) = c.in_ok-push_entries.ensures in
+    let entries : c.as_slice-2.result.now ≡ flat_map entry_text es = c.as_slice-2.ensures.value ∙ a ∙ ap (λ (t : List ℕ). t ++ flat_map entry_text es)
+    c.new-entries.ensures.items in
+    let answers : c.as_slice-3.result.now ≡ flat_map answer_text es = c.as_slice-3.ensures.value ∙ b ∙ ap (λ (t : List ℕ). t ++ flat_map answer_text es)
+    c.new-answers.ensures.items in
+    IfOk-weaker c.sheet_with.result _ _ (λ v h. record {
       found = c.in_ok-found.found.items;
       are_found = c.in_ok-found.ensures.chosen;
       entries = es;
       are_entries = subst (λ (xs : List Found). AreEntries g.G.Game.rules g.G.Shown.shown g.G.Shown.move_shown g.G.Pictured.picture xs es)
           c.as_slice.ensures.value are;
-      out_is = is;
-    }) c.sheet_of_found.ensures
+      out_is = h ∙ ap₂ (λ (x : List ℕ) (y : List ℕ). heading g.G.Pictured.picture.title ++ lists x y) entries answers;
+    }) c.sheet_with.ensures

@@ -1,6 +1,4 @@
-use Rattle.std.proofs.Common.{refl}
-use Rattle.std.proofs.lemmas.Result.{IfOk-weaker}
-use Rattle.gm_page.specs.ShowTexts.{IsDiagram}
+use Rattle.gm_page.proofs.Lower.{refl, IfOk-weaker, IsDiagram}
 use Rattle.gm_page.proofs.show.diagram_text.Goals as goal
 
 pub returns : goal.returns

@@ -1,13 +1,15 @@
-use Rattle.std.proofs.Common.{refl}
-use Rattle.std.proofs.lemmas.Result.{IfOk-weaker}
-use Rattle.gm_page.specs.ShowTexts.{IsShowText}
+use Rattle.gm_page.proofs.Lower.{refl, arith, common_steps}
+use Rattle.gm_page.proofs.show.show_text.Goals.{then-explained+in_ok-push_naming, else-explained}
 use Rattle.gm_page.proofs.show.show_text.Goals as goal
 
 pub returns : goal.returns
-returns g c =
-    let r = g.G.Game.rules in
-    let s = g.G.Shown.shown in
-    let m = g.G.Shown.move_shown in
-    let known = c.args.known.now in
-    IfOk-weaker c.board_and_naming.result _ (λ v. IsShowText r s m g.G.Pictured.picture c.args.explained (s known.position) v.items)
-    (λ v h. (known.position, (known.legal, refl), c.value.result, c.value.ensures.value, h)) c.board_and_naming.ensures
+returns g c = (
+  c.args.known.now.position,
+  (c.args.known.now.legal, refl),
+  c.value.result,
+  c.value.ensures.value,
+  elim c.if-explained.branch [
+    | then-explained+in_ok-push_naming w ↦ grind (arith, common_steps)
+    | else-explained w ↦ grind (arith, common_steps)
+  ],
+)

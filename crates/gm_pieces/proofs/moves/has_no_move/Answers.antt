@@ -1,31 +1,22 @@
-use Rattle.gm_pieces.specs.Lower.{ℕ, List, eqb, length, filter, range_with_len, sym, ap, ◌∙◌, arith}
+use Rattle.gm_pieces.proofs.Lower.{ℕ, List, eqb, length, filter, range_with_len, sym, ap, ◌∙◌, arith, step_listed, tried_none, tried_out, edge_past}
 use Rattle.gm_pieces.specs.MoveGames.{steps}
-use Rattle.gm_pieces.specs.Tried.{number_at}
-use Rattle.gm_pieces.specs.laws.MoveLaws.{step_listed}
-use Rattle.gm_pieces.specs.laws.TriedFacts.{tried_none, tried_out, edge_past}
 use Rattle.gm_pieces.proofs.moves.has_no_move.Goals as goal
 
 pub loop-place-init : goal.loop-place-init
-loop-place-init g c =
-    let r = g.T.MoveRules.game in
-    let b = g.T.MoveRules.cells c.args.board in
-    tried_none (r.can_move b) (r.move_number_bound (r.tier b)) c.candidates-candidates.result c.candidates-candidates.ensures
+loop-place-init g c = tried_none c.candidates-candidates.ensures
 
 pub returns-then-can_move : goal.returns-then-can_move
 returns-then-can_move g c =
     let r = g.T.MoveRules.game in
     let b = g.T.MoveRules.cells c.args.board in
-    let k = c.loop-place.place in
-    let cs = c.candidates-candidates.result in
-    sym (step_listed r b (number_at cs k) (c.candidates-candidates.ensures.below k (omega (arith, c.loop-place-test.true, c.count-place-end.ensures)))
+    sym (step_listed r b _ (c.candidates-candidates.ensures.below c.loop-place.place (omega (arith, c.loop-place-test.true, c.count-place-end.ensures)))
     (ap (r.can_move b) (sym c.number.ensures) ∙ sym c.can_move.ensures ∙ c.if-can_move.true))
 
 pub loop-place-preserved : goal.loop-place-preserved
 loop-place-preserved g c =
     let r = g.T.MoveRules.game in
     let b = g.T.MoveRules.cells c.args.board in
-    tried_out (r.can_move b) (r.move_number_bound (r.tier b)) c.candidates-candidates.result c.candidates-candidates.ensures c.loop-place.place
-    (omega (arith, c.loop-place-test.true, c.count-place-end.ensures))
+    tried_out c.candidates-candidates.ensures c.loop-place.place (omega (arith, c.loop-place-test.true, c.count-place-end.ensures))
     (ap (r.can_move b) (sym c.number.ensures) ∙ sym c.can_move.ensures ∙ c.if-can_move.false)
     ∙ c.loop-place.invariant
 
@@ -35,6 +26,6 @@ returns g c =
     let r = g.T.MoveRules.game in
     let b = g.T.MoveRules.cells c.args.board in
     sym (ap (λ (xs : List ℕ). eqb (length xs) 0)
-    (ap (λ (m : ℕ). filter (r.can_move b) (range_with_len 0 m)) (sym (edge_past (r.can_move b) (r.move_number_bound (r.tier b)) c.candidates-candidates.result
-    c.candidates-candidates.ensures c.loop-place.place (omega (arith, c.loop-place-test.false, c.count-place-end.ensures))))
+    (ap (λ (m : ℕ). filter (r.can_move b) (range_with_len 0 m)) (sym (edge_past c.candidates-candidates.ensures c.loop-place.place
+    (omega (arith, c.loop-place-test.false, c.count-place-end.ensures))))
     ∙ c.loop-place.invariant))

@@ -1,6 +1,4 @@
-use Rattle.std.specs.Prelude.{◌≡◌}
-use Rattle.gm_pieces.specs.Lower.{[], filter, range_with_len}
-use Rattle.gm_pieces.specs.Tried.{edge}
+use Rattle.gm_pieces.proofs.Lower.{◌≡◌, [], filter, range_with_len, edge}
 use Rattle.gm_pieces.proofs.moves.has_no_move.Given as goal
 
 abbrev pub invariant-loop-place : goal.invariant-loop-place

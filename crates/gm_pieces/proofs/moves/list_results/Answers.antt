@@ -1,7 +1,4 @@
-use Rattle.std.specs.Prelude.{◌≡◌}
-use Rattle.gm_pieces.specs.Lower.{true, sym, ap, subst, ◌∙◌, least_image}
-use Rattle.gm_pieces.specs.MoveGames.{board_game}
-use Rattle.gm_pieces.specs.laws.ChildFacts.{listed_move, one_listed}
+use Rattle.gm_pieces.proofs.Lower.{◌≡◌, true, sym, ap, subst, ◌∙◌, least_image, board_game, listed_move, one_listed}
 use Rattle.gm_pieces.proofs.moves.list_results.Goals as goal
 
 pub moved-requires-clause-step : goal.moved-requires-clause-step

@@ -1,6 +1,4 @@
-use Rattle.std.specs.Prelude.{◌≡◌}
-use Rattle.gm_pieces.specs.Lower.{map, take}
-use Rattle.gm_pieces.specs.MoveChildren.{position_after}
+use Rattle.gm_pieces.proofs.Lower.{◌≡◌, map, take, position_after}
 use Rattle.gm_pieces.proofs.moves.list_results.Given as goal
 
 abbrev pub invariant-loop-m : goal.invariant-loop-m

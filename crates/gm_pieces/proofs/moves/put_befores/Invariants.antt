@@ -1,7 +1,4 @@
-use Rattle.std.specs.Prelude.{◌≡◌}
-use Rattle.gm_pieces.specs.Lower.{[], map, filter_map, range_with_len, put_all, least_index}
-use Rattle.gm_pieces.specs.MoveGames.{board_game, before_at}
-use Rattle.gm_pieces.specs.Tried.{edge}
+use Rattle.gm_pieces.proofs.Lower.{◌≡◌, [], map, filter_map, range_with_len, put_all, least_index, board_game, before_at, edge}
 use Rattle.gm_pieces.proofs.moves.put_befores.Given as goal
 
 abbrev pub invariant-loop-place : goal.invariant-loop-place

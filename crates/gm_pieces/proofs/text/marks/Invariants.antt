@@ -1,5 +1,4 @@
-use Rattle.std.specs.Prelude.{◌<◌, ◌^◌}
-use Rattle.gm_pieces.specs.Lower.{IsRead}
+use Rattle.gm_pieces.proofs.Lower.{◌<◌, ◌^◌, IsRead}
 use Rattle.gm_pieces.proofs.text.marks.Given as goal
 
 abbrev pub invariant-loop-cell : goal.invariant-loop-cell

@@ -1,4 +1,4 @@
-use Rattle.gm_play.proofs.Lower.{◌≡◌, List, ℕ, take, get_or, sym, subst, ◌∙◌, arith, take_more, take_all, IsAscending, IsChoice}
+use Rattle.gm_play.proofs.Lower.{◌≡◌, take, get_or, sym, subst, ◌∙◌, take_more, IsAscending}
 use Rattle.gm_play.proofs.Choosing.{considered}
 use Rattle.gm_play.proofs.Wanted.{all_below}
 use Rattle.gm_play.proofs.best_moves.choose.Goals as goal
@@ -11,14 +11,5 @@ loop-number-preserved g c =
     let inside = c.loop-number-test.true in
     let same : items ≡ r.moves c.args.p = c.as_slice-number-items.ensures.value ∙ c.moves.ensures in
     let up : IsAscending items = subst IsAscending (sym same) (g.met.G.Game.lawful.moves_ascending c.args.p c.requires.legal) in
-    subst (λ (l : List ℕ). IsChoice r c.args.p c.args.value l c.consider-best.result) (sym (take_more items k 0 inside))
-    (considered r c.args.p c.args.value (take k items) (get_or items k 0) (all_below items k up inside) c.loop-number.best c.consider-best.result
-    c.loop-number.invariant c.consider-best.ensures)
-
-pub returns : goal.returns
-returns g c =
-    let r = g.G.Game.rules in
-    let items = c.as_slice-number-items.result.now in
-    let k = c.loop-number.number-index in
-    let same : take k items ≡ r.moves c.args.p = take_all k items (omega arith) ∙ c.as_slice-number-items.ensures.value ∙ c.moves.ensures in
-    subst (λ (l : List ℕ). IsChoice r c.args.p c.args.value l c.loop-number.best) same c.loop-number.invariant
+    rw (take_more items k 0 inside) (considered r c.args.p c.args.value (take k items) (get_or items k 0) (all_below items k up inside)
+    c.loop-number.best c.consider-best.result c.loop-number.invariant c.consider-best.ensures)

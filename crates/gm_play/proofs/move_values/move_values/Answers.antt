@@ -1,5 +1,4 @@
-use Rattle.gm_play.proofs.Lower.{List, ℕ, map, subst, IsPermutation, MoveValue, IsMoveValue}
-use Rattle.std.proofs.lemmas.List.Sorted.{All-permutation, IsPermutation-map}
+use Rattle.gm_play.proofs.Lower.{MoveValue, IsMoveValue, All-permutation, IsPermutation-map}
 use Rattle.gm_play.proofs.Held.{held_own, held_children}
 use Rattle.gm_play.proofs.Wanted.{children_known, own_known}
 use Rattle.gm_play.proofs.Ranking.{begins_best}
@@ -7,12 +6,10 @@ use Rattle.gm_play.proofs.move_values.move_values.Goals as goal
 
 pub returns-clause-values : goal.returns-clause-values
 returns-clause-values g c =
-    let number : MoveValue → ℕ = λ (x : MoveValue). x.number in
     let old = c.values_of-list.result.items in
     let new = c.put_in_order.new.list.items in
     record {
-      listed = subst (λ (ms : List ℕ). IsPermutation ms (map number new)) c.values_of-list.ensures.listed
-          (IsPermutation-map number old new c.put_in_order.ensures.same);
+      listed = rw c.values_of-list.ensures.listed at (IsPermutation-map (λ (x : MoveValue). x.number) old new c.put_in_order.ensures.same);
       each = All-permutation (IsMoveValue g.G.Game.rules c.args.known.now.position) old new c.put_in_order.ensures.same c.values_of-list.ensures.each;
       ordered = c.put_in_order.ensures.ordered;
     }

@@ -1,6 +1,4 @@
-use Rattle.gm_play.proofs.Lower.{rules}
-use Rattle.std.proofs.lemmas.List.Sorted.{IsNonDecreasingBy-from_sort, answers_always}
-use Rattle.arrayvec.proofs.ArrayVecLemmas.{items-with_items}
+use Rattle.gm_play.proofs.Lower.{rules, IsNonDecreasingBy-from_sort, answers_always, items-with_items}
 use Rattle.gm_play.specs.MoveValues.{place}
 use Rattle.gm_play.proofs.move_values.put_in_order.Goals as goal
 

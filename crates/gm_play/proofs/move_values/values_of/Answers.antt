@@ -1,7 +1,5 @@
-use Rattle.gm_play.proofs.Lower.{◌≡◌, ◌+◌, ◌<◌, ◌≤◌, ℕ, List, ◌∷◌, [], ◌++◌, length, map, take, get_or, sym, ap, ◌∙◌, subst, arith, All, Contains, take_more}
-use Rattle.gm_play.proofs.Lower.{take_all, map-append, length-take-le, All-push, MoveValue, IsMoveValue}
-use Rattle.std.proofs.lemmas.List.{length-map}
-use Rattle.std.proofs.lemmas.List.Elements.{Contains-get_or}
+use Rattle.gm_play.proofs.Lower.{◌≡◌, ◌<◌, ◌≤◌, ℕ, List, ◌∷◌, [], length, map, take, get_or, sym, ap, ◌∙◌, subst, arith, Contains, take_more, refl, take_all}
+use Rattle.gm_play.proofs.Lower.{map-append, length-take-le, All-push, MoveValue, IsMoveValue, length-map, Contains-get_or}
 use Rattle.gm_play.proofs.move_values.values_of.Goals as goal
 
 -- there is room for one more
@@ -19,15 +17,15 @@ loop-number-preserved g c =
     let k = c.loop-number.number-index in
     let list = c.loop-number.list.items in
     let x = c.value_of.result in
-    let number : MoveValue → ℕ = λ (y : MoveValue). y.number in
-    let pushed : c.push.new.self.items ≡ list ++ x ∷ [] = c.push.ensures.items in
-    let first : map number (list ++ x ∷ []) ≡ take k items ++ x.number ∷ [] = map-append number list (x ∷ []) ∙ ap (λ (l : List ℕ). l ++ x.number ∷ [])
-    c.loop-number.invariant.listed in
-    let last : take k items ++ x.number ∷ [] ≡ take (k + 1) items = ap (λ (n : ℕ). take k items ++ n ∷ []) c.value_of.ensures.number ∙ sym
-    (take_more items k 0 c.loop-number-test.true) in
     record {
-      listed = ap (map number) pushed ∙ first ∙ last;
-      each = subst (All (IsMoveValue g.G.Game.rules c.args.known.now.position)) (sym pushed)
+      listed = rw (
+        c.push.ensures.items,
+        map-append (λ (y : MoveValue). y.number) list (x ∷ []),
+        c.loop-number.invariant.listed,
+        take_more items k 0 c.loop-number-test.true,
+        c.value_of.ensures.number,
+      ) refl;
+      each = rw c.push.ensures.items
           (All-push (IsMoveValue g.G.Game.rules c.args.known.now.position) list x c.loop-number.invariant.each c.value_of.ensures.value);
     }
 

@@ -1,7 +1,6 @@
-use Rattle.gm_play.proofs.Lower.{◌≡◌, ◌≢◌, ◌+◌, [], drop, drop_more, drop_all, get_or, true, Option, None, Some, is_some, refl, subst, arith}
-use Rattle.gm_play.proofs.Lower.{inl, End, IsReplied}
-use Rattle.gm_play.proofs.Playing.{answers, played, ends_last, replies_on, replies_not, reached_answered, reached_replied, moves_answered}
-use Rattle.gm_play.proofs.Playing.{moves_replied}
+use Rattle.gm_play.proofs.Lower.{◌≡◌, ◌≢◌, ◌+◌, [], drop, drop_more, drop_all, get_or, true, Option, None, Some, is_some, refl, subst, arith, inl, End}
+use Rattle.gm_play.proofs.Lower.{IsReplied}
+use Rattle.gm_play.proofs.Playing.{answers, played, ends_last, replies_on, replies_not, reached_answered, reached_replied, moves_answered, moves_replied}
 use Rattle.gm_play.proofs.Reaching.{own_reached}
 use Rattle.gm_play.proofs.Wanted.{none_if}
 use Rattle.gm_play.proofs.play_line.walk.Goals as goal
@@ -13,12 +12,6 @@ ended_if (Some x) p e f none = let z : ⊥ = cc in z
 
 pub loop-reply-init : goal.loop-reply-init
 loop-reply-init g c = record { on = λ o h. h; reached = own_reached g.G.Game.rules c.args.start.now.position c.args.start.now.legal; few = omega arith }
-
-pub answered-line-requires-clause-reached : goal.answered-line-requires-clause-reached
-answered-line-requires-clause-reached g c = c.loop-reply.invariant.reached
-
-pub answered-requires-clause-reached : goal.answered-requires-clause-reached
-answered-requires-clause-reached g c = c.loop-reply.invariant.reached
 
 pub replied-requires-clause-legal : goal.replied-requires-clause-legal
 replied-requires-clause-legal g c =

@@ -1,13 +1,10 @@
-use Rattle.gm_play.proofs.Lower.{◌≡◌, ◌∙◌, ◌+◌, ◌≤◌, ◌<◌, ◌++◌, ◌∷◌, [], length, ℕ, Some, None, subst, arith, SESSION_BYTES, KEPT, Advice}
-use Rattle.std.proofs.Common.{eq-eqb}
-use Rattle.std.proofs.lemmas.Bool.{ne_eqb}
+use Rattle.gm_play.proofs.Lower.{◌≡◌, ◌∙◌, ◌+◌, ◌≤◌, ◌<◌, ◌++◌, ◌∷◌, [], length, ℕ, arith, SESSION_BYTES, KEPT, Advice, eq-eqb, ne_eqb}
 use Rattle.std.proofs.lemmas.Result.{on_ok_weaker, IfErr-weaker}
-use Rattle.gm_play.specs.Sessions.{ReadsByte}
 use Rattle.gm_play.proofs.Kept.{kept_push, kept_full}
 use Rattle.gm_play.proofs.Parts.{passed}
 use Rattle.gm_play.proofs.Talk.{starts, asks_next, ends, fails, goes_on, answers, read_fails, too_long, hears, input_ends, close_fails}
-use Rattle.gm_play.proofs.session.converse.Goals as goal
 use Rattle.gm_play.proofs.session.converse.Goals.{then-byte-eq10+in_ok-say-2+in-Some-asked, else-byte-eq10+then-not-is_full, else-byte-eq10+else-not-is_full}
+use Rattle.gm_play.proofs.session.converse.Goals as goal
 
 one_below : (a b : ℕ) → a ≤ b → (a ≡ b → ⊥) → a + 1 ≤ b
 one_below a b le ne = omega arith
@@ -38,8 +35,7 @@ loop-count-init g c = record {
 pub returns-in-Ok-None-clause-ok : goal.returns-in-Ok-None-clause-ok
 returns-in-Ok-None-clause-ok g c k known =
     let talk = c.loop-count.invariant.talk k known in
-    let reads : ReadsByte (g.R.Read.remaining c.loop-count.input) (g.R.Read.remaining c.read_byte.new.input) None =
-    subst (ReadsByte _ _) c.in-Ok-None.field-0-is c.in-Ok-None.ensures.ok in
+    let reads = rw c.in-Ok-None.field-0-is at c.in-Ok-None.ensures.ok in
     on_ok_weaker c.say-in-Ok-None.result
     (λ written. input_ends talk g.met.G.Shown.readable c.loop-count.asked.legal _ _ c.deref.ensures.0
     (c.as_slice-in-Ok-None.ensures.value ∙ c.close.ensures k talk.known) _ _ c.loop-count.invariant.few reads.0 reads.1 written)
@@ -48,8 +44,7 @@ returns-in-Ok-None-clause-ok g c k known =
 pub returns-in-Ok-None-clause-err : goal.returns-in-Ok-None-clause-err
 returns-in-Ok-None-clause-err g c k known =
     let talk = c.loop-count.invariant.talk k known in
-    let reads : ReadsByte (g.R.Read.remaining c.loop-count.input) (g.R.Read.remaining c.read_byte.new.input) None =
-    subst (ReadsByte _ _) c.in-Ok-None.field-0-is c.in-Ok-None.ensures.ok in
+    let reads = rw c.in-Ok-None.field-0-is at c.in-Ok-None.ensures.ok in
     IfErr-weaker c.say-in-Ok-None.result _ _
     (λ e cut. close_fails talk g.met.G.Shown.readable c.loop-count.asked.legal _ _ c.deref.ensures.0
     (c.as_slice-in-Ok-None.ensures.value ∙ c.close.ensures k talk.known) _ _ c.loop-count.invariant.few reads.0 e cut)
@@ -60,16 +55,14 @@ returns-in-Err-clause-err g c k known = read_fails (c.loop-count.invariant.talk 
 
 pub returns-then-count-eq-SESSION_BYTES-clause-err : goal.returns-then-count-eq-SESSION_BYTES-clause-err
 returns-then-count-eq-SESSION_BYTES-clause-err g c k known =
-    let reads : ReadsByte (g.R.Read.remaining c.loop-count.input) (g.R.Read.remaining c.read_byte.new.input) (Some c.in-Ok-Some.byte) =
-    subst (ReadsByte _ _) c.in-Ok-Some.field-0-is c.in-Ok-Some.ensures.ok in
+    let reads = rw c.in-Ok-Some.field-0-is at c.in-Ok-Some.ensures.ok in
     too_long (c.loop-count.invariant.talk k known) _ c.in-Ok-Some.byte reads c.if-count-eq-SESSION_BYTES.true
 
 pub returns-in_err-say-2-clause-err : goal.returns-in_err-say-2-clause-err
 returns-in_err-say-2-clause-err g c k known =
     let talk = c.loop-count.invariant.talk k known in
     let few = one_below _ _ c.loop-count.invariant.few c.if-count-eq-SESSION_BYTES.false in
-    let reads : ReadsByte (g.R.Read.remaining c.loop-count.input) (g.R.Read.remaining c.read_byte.new.input) (Some c.in-Ok-Some.byte) =
-    subst (ReadsByte _ _) c.in-Ok-Some.field-0-is c.in-Ok-Some.ensures.ok in
+    let reads = rw c.in-Ok-Some.field-0-is at c.in-Ok-Some.ensures.ok in
     let h = hears talk g.met.G.Shown.readable c.loop-count.asked.legal _ c.deref-then-byte-eq10.ensures.0 (c.reply-part.ensures k talk.known) in
     passed c.from_residual-in_err-say-2.result _ c.in_err-say-2.field-0.0 c.from_residual-in_err-say-2.ensures.1
     (fails (answers talk _ c.in-Ok-Some.byte reads (eq-eqb _ _ c.if-byte-eq10.true) few)
@@ -79,8 +72,7 @@ pub returns-in_default-asked-clause-ok : goal.returns-in_default-asked-clause-ok
 returns-in_default-asked-clause-ok g c k known =
     let talk = c.loop-count.invariant.talk k known in
     let few = one_below _ _ c.loop-count.invariant.few c.if-count-eq-SESSION_BYTES.false in
-    let reads : ReadsByte (g.R.Read.remaining c.loop-count.input) (g.R.Read.remaining c.read_byte.new.input) (Some c.in-Ok-Some.byte) =
-    subst (ReadsByte _ _) c.in-Ok-Some.field-0-is c.in-Ok-Some.ensures.ok in
+    let reads = rw c.in-Ok-Some.field-0-is at c.in-Ok-Some.ensures.ok in
     let h = hears talk g.met.G.Shown.readable c.loop-count.asked.legal _ c.deref-then-byte-eq10.ensures.0 (c.reply-part.ensures k talk.known) in
     ends (answers talk _ c.in-Ok-Some.byte reads (eq-eqb _ _ c.if-byte-eq10.true) few)
     (c.as_slice-then-byte-eq10.ensures.value ∙ h.0, h.1, h.2) _ (rw c.in_default-asked.is) c.in_ok-say-2.ensures.ok
@@ -88,8 +80,7 @@ returns-in_default-asked-clause-ok g c k known =
 pub loop-count-preserved : goal.loop-count-preserved
 loop-count-preserved g c =
     let few : c.loop-count.count + 1 ≤ SESSION_BYTES = one_below _ _ c.loop-count.invariant.few c.if-count-eq-SESSION_BYTES.false in
-    let reads : ReadsByte (g.R.Read.remaining c.loop-count.input) (g.R.Read.remaining c.read_byte.new.input) (Some c.in-Ok-Some.byte) =
-    subst (ReadsByte _ _) c.in-Ok-Some.field-0-is c.in-Ok-Some.ensures.ok in
+    let reads = rw c.in-Ok-Some.field-0-is at c.in-Ok-Some.ensures.ok in
     elim c.if-byte-eq10.branch [
       | then-byte-eq10+in_ok-say-2+in-Some-asked w ↦ record {
         few = few;
@@ -122,6 +113,3 @@ loop-count-preserved g c =
                 (kept_full c.loop-count.line.items talk.line c.in-Ok-Some.byte talk.keeps full)));
           })
     ]
-
-pub returns-clause-err : goal.returns-clause-err
-returns-clause-err g c k known = absurd (omega (arith, c.loop-count.invariant.few, c.loop-count-test.false))

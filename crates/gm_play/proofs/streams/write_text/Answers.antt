@@ -1,6 +1,4 @@
-use Rattle.gm_play.proofs.Lower.{◌-◌, ◌++◌, length, take, drop, sym, ap, subst, ◌∙◌, arith, rules, length-take, Appends, Appends-trans}
-use Rattle.std.proofs.Common.{take-add}
-use Rattle.std.proofs.lemmas.List.{take-take}
+use Rattle.gm_play.proofs.Lower.{◌-◌, ◌++◌, length, take, drop, sym, ap, subst, ◌∙◌, arith, rules, length-take, Appends, Appends-trans, take-add, take-take}
 use Rattle.gm_play.proofs.Parts.{part_stuck, part_kept}
 use Rattle.gm_play.proofs.streams.write_text.Goals as goal
 

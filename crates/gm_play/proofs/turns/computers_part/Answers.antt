@@ -1,7 +1,6 @@
-use Rattle.gm_play.proofs.Lower.{List, ℕ, ◌++◌, ◌∙◌, [], codes, None, Some, sym, ap, ap₂, refl, subst, length, arith, append-nil, Computer, IsBestMove}
-use Rattle.gm_play.specs.Endings.{winner}
-use Rattle.gm_play.proofs.Exits.{best_there}
-use Rattle.gm_play.proofs.Saying.{nested, over_short, computer_is, computer_plays}
+use Rattle.gm_play.proofs.Lower.{List, ℕ, ◌++◌, ◌∙◌, [], codes, None, Some, sym, ap, ap₂, refl, subst, length, arith, append-nil, Computer, IsBestMove, winner}
+use Rattle.gm_play.proofs.Lower.{◌≡◌, Option, IsSome, Position, Rules}
+use Rattle.gm_play.proofs.Saying.{nested, over_short, computer_plays}
 use Rattle.gm_play.proofs.turns.computers_part.Goals as goal
 
 pub joined-requires : goal.joined-requires
@@ -11,9 +10,13 @@ pub returns-in-Some : goal.returns-in-Some
 returns-in-Some g c k known =
     let place = c.as_slice.ensures.value ∙ c.place_line-place.ensures k known in
     let over = append-nil c.over.result.now ∙ c.over.ensures in
-    computer_is g.G.Game.rules g.G.Shown.shown g.G.Shown.move_shown k g.V.View.seen c.args.known.now.position c.joined.result.items None
-    (Some c.in-Some.end) (sym c.primitive.ensures ∙ c.in-Some.is)
+    rw (sym c.primitive.ensures ∙ c.in-Some.is)
     (c.joined.ensures ∙ nested c.as_slice.result.now c.over.result.now [] [] ∙ ap₂ (λ (x y : List ℕ). x ++ y) place over, refl, tt)
+
+-- if the game goes on, there is a best move
+best_there : (r : Rules) (p : Position) (o : Option ℕ) → r.primitive p ≡ None → IsBestMove r p o → IsSome o
+best_there r p None e h = absurd (h e)
+best_there r p (Some m) e h = refl
 
 pub unwrap-m-requires : goal.unwrap-m-requires
 unwrap-m-requires g c = best_there g.G.Game.rules c.args.known.now.position c.best_move.result (sym c.primitive.ensures ∙ c.in-None.is) c.best_move.ensures

@@ -1,6 +1,5 @@
-use Rattle.gm_play.proofs.Lower.{List, ℕ, ◌++◌, ◌∙◌, [], codes, None, Some, sym, ap, ap₂, refl, length, arith, append-nil, You}
-use Rattle.gm_play.specs.Endings.{winner}
-use Rattle.gm_play.proofs.Saying.{nested, over_short, person_is}
+use Rattle.gm_play.proofs.Lower.{List, ℕ, ◌++◌, ◌∙◌, [], codes, sym, ap, ap₂, refl, length, arith, append-nil, You, winner}
+use Rattle.gm_play.proofs.Saying.{nested, over_short}
 use Rattle.gm_play.proofs.turns.persons_part.Goals as goal
 
 pub joined-requires : goal.joined-requires
@@ -11,8 +10,7 @@ returns-in-Some g c k known =
     let front = c.args.front.now in
     let place = c.as_slice.ensures.value ∙ c.place_line-place.ensures k known in
     let over = append-nil c.over.result.now ∙ c.over.ensures in
-    person_is g.G.Game.rules g.G.Shown.shown g.G.Shown.move_shown k g.V.View.seen c.args.known.now.position c.joined.result.items None front
-    (Some c.in-Some.end) (sym c.primitive.ensures ∙ c.in-Some.is)
+    rw (sym c.primitive.ensures ∙ c.in-Some.is)
     (c.joined.ensures ∙ nested front c.as_slice.result.now c.over.result.now [] ∙ ap₂ (λ (x y : List ℕ). front ++ (x ++ y)) place over, refl, tt)
 
 pub returns-in-None : goal.returns-in-None
@@ -21,8 +19,7 @@ returns-in-None g c k known =
     let place = c.as_slice-in-None.ensures.value ∙ c.place_line-place.ensures k known in
     let seen = c.as_slice-in-None-2.ensures.value ∙ c.see.ensures in
     let question = codes "your move?\n" in
-    person_is g.G.Game.rules g.G.Shown.shown g.G.Shown.move_shown k g.V.View.seen c.args.known.now.position c.joined-in-None.result.items
-    (Some c.args.known.now.position) front None (sym c.primitive.ensures ∙ c.in-None.is) (
+    rw (sym c.primitive.ensures ∙ c.in-None.is) (
       c.joined-in-None.ensures ∙ nested front c.as_slice-in-None.result.now c.as_slice-in-None-2.result.now question ∙ ap₂
           (λ (x y : List ℕ). front ++ (x ++ (y ++ question))) place seen,
       refl,

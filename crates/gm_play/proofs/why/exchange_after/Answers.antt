@@ -1,6 +1,23 @@
-use Rattle.gm_play.proofs.Lower.{Some, refl, sym, subst, ◌∙◌, Position, IsBestMove}
-use Rattle.gm_play.proofs.Exchanging.{with_answer}
+use Rattle.gm_play.proofs.Lower.{Some, refl, sym, subst, ◌∙◌, Position, IsBestMove, ◌≡◌, ℕ, true, ap, IsGame, Rules, IsTrueValue, after_best, Exchange}
+use Rattle.gm_play.proofs.Lower.{left_after, value_left, IsExchange}
+use Rattle.gm_play.proofs.Rows.{after_true}
 use Rattle.gm_play.proofs.why.exchange_after.Goals as goal
+
+-- after the best answer
+with_answer : (r : Rules) → IsGame r → (x : Exchange) (m : ℕ) → r.is_legal x.made.position ≡ true → IsTrueValue r x.made.position x.made.result →
+    IsBestMove r x.made.position (Some m) → x.answer ≡ Some m
+    → x.left ≡ r.play x.made.position m → x.value ≡ after_best x.made.result → IsExchange r x
+with_answer r g x m legal value best a l v =
+    let q = x.made.position in
+    let next : IsTrueValue r (r.play q m) (after_best x.made.result) = after_true r q m x.made.result best value in
+    record {
+      legal = legal;
+      answer = subst (IsBestMove r q) (sym a) best;
+      left = l ∙ ap (left_after r q) (sym a);
+      left_legal = subst (λ (z : Position). r.is_legal z ≡ true) (sym l) (g.play_legal q m legal best.1.best.there);
+      value = subst (λ (z : Position). IsTrueValue r z x.value) (sym l) (subst (IsTrueValue r (r.play q m)) (sym v) next);
+      nearer = v ∙ ap (value_left x.made.result) (sym a);
+    }
 
 pub returns-in-Some-clause-exchange : goal.returns-in-Some-clause-exchange
 returns-in-Some-clause-exchange g c =

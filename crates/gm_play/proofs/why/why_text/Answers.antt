@@ -1,14 +1,50 @@
-use Rattle.gm_play.proofs.Lower.{List, refl, sym, subst, ◌∙◌, All, IfOk-weaker, MoveValue, IsMoveValue, IsMoveOf, AreExchangeRows}
-use Rattle.gm_play.specs.Why.{IsWhyText}
+use Rattle.gm_play.proofs.Lower.{refl, sym, subst, ◌∙◌, All, MoveValue, IsMoveValue, IsMoveOf, AreExchangeRows, List, take_all, [], All-nil, ◌≡◌, ℕ, ◌+◌, ◌<◌}
+use Rattle.gm_play.proofs.Lower.{◌∷◌, ◌++◌, length, take, get_or, ap₂, take_more, map-append, flat_map-append, All-push, Position, Rules, Exchange, made_of}
+use Rattle.gm_play.proofs.Lower.{IsExchange, exchange_row}
+use Rattle.std.proofs.lemmas.List.{append-nil}
 use Rattle.gm_play.proofs.why.why_text.Goals as goal
 
-pub rows_for-requires-clause-each : goal.rows_for-requires-clause-each
-rows_for-requires-clause-each g c = subst (All (IsMoveOf g.G.Game.rules c.args.known.now.position)) (sym c.as_slice.ensures.value) c.moves_of-list.ensures.each
+module _ (r : Rules) (shown : Position → List ℕ) (move_shown : Position → ℕ → List ℕ) (p : Position) where
+  -- one more row
+  rows_more : (moves : List MoveValue) (k : ℕ) (d : MoveValue) (x : Exchange) (old new : List ℕ) → k < length moves → AreExchangeRows r shown move_shown
+      p (take k moves) old → x.made ≡ get_or moves k d
+      → IsExchange r x → new ≡ old ++ exchange_row r shown move_shown p x → AreExchangeRows r shown move_shown p (take (k + 1) moves) new
+  rows_more moves k d x old new inside h made is n =
+      let row : Exchange → List ℕ = exchange_row r shown move_shown p in
+      let these = h.exchanges in
+      record {
+        exchanges = these ++ x ∷ [];
+        made = map-append made_of these (x ∷ []) ∙ ap₂ (λ (a : List MoveValue) (b : MoveValue). a ++ b ∷ []) h.made made ∙ sym (take_more moves k d inside);
+        each = All-push (IsExchange r) these x h.each is;
+        out_is = n ∙ ap₂ (λ (a b : List ℕ). a ++ b) h.out_is (sym (append-nil (row x))) ∙ sym (flat_map-append row these (x ∷ []));
+      }
 
-pub rows_for-requires-clause-values : goal.rows_for-requires-clause-values
-rows_for-requires-clause-values g c =
-    let found = c.moves_of-list.ensures.moves in
-    subst (All (IsMoveValue g.G.Game.rules c.args.known.now.position)) (sym (c.as_slice.ensures.value ∙ found.are)) found.values.each
+pub loop-x-init : goal.loop-x-init
+loop-x-init g c = record { exchanges = []; made = refl; each = All-nil _; out_is = c.new-rows.ensures.items }
+
+pub exchange_after-exchange-requires : goal.exchange_after-exchange-requires
+exchange_after-exchange-requires g c =
+    let found = c.moves_of-list.ensures in
+    let same = c.as_slice-x-items.ensures.value in
+    record {
+      each = subst (All (IsMoveOf g.G.Game.rules c.args.known.now.position)) (sym same) found.each c.loop-x.x-index _ c.loop-x-test.true;
+      value = subst (All (IsMoveValue g.G.Game.rules c.args.known.now.position)) (sym (same ∙ found.moves.are)) found.moves.values.each c.loop-x.x-index _
+          c.loop-x-test.true;
+    }
+
+pub push_exchange-requires : goal.push_exchange-requires
+push_exchange-requires g c = record {
+  each = subst (λ (x : MoveValue). IsMoveOf g.G.Game.rules c.args.known.now.position x) (sym c.exchange_after-exchange.ensures.made)
+      (subst (All (IsMoveOf g.G.Game.rules c.args.known.now.position)) (sym c.as_slice-x-items.ensures.value) c.moves_of-list.ensures.each c.loop-x.x-index _
+      c.loop-x-test.true);
+  exchange = c.exchange_after-exchange.ensures.exchange;
+}
+
+pub loop-x-preserved : goal.loop-x-preserved
+loop-x-preserved g c =
+    rows_more g.G.Game.rules g.G.Shown.shown g.G.Shown.move_shown c.args.known.now.position c.as_slice-x-items.result.now c.loop-x.x-index _
+    c.exchange_after-exchange.result c.loop-x.rows.items c.push_exchange.new.rows.items c.loop-x-test.true
+    c.loop-x.invariant c.exchange_after-exchange.ensures.made c.exchange_after-exchange.ensures.exchange c.in_ok-push_exchange.ensures
 
 pub returns : goal.returns
 returns g c =
@@ -17,12 +53,12 @@ returns g c =
     let m = g.G.Shown.move_shown in
     let p = c.args.known.now.position in
     let found = c.moves_of-list.ensures.moves in
-    IfOk-weaker c.rows_for.result _ (λ v. IsWhyText r s m (s p) v.items)
-    (λ v h. record {
+    record {
       position = p;
       read = (c.args.known.now.legal, refl);
       moves = found.list;
       values = found.values;
       best = found.best;
-      rows = subst (λ (list : List MoveValue). AreExchangeRows r s m p list v.items) (c.as_slice.ensures.value ∙ found.are) h;
-    }) c.rows_for.ensures
+      rows = subst (λ (list : List MoveValue). AreExchangeRows r s m p list c.loop-x.rows.items)
+          (take_all c.loop-x.x-index _ c.loop-x-test.false ∙ c.as_slice-x-items.ensures.value ∙ found.are) c.loop-x.invariant;
+    }

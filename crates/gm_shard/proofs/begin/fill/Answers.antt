@@ -1,5 +1,4 @@
-use Rattle.std.proofs.Common.{ℕ, ◌<◌, subst, sym, refl}
-use Rattle.gm_shard.proofs.Lower.{first_left, first_status, IsWithinLimit}
+use Rattle.gm_shard.proofs.Lower.{ℕ, ◌<◌, subst, sym, refl, first_left, first_status, IsWithinLimit}
 use Rattle.gm_shard.proofs.BeginLemmas.{filled_more, filled_all, near_start}
 use Rattle.gm_shard.proofs.begin.fill.Goals as goal
 

@@ -1,4 +1,4 @@
-use Rattle.gm_shard.specs.Begin.{first_left, first_status}
+use Rattle.gm_shard.proofs.Lower.{first_left, first_status}
 use Rattle.gm_shard.proofs.BeginLemmas.{IsFilled}
 use Rattle.gm_shard.proofs.begin.fill.Given as goal
 

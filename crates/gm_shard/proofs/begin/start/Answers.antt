@@ -1,5 +1,4 @@
-use Rattle.std.proofs.Common.{arith}
-use Rattle.gm_game.proofs.ChildrenLemmas.{canonical_children_few}
+use Rattle.gm_shard.proofs.Lower.{arith, canonical_children_few}
 use Rattle.gm_shard.proofs.begin.start.Goals as goal
 
 pub overflow_cast-result : goal.overflow_cast-result

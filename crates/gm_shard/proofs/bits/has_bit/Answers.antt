@@ -1,6 +1,5 @@
-use Rattle.std.proofs.Common.{◌≡◌, ◌==◌, ◌↔◌, ℕ, subst, sym}
+use Rattle.gm_shard.proofs.Lower.{◌≡◌, ◌==◌, ◌↔◌, ℕ, subst, sym, bit_at, shr_and_one, Decides-eqb}
 use Rattle.std.specs.Prelude.{IsTrue}
-use Rattle.gm_shard.proofs.Lower.{bit_at, shr_and_one, Decides-eqb}
 use Rattle.gm_shard.proofs.bits.has_bit.Goals as goal
 
 pub returns : goal.returns

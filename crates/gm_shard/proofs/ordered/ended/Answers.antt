@@ -1,8 +1,7 @@
-use Rattle.std.proofs.Common.{◌≡◌, ℕ, ◌+◌, ◌<◌, length, sym, subst, ◌∙◌, true≢false, arith}
-use Rattle.gm_shard.proofs.Lower.{StatusIs, IsQueue}
+use Rattle.gm_shard.proofs.Lower.{◌≡◌, ℕ, ◌+◌, ◌<◌, length, sym, subst, ◌∙◌, true≢false, arith, StatusIs, IsQueue}
 use Rattle.gm_shard.proofs.FillLemmas.{IsFilled, filled_none, filled_few, filled_more, filled_past, filled_all}
-use Rattle.gm_shard.proofs.ordered.ended.Goals as goal
 use Rattle.gm_shard.proofs.ordered.ended.Goals.{then-has_phase, else-has_phase}
+use Rattle.gm_shard.proofs.ordered.ended.Goals as goal
 
 pub loop-index-init : goal.loop-index-init
 loop-index-init g c =

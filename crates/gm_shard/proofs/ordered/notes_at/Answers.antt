@@ -1,5 +1,5 @@
-use Rattle.gm_shard.proofs.Lower.{IfOk-from_err, Contains-get_or, IsSettledAt, StatusIs, Settled}
-use Rattle.std.proofs.Common.{rules, [], ◌∷◌, ◌++◌, ◌≡◌, ℕ, ◌+◌, ◌<◌, length, get_or, sym, subst, arith, Some}
+use Rattle.gm_shard.proofs.Lower.{IfOk-from_err, Contains-get_or, IsSettledAt, StatusIs, Settled, rules, [], ◌∷◌, ◌++◌, ◌≡◌, ℕ, ◌+◌, ◌<◌, length, get_or, sym}
+use Rattle.gm_shard.proofs.Lower.{subst, arith, Some}
 use Rattle.gm_shard.proofs.NotesAtLemmas.{notes_more, some_note, note_is}
 use Rattle.gm_shard.proofs.ordered.notes_at.Goals as goal
 

@@ -1,5 +1,4 @@
-use Rattle.std.proofs.Common.{take}
-use Rattle.gm_shard.specs.Queues.{AreNotesAt}
+use Rattle.gm_shard.proofs.Lower.{take, AreNotesAt}
 use Rattle.gm_shard.proofs.ordered.notes_at.Given as goal
 
 abbrev pub invariant-loop-index : goal.invariant-loop-index

@@ -1,4 +1,4 @@
-use Rattle.std.proofs.Common.{ℕ, ◌+◌, drop, sym, subst, arith}
+use Rattle.gm_shard.proofs.Lower.{ℕ, ◌+◌, drop, sym, subst, arith}
 use Rattle.gm_shard.proofs.RunLemmas.{Leads, leads_changed, leads_skipped, all_events, one_more_good}
 use Rattle.gm_shard.proofs.replay.replay.Goals.{then-apply, else-apply}
 use Rattle.gm_shard.proofs.replay.replay.Goals as goal

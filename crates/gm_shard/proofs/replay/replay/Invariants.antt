@@ -1,5 +1,4 @@
-use Rattle.std.proofs.Common.{ℕ, ◌<◌, ◌≤◌, drop, slice_index_or}
-use Rattle.gm_shard.proofs.Lower.{ShardState, IsGood}
+use Rattle.gm_shard.proofs.Lower.{ℕ, ◌<◌, ◌≤◌, drop, slice_index_or, ShardState, IsGood}
 use Rattle.gm_shard.proofs.RunLemmas.{Leads}
 use Rattle.gm_shard.proofs.replay.replay.Given as goal
 

@@ -1,6 +1,4 @@
-use Rattle.std.proofs.Common.{◌+◌, ◌-◌}
-use Rattle.gm_solver.proofs.Lower.{REMOTENESS, place_of}
-use Rattle.gm_solver.specs.Tiling.{IsLaterPlace}
+use Rattle.gm_solver.proofs.Lower.{◌+◌, ◌-◌, REMOTENESS, place_of, IsLaterPlace}
 use Rattle.gm_solver.proofs.alone.finish_levels.Given as goal
 
 abbrev pub invariant-loop-tiles : goal.invariant-loop-tiles

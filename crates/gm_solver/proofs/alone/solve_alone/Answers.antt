@@ -1,5 +1,4 @@
-use Rattle.std.proofs.Common.{ℕ, sym, ap, subst, ◌∙◌}
-use Rattle.gm_solver.proofs.Lower.{REMOTENESS, Place, AreHeld, IsTrueTable, IsNumberBefore}
+use Rattle.gm_solver.proofs.Lower.{ℕ, sym, ap, subst, ◌∙◌, REMOTENESS, Place, AreHeld, IsTrueTable, IsNumberBefore}
 use Rattle.gm_solver.proofs.alone.solve_alone.Goals as goal
 
 pub finish_levels-requires : goal.finish_levels-requires

@@ -1,8 +1,6 @@
-use Rattle.gm_solver.proofs.Lower.{IfOk-from_err, length-drop, Start, HasNoneHere}
-use Rattle.std.proofs.Common.{◌-◌, arith, ◌≡◌, ℕ, List, length, take, drop, suc, sym, ap, ◌∙◌, subst}
-use Rattle.gm_solver.specs.Cuts.{cut_at}
+use Rattle.gm_solver.proofs.Lower.{IfOk-from_err, length-drop, Start, HasNoneHere, ◌-◌, arith, ◌≡◌, ℕ, List, length, take, drop, suc, sym, ap, ◌∙◌, subst}
+use Rattle.gm_solver.proofs.Lower.{cut_at, length-take-le}
 use Rattle.gm_solver.proofs.BlockLemmas.{starts_part}
-use Rattle.std.proofs.lemmas.List.{length-take-le}
 use Rattle.gm_solver.proofs.SplitLemmas.{cut_within, step_up}
 use Rattle.gm_solver.proofs.TilingLemmas.{begun_at}
 use Rattle.gm_solver.proofs.RoundLemmas.{none_first}

@@ -1,6 +1,4 @@
-use Rattle.std.proofs.Common.{◌+◌}
-use Rattle.std.proofs.lemmas.Result.{IfOk-at_ok}
-use Rattle.gm_solver.specs.Tiling.{IsTile}
+use Rattle.gm_solver.proofs.Lower.{◌+◌, IfOk-at_ok, IsTile}
 use Rattle.gm_solver.proofs.begin.begin_two_by.Goals as goal
 
 pub returns-in-Ok-Ok : goal.returns-in-Ok-Ok

@@ -1,4 +1,4 @@
-use Rattle.std.proofs.Common.{◌≡◌, ◌+◌, vec_len}
+use Rattle.gm_solver.proofs.Lower.{◌≡◌, ◌+◌, vec_len}
 use Rattle.gm_solver.proofs.crew.slots_of.Given as goal
 
 abbrev pub invariant-loop : goal.invariant-loop

@@ -1,5 +1,4 @@
-use Rattle.std.proofs.Common.{List, Option, ◌++◌, length, ap, subst, sym, ◌∙◌}
-use Rattle.gm_solver.proofs.Lower.{Solved, ArePart}
+use Rattle.gm_solver.proofs.Lower.{List, Option, ◌++◌, length, ap, subst, sym, ◌∙◌, Solved, ArePart}
 use Rattle.gm_solver.proofs.finish.finish_one.Goals as goal
 
 pub returns : goal.returns

@@ -1,5 +1,4 @@
-use Rattle.std.proofs.lemmas.Result.{IfOk-at_ok, IfOk-weaker}
-use Rattle.gm_solver.specs.Tiling.{AreAllOf, AreRecordsOf}
+use Rattle.gm_solver.proofs.Lower.{IfOk-at_ok, IfOk-weaker, AreAllOf, AreRecordsOf}
 use Rattle.gm_solver.proofs.finish.finish_two.Goals as goal
 
 pub returns : goal.returns

@@ -1,5 +1,4 @@
-use Rattle.std.proofs.Common.{subst}
-use Rattle.gm_solver.proofs.Lower.{Place, IsLevel}
+use Rattle.gm_solver.proofs.Lower.{subst, Place, IsLevel}
 use Rattle.gm_solver.proofs.InOrderLemmas.{none_yet}
 use Rattle.gm_solver.proofs.in_order.deliver_level.Goals as goal
 

@@ -1,6 +1,5 @@
-use Rattle.std.proofs.Common.{◌≡◌, ◌+◌, ◌<◌, ◌≤◌, max, ℕ, suc, length, drop, refl, sym, ap, subst, ◌∙◌, arith, Ok, Err}
-use Rattle.gm_solver.proofs.Lower.{slice_get_within, REMOTENESS, TIER_SIZE, Place, NoteData, IsLevel, place_of, Spot, spot_of, pairs_into, AreFirst, IsLevelAt}
-use Rattle.gm_solver.proofs.Lower.{pairs_are_into, IsTooFar}
+use Rattle.gm_solver.proofs.Lower.{◌≡◌, ◌+◌, ◌<◌, ◌≤◌, max, ℕ, suc, length, drop, refl, sym, ap, subst, ◌∙◌, arith, Ok, Err, slice_get_within, REMOTENESS}
+use Rattle.gm_solver.proofs.Lower.{TIER_SIZE, Place, NoteData, IsLevel, place_of, Spot, spot_of, pairs_into, AreFirst, IsLevelAt, pairs_are_into, IsTooFar}
 use Rattle.gm_locks.proofs.Gains.{stays}
 use Rattle.gm_solver.proofs.Far.{refused_far}
 use Rattle.gm_solver.proofs.RoundLemmas.{item_next, item_last, into_fit}

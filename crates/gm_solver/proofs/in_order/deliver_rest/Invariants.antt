@@ -1,5 +1,4 @@
-use Rattle.std.proofs.Common.{◌≡◌, ◌≤◌, max, length, drop}
-use Rattle.gm_solver.proofs.Lower.{spot_of, pairs_into, AreFirst}
+use Rattle.gm_solver.proofs.Lower.{◌≡◌, ◌≤◌, max, length, drop, spot_of, pairs_into, AreFirst}
 use Rattle.gm_solver.proofs.in_order.deliver_rest.Given as goal
 
 -- the pairs that the walk has passed are delivered, as are the first ones that were so before it

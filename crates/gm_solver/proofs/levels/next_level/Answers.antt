@@ -1,6 +1,4 @@
-use Rattle.std.proofs.Common.{◌≤◌, sym, subst}
-use Rattle.gm_solver.proofs.Lower.{TIER_SIZE, Place, AreHeld}
-use Rattle.gm_frontier.specs.Levels.{AreTiles}
+use Rattle.gm_solver.proofs.Lower.{◌≤◌, sym, subst, TIER_SIZE, Place, AreHeld, AreTiles}
 use Rattle.gm_solver.proofs.levels.next_level.Goals as goal
 
 pub gather-requires-clause-tiles : goal.gather-requires-clause-tiles

@@ -1,8 +1,7 @@
-use Rattle.std.proofs.Common.{List, get_or, sym, subst, arith}
-use Rattle.gm_solver.proofs.Lower.{Contains, take_all, Position, at, HasSame, no_repeats_to}
+use Rattle.gm_solver.proofs.Lower.{List, get_or, sym, subst, arith, Contains, take_all, Position, at, HasSame, no_repeats_to}
 use Rattle.gm_solver.proofs.OnceLemmas.{listed_old, listed_new}
-use Rattle.gm_solver.proofs.once.list_once.Goals as goal
 use Rattle.gm_solver.proofs.once.list_once.Goals.{then-not-is_among, else-not-is_among}
+use Rattle.gm_solver.proofs.once.list_once.Goals as goal
 
 pub loop-p-preserved : goal.loop-p-preserved
 loop-p-preserved c =

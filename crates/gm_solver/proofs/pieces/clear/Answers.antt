@@ -1,5 +1,4 @@
-use Rattle.std.proofs.Common.{arith}
-use Rattle.gm_solver.proofs.Lower.{slice_get_within}
+use Rattle.gm_solver.proofs.Lower.{arith, slice_get_within}
 use Rattle.gm_solver.proofs.pieces.clear.Goals as goal
 
 pub returns : goal.returns

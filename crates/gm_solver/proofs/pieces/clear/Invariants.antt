@@ -1,5 +1,4 @@
-use Rattle.std.proofs.Common.{◌≡◌, ℕ, ◌<◌, [], Some, Vec, length, slice_get}
-use Rattle.gm_solver.proofs.Lower.{Global, NoteData}
+use Rattle.gm_solver.proofs.Lower.{◌≡◌, ℕ, ◌<◌, [], Some, Vec, length, slice_get, Global, NoteData}
 use Rattle.gm_solver.proofs.pieces.clear.Given as goal
 
 abbrev pub invariant-loop-list : goal.invariant-loop-list

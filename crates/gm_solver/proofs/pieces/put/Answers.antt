@@ -1,5 +1,4 @@
-use Rattle.std.proofs.Common.{◌≡◌, ◌<◌, ◌++◌, ◌∷◌, [], Some, length, slice_get, refl, sym, ap, ◌∙◌, arith, Vec, ℕ}
-use Rattle.gm_solver.proofs.Lower.{Global, slice_get-get_or, NoteData}
+use Rattle.gm_solver.proofs.Lower.{◌≡◌, ◌<◌, ◌++◌, ◌∷◌, [], Some, length, slice_get, refl, sym, ap, ◌∙◌, arith, Vec, ℕ, Global, slice_get-get_or, NoteData}
 use Rattle.gm_solver.proofs.SplitLemmas.{split_more}
 use Rattle.gm_solver.proofs.pieces.put.Goals as goal
 

@@ -1,5 +1,5 @@
-use Rattle.std.proofs.Common.{ℕ, ◌++◌, List, [], ◌∷◌, sym, ap, ◌∙◌, append_assoc}
-use Rattle.gm_solver.proofs.Lower.{NoteData, piece_of}
+use Rattle.gm_solver.proofs.Lower.{ℕ, ◌++◌, List, [], ◌∷◌, sym, ap, ◌∙◌, NoteData, piece_of}
+use Rattle.std.proofs.Common.{append_assoc}
 use Rattle.gm_solver.proofs.SplitLemmas.{next_fits}
 use Rattle.gm_solver.proofs.pieces.split.Goals as goal
 

@@ -1,5 +1,4 @@
-use Rattle.std.proofs.Common.{◌≡◌, ℕ, ◌++◌, List}
-use Rattle.gm_solver.proofs.Lower.{NoteData, pairs_of, piece_of, AreSplit}
+use Rattle.gm_solver.proofs.Lower.{◌≡◌, ℕ, ◌++◌, List, NoteData, pairs_of, piece_of, AreSplit}
 use Rattle.gm_solver.proofs.pieces.split.Given as goal
 
 -- the pairs that the walk has passed are in the lists

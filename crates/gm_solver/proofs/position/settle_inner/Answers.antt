@@ -1,5 +1,4 @@
-use Rattle.std.proofs.Common.{ℕ, ◌+◌, sym, subst, arith}
-use Rattle.gm_solver.proofs.Lower.{AreThere, value_in, is_decided, AreOnce, IsDeliveryIn}
+use Rattle.gm_solver.proofs.Lower.{ℕ, ◌+◌, sym, subst, arith, AreThere, value_in, is_decided, AreOnce, IsDeliveryIn}
 use Rattle.gm_solver.proofs.Deliveries.{deliveries_inner}
 use Rattle.gm_solver.proofs.Values.{gathered_sum, stays, value_true, decides, too_far, number_few}
 use Rattle.gm_solver.proofs.position.settle_inner.Goals as goal

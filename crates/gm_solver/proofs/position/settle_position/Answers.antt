@@ -1,4 +1,4 @@
-use Rattle.std.proofs.Common.{◌∙◌, arith}
+use Rattle.gm_solver.proofs.Lower.{◌∙◌, arith}
 use Rattle.gm_solver.proofs.Deliveries.{deliveries_outer}
 use Rattle.gm_solver.proofs.position.settle_position.Goals as goal
 

@@ -1,4 +1,4 @@
-use Rattle.std.proofs.Common.{Some, ◌∙◌, arith}
+use Rattle.gm_solver.proofs.Lower.{Some, ◌∙◌, arith}
 use Rattle.gm_solver.proofs.Parts.{passed_none, passed_more, passed_holes}
 use Rattle.gm_solver.proofs.range.settle_range.Goals as goal
 

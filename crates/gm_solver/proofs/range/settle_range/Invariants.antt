@@ -1,5 +1,4 @@
-use Rattle.std.proofs.Common.{◌≡◌, ◌≤◌, ◌-◌}
-use Rattle.gm_table.specs.Caches.{cache_of}
+use Rattle.gm_solver.proofs.Lower.{◌≡◌, ◌≤◌, ◌-◌, cache_of}
 use Rattle.gm_solver.proofs.Parts.{ArePassed}
 use Rattle.gm_solver.proofs.range.settle_range.Given as goal
 

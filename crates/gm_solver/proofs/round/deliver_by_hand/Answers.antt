@@ -1,5 +1,4 @@
-use Rattle.std.proofs.Common.{ap, ◌∙◌}
-use Rattle.gm_solver.proofs.Lower.{Place}
+use Rattle.gm_solver.proofs.Lower.{ap, ◌∙◌, Place}
 use Rattle.gm_solver.proofs.FinishLemmas.{piece_is, refused_at_far}
 use Rattle.gm_solver.proofs.round.deliver_by_hand.Goals as goal
 

@@ -1,6 +1,4 @@
-use Rattle.std.proofs.Common.{◌≡◌, List, length, ap, sym, ◌∙◌, arith}
-use Rattle.std.specs.Int.{div_ceil}
-use Rattle.gm_solver.proofs.Lower.{NoteData}
+use Rattle.gm_solver.proofs.Lower.{◌≡◌, List, length, ap, sym, ◌∙◌, arith, div_ceil, NoteData}
 use Rattle.gm_solver.proofs.round.finish_tile.Goals as goal
 
 pub into_whole-requires : goal.into_whole-requires

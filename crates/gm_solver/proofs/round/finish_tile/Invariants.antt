@@ -1,4 +1,4 @@
-use Rattle.std.proofs.Common.{◌≡◌, ℕ, ◌<◌, true, false, get_or}
+use Rattle.gm_solver.proofs.Lower.{◌≡◌, ℕ, ◌<◌, true, false, get_or}
 use Rattle.gm_solver.proofs.round.finish_tile.Given as goal
 
 abbrev pub invariant-loop-piece : goal.invariant-loop-piece

@@ -1,4 +1,4 @@
-use Rattle.std.proofs.Common.{◌≡◌, ◌++◌}
+use Rattle.gm_solver.proofs.Lower.{◌≡◌, ◌++◌}
 use Rattle.gm_solver.proofs.round.list_of.Given as goal
 
 abbrev pub invariant-loop-pair : goal.invariant-loop-pair

@@ -1,4 +1,4 @@
-use Rattle.std.proofs.Common.{sym, ◌∙◌}
+use Rattle.gm_solver.proofs.Lower.{sym, ◌∙◌}
 use Rattle.gm_solver.proofs.TilingLemmas.{choose_tile}
 use Rattle.gm_solver.proofs.round.run_on_board.Goals as goal
 

@@ -1,5 +1,4 @@
-use Rattle.std.proofs.Common.{◌≡◌, ℕ, IfOk, length, subst}
-use Rattle.gm_solver.proofs.Lower.{AreStarts}
+use Rattle.gm_solver.proofs.Lower.{◌≡◌, ℕ, IfOk, length, subst, AreStarts}
 use Rattle.gm_solver.proofs.scan.starts_by_threads.Goals as goal
 
 pub returns-clause-length : goal.returns-clause-length

@@ -1,5 +1,4 @@
-use Rattle.std.proofs.Common.{ℕ, subst}
-use Rattle.gm_solver.proofs.Lower.{IsTooFar}
+use Rattle.gm_solver.proofs.Lower.{ℕ, subst, IsTooFar}
 use Rattle.gm_solver.proofs.settle.settle_tier.Goals as goal
 
 pub returns-clause-near : goal.returns-clause-near

@@ -1,5 +1,4 @@
-use Rattle.gm_solver.proofs.Lower.{IfOk-from_err, at, IsStart, AreStarts, one_at}
-use Rattle.std.proofs.Common.{◌≡◌, ℕ, ◌+◌, [], ◌∷◌, ◌++◌, length, length-append, sym, ap, subst, arith}
+use Rattle.gm_solver.proofs.Lower.{IfOk-from_err, at, IsStart, AreStarts, one_at, ◌≡◌, ℕ, ◌+◌, [], ◌∷◌, ◌++◌, length, length-append, sym, ap, subst, arith}
 use Rattle.gm_solver.proofs.starts.starts.Goals as goal
 
 pub loop-index-preserved : goal.loop-index-preserved

@@ -1,5 +1,4 @@
-use Rattle.std.proofs.Common.{◌≡◌, ◌+◌, length}
-use Rattle.gm_solver.proofs.Lower.{AreStarts}
+use Rattle.gm_solver.proofs.Lower.{◌≡◌, ◌+◌, length, AreStarts}
 use Rattle.gm_solver.proofs.starts.starts.Given as goal
 
 abbrev pub invariant-loop-index : goal.invariant-loop-index

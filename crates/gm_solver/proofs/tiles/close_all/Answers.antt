@@ -1,6 +1,4 @@
-use Rattle.std.proofs.Common.{ℕ, ◌≤◌, ap, sym, subst, ◌∙◌}
-use Rattle.gm_solver.proofs.Lower.{REMOTENESS, Spot, spot_of, HasNoneHere}
-use Rattle.gm_solver.specs.Tiling.{next_spot}
+use Rattle.gm_solver.proofs.Lower.{ℕ, ◌≤◌, ap, sym, subst, ◌∙◌, REMOTENESS, Spot, spot_of, HasNoneHere, next_spot}
 use Rattle.gm_solver.proofs.RoundLemmas.{none_next}
 use Rattle.gm_solver.proofs.tiles.close_all.Goals as goal
 

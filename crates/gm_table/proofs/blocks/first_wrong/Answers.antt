@@ -1,5 +1,4 @@
-use Rattle.std.proofs.Common.{ℕ, subst}
-use Rattle.gm_table.specs.Checks.{IsFirstWrongIn}
+use Rattle.gm_table.proofs.Lower.{ℕ, subst, IsFirstWrongIn}
 use Rattle.gm_table.proofs.CheckLemmas.{first_of_all}
 use Rattle.gm_table.proofs.blocks.first_wrong.Goals as goal
 

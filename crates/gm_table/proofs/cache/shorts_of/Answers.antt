@@ -1,4 +1,4 @@
-use Rattle.std.proofs.Common.{option_copied, ap}
+use Rattle.gm_table.proofs.Lower.{option_copied, ap}
 use Rattle.gm_table.proofs.cache.shorts_of.Goals as goal
 
 pub returns-in-Some : goal.returns-in-Some

@@ -1,5 +1,4 @@
-use Rattle.std.proofs.Common.{Option, IfSome, Err, refl, ap, subst}
-use Rattle.gm_table.proofs.Lower.{CheckError, AreWrong}
+use Rattle.gm_table.proofs.Lower.{Option, IfSome, Err, refl, ap, subst, CheckError, AreWrong}
 use Rattle.gm_table.proofs.ValueLemmas.{true_iff_fit}
 use Rattle.gm_table.proofs.VerdictLemmas.{true_no_first, wrong_untrue, names_first}
 use Rattle.gm_table.proofs.checker.table_unless.Goals as goal

@@ -1,4 +1,4 @@
-use Rattle.std.proofs.Common.{◌∙◌, arith}
+use Rattle.gm_table.proofs.Lower.{◌∙◌, arith}
 use Rattle.gm_table.proofs.fits.fits.Goals as goal
 
 pub follows-requires : goal.follows-requires

@@ -1,6 +1,4 @@
-use Rattle.std.proofs.Common.{◌≡◌, get_or, refl, sym, subst, ◌∙◌, arith}
-use Rattle.gm_table.proofs.Lower.{AreResults, at, look_up}
-use Rattle.gm_table.specs.Caches.{CacheData}
+use Rattle.gm_table.proofs.Lower.{◌≡◌, get_or, refl, sym, subst, ◌∙◌, arith, AreResults, at, look_up, CacheData}
 use Rattle.gm_table.proofs.CacheLemmas.{settled_sum}
 use Rattle.gm_table.proofs.CheckLemmas.{child_canonical, settled_results}
 use Rattle.gm_table.proofs.ReadLemmas.{summary_more, summary_all}

@@ -1,5 +1,4 @@
-use Rattle.std.proofs.Common.{◌≡◌, map, take}
-use Rattle.gm_table.proofs.Lower.{AreResults, IsSummary, look_up}
+use Rattle.gm_table.proofs.Lower.{◌≡◌, map, take, AreResults, IsSummary, look_up}
 use Rattle.gm_table.proofs.fits.gather.Given as goal
 
 abbrev pub invariant-loop-c : goal.invariant-loop-c

@@ -1,5 +1,4 @@
-use Rattle.std.proofs.Common.{◌+◌, ◌<◌, length, ◌∙◌, ap, arith}
-use Rattle.gm_table.proofs.Lower.{WinLose, Ties, later}
+use Rattle.gm_table.proofs.Lower.{◌+◌, ◌<◌, length, ◌∙◌, ap, arith, WinLose, Ties, later}
 use Rattle.gm_table.proofs.HoleLemmas.{greatest_over}
 use Rattle.gm_table.proofs.LevelLemmas.{greatest_with_one}
 use Rattle.gm_table.proofs.levels.greatest_levels.Goals as goal

@@ -1,5 +1,4 @@
-use Rattle.std.proofs.Common.{◌≡◌, ◌-◌, ◌≤◌, take, length}
-use Rattle.gm_table.proofs.Lower.{WinLose, Ties, greatest_of}
+use Rattle.gm_table.proofs.Lower.{◌≡◌, ◌-◌, ◌≤◌, take, length, WinLose, Ties, greatest_of}
 use Rattle.gm_table.proofs.levels.greatest_levels.Given as goal
 
 abbrev pub invariant-loop-index : goal.invariant-loop-index

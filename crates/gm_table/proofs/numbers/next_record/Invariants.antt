@@ -1,4 +1,4 @@
-use Rattle.std.proofs.Common.{ℕ, ◌-◌, ◌<◌, ◌≤◌, length, slice_get, IfSome}
+use Rattle.gm_table.proofs.Lower.{ℕ, ◌-◌, ◌<◌, ◌≤◌, length, slice_get, IfSome}
 use Rattle.gm_table.proofs.numbers.next_record.Given as goal
 
 abbrev pub invariant-loop-index : goal.invariant-loop-index

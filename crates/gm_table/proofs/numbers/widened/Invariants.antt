@@ -1,5 +1,4 @@
-use Rattle.std.proofs.Common.{◌≡◌, map, take}
-use Rattle.gm_table.specs.Numbers.{wide}
+use Rattle.gm_table.proofs.Lower.{◌≡◌, map, take, wide}
 use Rattle.gm_table.proofs.numbers.widened.Given as goal
 
 abbrev pub invariant-loop-short : goal.invariant-loop-short

@@ -1,5 +1,4 @@
-use Rattle.std.proofs.Common.{◌≡◌, ℕ, ◌+◌, ◌-◌, vec_len}
-use Rattle.gm_table.specs.Runs.{run_at}
+use Rattle.gm_table.proofs.Lower.{◌≡◌, ℕ, ◌+◌, ◌-◌, vec_len, run_at}
 use Rattle.gm_table.proofs.runs.grow.Given as goal
 
 abbrev pub invariant-loop-alloc : goal.invariant-loop-alloc

@@ -1,5 +1,4 @@
-use Rattle.std.proofs.Common.{refl, arith}
-use Rattle.gm_table.specs.Shorts.{record_of_short}
+use Rattle.gm_table.proofs.Lower.{refl, arith, record_of_short}
 use Rattle.gm_table.proofs.ReadLemmas.{summary_more, summary_all, decided_more, decided_few}
 use Rattle.gm_table.proofs.shorts.sum_of_shorts.Goals as goal
 

@@ -1,6 +1,4 @@
-use Rattle.std.proofs.Common.{◌≡◌, ◌≤◌, map, length, take}
-use Rattle.gm_table.proofs.Lower.{filter, is_decided, IsSummary}
-use Rattle.gm_table.specs.Shorts.{record_of_short, marked_short}
+use Rattle.gm_table.proofs.Lower.{◌≡◌, ◌≤◌, map, length, take, filter, is_decided, IsSummary, record_of_short, marked_short}
 use Rattle.gm_table.proofs.shorts.sum_of_shorts.Given as goal
 
 abbrev pub invariant-loop-short : goal.invariant-loop-short

@@ -1,4 +1,4 @@
-use Rattle.gm_pieces.specs.Common.{arith}
+use Rattle.gm_tactix.proofs.Lower.{arith}
 use Rattle.gm_tactix.proofs.MaskTable.{mask_fits}
 use Rattle.gm_tactix.proofs.masks.segment_mask.Goals as goal
 

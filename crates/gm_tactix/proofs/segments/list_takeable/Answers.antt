@@ -1,7 +1,4 @@
-use Rattle.std.specs.Prelude.{◌++◌}
-use Rattle.gm_pieces.specs.Common.{ℕ, List, ap₂, ◌∙◌, inl, inr, arith, cases_lt}
-use Rattle.gm_tactix.specs.Board.{can_take}
-use Rattle.gm_tactix.specs.CounterMasks.{counters_of}
+use Rattle.gm_tactix.proofs.Lower.{◌++◌, ℕ, List, ap₂, ◌∙◌, inl, inr, arith, cases_lt, can_take, counters_of}
 use Rattle.gm_tactix.proofs.LineSegments.{line_taken, lines_more}
 use Rattle.gm_tactix.proofs.segments.list_takeable.Goals as goal
 

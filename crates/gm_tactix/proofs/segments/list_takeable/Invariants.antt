@@ -1,8 +1,5 @@
-use Rattle.std.specs.Prelude.{◌≡◌, ◌≤◌, ◌+◌, ◌*◌}
-use Rattle.gm_pieces.specs.Common.{length, take, filter, flat_map, range_with_len}
-use Rattle.gm_tactix.specs.Board.{can_take}
-use Rattle.gm_tactix.specs.CounterMasks.{counters_of}
-use Rattle.gm_tactix.specs.Lines.{line_segments}
+use Rattle.gm_tactix.proofs.Lower.{◌≡◌, ◌≤◌, ◌+◌, length, take, filter, flat_map, range_with_len, can_take, counters_of, line_segments}
+use Rattle.std.specs.Prelude.{◌*◌}
 use Rattle.gm_tactix.proofs.segments.list_takeable.Given as goal
 
 abbrev pub invariant-loop-line : goal.invariant-loop-line

@@ -1,5 +1,4 @@
-use Rattle.std.specs.Prelude.{◌≡◌, ◌+◌, ◌++◌}
-use Rattle.gm_pieces.specs.Common.{ℕ, List, take, ap, ◌∙◌, subst, arith, take_all}
+use Rattle.gm_tactix.proofs.Lower.{◌≡◌, ◌+◌, ◌++◌, ℕ, List, take, ap, ◌∙◌, subst, arith, take_all}
 use Rattle.gm_tactix.proofs.LineTable.{block, shifted, most, long}
 use Rattle.gm_tactix.proofs.LineSegments.{put_all}
 use Rattle.gm_tactix.proofs.segments.put_line.Goals as goal

@@ -1,5 +1,4 @@
-use Rattle.std.specs.Prelude.{◌≡◌, ◌+◌, ◌++◌}
-use Rattle.gm_pieces.specs.Common.{length, take}
+use Rattle.gm_tactix.proofs.Lower.{◌≡◌, ◌+◌, ◌++◌, length, take}
 use Rattle.gm_tactix.proofs.LineTable.{block, shifted}
 use Rattle.gm_tactix.proofs.segments.put_line.Given as goal
 

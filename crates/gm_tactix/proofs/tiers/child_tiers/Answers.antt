@@ -1,5 +1,4 @@
-use Rattle.std.specs.Prelude.{◌≡◌, ◌-◌}
-use Rattle.gm_pieces.specs.Common.{ℕ, List, length, ap, ◌∙◌, arith, length-range_with_len}
+use Rattle.gm_tactix.proofs.Lower.{◌≡◌, ◌-◌, ℕ, List, length, ap, ◌∙◌, arith, length-range_with_len}
 use Rattle.gm_tactix.proofs.tiers.child_tiers.Goals as goal
 
 pub push-requires : goal.push-requires

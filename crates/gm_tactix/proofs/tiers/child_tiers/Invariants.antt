@@ -1,5 +1,4 @@
-use Rattle.std.specs.Prelude.{◌≡◌, ◌-◌}
-use Rattle.gm_pieces.specs.Common.{range_with_len}
+use Rattle.gm_tactix.proofs.Lower.{◌≡◌, ◌-◌, range_with_len}
 use Rattle.gm_tactix.proofs.tiers.child_tiers.Given as goal
 
 abbrev pub invariant-loop-child : goal.invariant-loop-child

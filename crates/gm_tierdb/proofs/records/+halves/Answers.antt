@@ -1,5 +1,5 @@
-use Rattle.gm_tierdb.proofs.Lower.{rules, ◌≡◌, ◌+◌, ◌-◌, length, IfOk, IfErr, subst, arith, ap, ◌∙◌, width, IsFirstBad, AreRead}
-use Rattle.std.proofs.Common.{◌*◌, ◌/◌}
+use Rattle.gm_tierdb.proofs.Lower.{rules, ◌≡◌, ◌+◌, ◌-◌, length, IfOk, IfErr, subst, arith, ap, ◌∙◌, width, IsFirstBad, AreRead, ◌/◌}
+use Rattle.std.proofs.Common.{◌*◌}
 use Rattle.gm_tierdb.proofs.HalfLemmas.{has_read, bad_first, bad_second, read_joined, passed_on}
 use Rattle.gm_tierdb.proofs.records.+halves.Goals as goal
 

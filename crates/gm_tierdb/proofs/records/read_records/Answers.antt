@@ -17,9 +17,6 @@ split_at-requires c =
     subst (λ n. n ≤ length c.loop-index.rest.now) (sym c.record_len.ensures.value)
     (room c.args.version c.loop-index.index c.args.size c.loop-index.rest.now c.loop-index-test.true left)
 
-pub number_at-requires : goal.number_at-requires
-number_at-requires c = c.split_at.ensures.front_len ∙ c.record_len.ensures.value
-
 pub returns-in-None-clause-bad : goal.returns-in-None-clause-bad
 returns-in-None-clause-bad c =
     let v = c.args.version in

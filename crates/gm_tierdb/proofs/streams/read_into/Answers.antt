@@ -1,5 +1,4 @@
-use Rattle.gm_tierdb.proofs.Lower.{◌≡◌, ◌++◌, ◌∙◌, ap, take, arith, inl, length-append, length-take, take-append-le, READ_LEN}
-use Rattle.std.proofs.KnownBytes.{Consumes-trans}
+use Rattle.gm_tierdb.proofs.Lower.{◌≡◌, ◌++◌, ◌∙◌, ap, take, arith, length-append, length-take, take-append-le, READ_LEN, Consumes-trans}
 use Rattle.gm_tierdb.proofs.StreamLemmas.{joined_small}
 use Rattle.gm_tierdb.proofs.streams.read_into.Goals as goal
 
@@ -35,12 +34,3 @@ loop-chunk-preserved g c =
       joined_small before given READ_LEN (omega (arith, c.in-Ok.ensures.bound, c.read.auto.buf, length-take c.min-room.result c.loop-chunk.chunk)),
       Consumes-trans _ _ _ _ _ c.loop-chunk.invariant.1 c.in-Ok.ensures.bytes.0,
     )
-
-pub returns-clause-text : goal.returns-clause-text
-returns-clause-text g c = c.loop-chunk.invariant.1
-
-pub returns-clause-all : goal.returns-clause-all
-returns-clause-all g c = inl (omega (arith, c.loop-chunk.invariant.0, c.loop-chunk-test.false, c.len.ensures))
-
-pub returns-in-Ok-eq0-clause-most : goal.returns-in-Ok-eq0-clause-most
-returns-in-Ok-eq0-clause-most g c = c.loop-chunk.invariant.0

@@ -1,5 +1,4 @@
-use Rattle.gm_tierdb.proofs.Lower.{length, ◌-◌, ◌≤◌, READ_LEN}
-use Rattle.std.specs.Io.KnownBytes.{Consumes}
+use Rattle.gm_tierdb.proofs.Lower.{length, ◌-◌, ◌≤◌, READ_LEN, Consumes}
 use Rattle.gm_tierdb.proofs.streams.read_into.Given as goal
 
 abbrev pub invariant-loop-chunk : goal.invariant-loop-chunk

@@ -1,10 +1,4 @@
-use Rattle.std.proofs.Common.{rules, ◌≡◌, ℕ, List, subst, sym, ◌∙◌}
-use Rattle.std.specs.List.{AllPairs}
-use Rattle.std.proofs.lemmas.List.Sorted.{answers_always}
-use Rattle.std.proofs.lemmas.Bool.Decides.{Decides-eqb}
-use Rattle.std.proofs.lemmas.Map.Made.{AllPairs-from_IsDistinct}
-use Rattle.std.proofs.lemmas.Result.{IfOk-weaker}
-use Rattle.gm_tiers.specs.Orders.{IsBefore}
+use Rattle.gm_tiers.proofs.Lower.{rules, ◌≡◌, ℕ, List, subst, sym, ◌∙◌, AllPairs, answers_always, Decides-eqb, AllPairs-from_IsDistinct, IfOk-weaker, IsBefore}
 use Rattle.gm_tiers.proofs.OrderLemmas.{ordered}
 use Rattle.gm_tiers.proofs.order.put_in_order.Goals as goal
 

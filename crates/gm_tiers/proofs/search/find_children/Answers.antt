@@ -1,4 +1,4 @@
-use Rattle.std.proofs.Common.{Ok, arith, ◌∙◌}
+use Rattle.gm_tiers.proofs.Lower.{Ok, arith, ◌∙◌}
 use Rattle.gm_tiers.proofs.StepLemmas.{passed_on}
 use Rattle.gm_tiers.proofs.AnswerLemmas.{one_more_comes, ends_here}
 use Rattle.gm_tiers.proofs.search.find_children.Goals as goal

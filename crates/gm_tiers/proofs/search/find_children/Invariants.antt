@@ -1,5 +1,4 @@
-use Rattle.std.proofs.Common.{◌≡◌, take, Ok}
-use Rattle.gm_tiers.specs.Search.{comes_to_all}
+use Rattle.gm_tiers.proofs.Lower.{◌≡◌, take, Ok, comes_to_all}
 use Rattle.gm_tiers.proofs.search.find_children.Given as goal
 
 abbrev pub invariant-loop-child : goal.invariant-loop-child

@@ -1,7 +1,4 @@
-use Rattle.std.proofs.Common.{◌≡◌, ◌<◌, ◌≤◌, ◌-◌, ◌∙◌, Ok, length, arith, ⊎_elim, ap, sym, true≢false}
-use Rattle.std.proofs.lemmas.Bool.{cases_lt}
-use Rattle.gm_game.specs.declared.limits.TheConstants.{TIERS}
-use Rattle.gm_tiers.specs.Search.{goes_through}
+use Rattle.gm_tiers.proofs.Lower.{◌≡◌, ◌<◌, ◌≤◌, ◌-◌, ◌∙◌, Ok, length, arith, ⊎_elim, ap, sym, true≢false, cases_lt, TIERS, goes_through}
 use Rattle.gm_tiers.proofs.StepLemmas.{passed_on}
 use Rattle.gm_tiers.proofs.AnswerLemmas.{place_more, place_ends, past_all}
 use Rattle.gm_tiers.proofs.search.search.Goals as goal

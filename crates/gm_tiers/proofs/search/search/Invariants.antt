@@ -1,6 +1,4 @@
-use Rattle.std.proofs.Common.{◌≡◌, ◌-◌, Ok}
-use Rattle.gm_game.specs.declared.limits.TheConstants.{TIERS}
-use Rattle.gm_tiers.specs.Search.{search_of, goes_through}
+use Rattle.gm_tiers.proofs.Lower.{◌≡◌, ◌-◌, Ok, TIERS, search_of, goes_through}
 use Rattle.gm_tiers.proofs.search.search.Given as goal
 
 abbrev pub invariant-loop-next : goal.invariant-loop-next

@@ -1,8 +1,4 @@
-use Rattle.std.proofs.Common.{◌≡◌, ◌<◌, ◌↔◌, ◌∙◌, ℕ, List, Option, Some, sym, ap, min, arith}
-use Rattle.std.specs.List.{Contains}
-use Rattle.std.specs.Fmt.{decimal}
-use Rattle.gm_toys.specs.Subtraction.{moves_down}
-use Rattle.gm_toys.specs.laws.SubtractionLaws.{range_in, range_from}
+use Rattle.gm_toys.proofs.Lower.{◌≡◌, ◌<◌, ◌↔◌, ◌∙◌, ℕ, List, Option, Some, sym, ap, min, arith, Contains, decimal, moves_down, range_in, range_from}
 use Rattle.gm_toys.proofs.Reading.{IsReadTo}
 use Rattle.gm_toys.proofs.subtraction.read_step.Goals as goal
 

@@ -1,21 +1,22 @@
-use Rattle.gm_board.proofs.Lower.{◌≡◌, ℕ, ◌+◌, ◌*◌, ◌^◌, ◌<◌, sym, ap, ◌∙◌, subst, arith, lt_trans, mask_rank, arrangement_index, arrangements}
-use Rattle.gm_board.proofs.Lower.{arrangements_fit, cells_of, mine_mask, their_mask, pieces_index_below, mine_again, theirs_again}
-use Rattle.gm_board.specs.Binomials.{binomial as binomial_of}
+use Rattle.gm_board.proofs.Lower.{◌≡◌, ℕ, ◌+◌, ◌^◌, ◌<◌, sym, ap, ◌∙◌, subst, arith, lt_trans, mask_rank, arrangement_index, arrangements, arrangements_fit}
+use Rattle.gm_board.proofs.Lower.{cells_of, mine_mask, their_mask}
+use Rattle.std.proofs.Common.{◌*◌}
+use Rattle.gm_board.specs.laws.Pieces.{pieces_index_below, mine_again, theirs_again}
 use Rattle.gm_board.proofs.IndexSteps.{index_is}
-use Rattle.gm_board.proofs.arrangement.Arrangement.index.Goals as goal
 use Rattle.gm_board.proofs.arrangement.Arrangement.index.Goals.{After-rank_subset-2}
+use Rattle.gm_board.proofs.arrangement.Arrangement.index.Goals as goal
 
-value_is : (c : After-rank_subset-2) → c.rank_subset.result * c.binomial.result + c.rank_subset-2.result ≡ arrangement_index
+value_is : (c : After-rank_subset-2) → c.rank_subset.result * c.ways.result + c.rank_subset-2.result ≡ arrangement_index
     (cells_of c.args.self.cells c.args.mine c.args.theirs)
 value_is c =
     index_is c.args.self.cells c.args.self.mine c.args.self.theirs c.args.mine c.args.theirs _ _ _ c.args.self.within c.requires
     c.rank_subset.ensures.value
-    (c.binomial.ensures.value ∙ ap (λ (n : ℕ). binomial_of n c.args.self.theirs) c.free.ensures)
+    c.ways.ensures.value
     (c.rank_subset-2.ensures.value ∙ ap mask_rank c.pack-packed.ensures)
 
 pub overflow_add-result : goal.overflow_add-result
 overflow_add-result c =
-    let h : c.rank_subset.result * c.binomial.result + c.rank_subset-2.result < 2 ^ 64 =
+    let h : c.rank_subset.result * c.ways.result + c.rank_subset-2.result < 2 ^ 64 =
     subst (λ (i : ℕ). i < 2 ^ 64) (sym (value_is c))
     (lt_trans (pieces_index_below _ _ _ _ _ c.requires) (arrangements_fit c.args.self.cells c.args.self.mine c.args.self.theirs c.args.self.within)) in
     omega (arith, h)

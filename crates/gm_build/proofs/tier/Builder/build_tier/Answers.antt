@@ -1,6 +1,5 @@
-use Rattle.std.proofs.Common.{subst}
+use Rattle.gm_build.proofs.Lower.{subst, IsOfTier}
 use Rattle.gm_build.proofs.StoreLemmas.{may_have_text}
-use Rattle.gm_build.specs.Findings.{IsOfTier}
 use Rattle.gm_build.proofs.tier.Builder.build_tier.Goals as goal
 
 pub returns-in-Ok-Old-clause-here : goal.returns-in-Ok-Old-clause-here

@@ -1,6 +1,5 @@
-use Rattle.gm_frontier.proofs.Lower.{ℕ, List, ◌≡◌, ap, ◌∙◌, inl, arith, length, subst, NoteData, LevelData, pairs_of}
+use Rattle.gm_frontier.proofs.Lower.{ℕ, List, ◌≡◌, ap, ◌∙◌, inl, arith, length, subst, NoteData, LevelData, pairs_of, IsWhole}
 use Rattle.std.proofs.lemmas.Iterator.Consumers.{count_from_yields_List, YieldsList-from_first}
-use Rattle.gm_frontier.specs.Levels.{IsWhole}
 use Rattle.gm_frontier.proofs.CountLemmas.{notes_few}
 use Rattle.gm_frontier.proofs.PairLemmas.{positions_once, canonical_notes}
 use Rattle.gm_frontier.proofs.RowLemmas.{stretch_all}

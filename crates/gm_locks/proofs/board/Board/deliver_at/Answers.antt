@@ -1,4 +1,4 @@
-use Rattle.std.proofs.Common.{rules, ◌≡◌}
+use Rattle.gm_locks.proofs.Lower.{rules, ◌≡◌}
 use Rattle.gm_locks.proofs.board.Board.deliver_at.Goals.{in-0, in-1, in-2, in_default}
 use Rattle.gm_locks.proofs.board.Board.deliver_at.Goals as goal
 

@@ -1,5 +1,4 @@
-use Rattle.std.proofs.Common.{◌≡◌, ℕ, ap, subst, sym, ◌∙◌, arith}
-use Rattle.gm_locks.proofs.Lower.{pairs_in, IsPlaceOf, Delivers, Spot, Part, HeldData}
+use Rattle.gm_locks.proofs.Lower.{◌≡◌, ℕ, ap, subst, sym, ◌∙◌, arith, pairs_in, IsPlaceOf, Delivers, Spot, Part, HeldData}
 use Rattle.gm_locks.proofs.Gains.{gained, stays, answered}
 use Rattle.gm_locks.proofs.held.Held.deliver_at.Goals as goal
 

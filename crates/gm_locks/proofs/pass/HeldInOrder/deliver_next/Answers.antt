@@ -1,5 +1,4 @@
-use Rattle.std.proofs.Common.{◌≡◌, ℕ, Some, slice_get, sym, ap, subst, ◌∙◌, arith}
-use Rattle.gm_locks.proofs.Lower.{Part, pairs_into}
+use Rattle.gm_locks.proofs.Lower.{◌≡◌, ℕ, Some, slice_get, sym, ap, subst, ◌∙◌, arith, Part, pairs_into}
 use Rattle.gm_locks.proofs.Gains.{gained, stays}
 use Rattle.gm_locks.proofs.RoundLemmas.{IsNext, of_level, next_there, next_new, next_answer, next_round}
 use Rattle.gm_locks.proofs.pass.HeldInOrder.deliver_next.Given.{Over}

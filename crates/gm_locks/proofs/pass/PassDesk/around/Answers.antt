@@ -1,5 +1,4 @@
-use Rattle.std.proofs.Common.{ap, subst, ◌∙◌, arith}
-use Rattle.gm_locks.proofs.Lower.{IsNumberBefore, pairs_in, number_before, Spot, Part}
+use Rattle.gm_locks.proofs.Lower.{ap, subst, ◌∙◌, arith, IsNumberBefore, pairs_in, number_before, Spot, Part}
 use Rattle.gm_locks.proofs.RoundLemmas.{of_level, first_none, level_into}
 use Rattle.gm_locks.proofs.pass.PassDesk.around.Goals as goal
 

@@ -1,5 +1,4 @@
-use Rattle.std.proofs.Common.{◌≡◌, sym, arith}
-use Rattle.gm_locks.proofs.Lower.{pairs_in, IsWhole, closes_reached}
+use Rattle.gm_locks.proofs.Lower.{◌≡◌, sym, arith, pairs_in, IsWhole, closes_reached}
 use Rattle.gm_locks.proofs.RoundLemmas.{of_level, round_whole, round_all}
 use Rattle.gm_locks.proofs.pass.PassDesk.into_whole.Given.{Over}
 use Rattle.gm_locks.proofs.pass.PassDesk.into_whole.Goals.{After-number-exact}

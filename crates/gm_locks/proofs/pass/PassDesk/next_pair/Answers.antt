@@ -1,4 +1,4 @@
-use Rattle.std.proofs.Common.{◌≤◌, refl, length, slice_get, sym, ap, ◌∙◌, arith}
+use Rattle.gm_locks.proofs.Lower.{◌≤◌, refl, length, slice_get, sym, ap, ◌∙◌, arith}
 use Rattle.gm_locks.proofs.RoundLemmas.{pairs_are_into, nth_is}
 use Rattle.gm_locks.proofs.pass.PassDesk.next_pair.Goals as goal
 

@@ -1,5 +1,4 @@
-use Rattle.std.proofs.Common.{ℕ, ◌<◌, sym, subst, ◌∙◌, ap, length, List}
-use Rattle.gm_locks.proofs.Lower.{div_ceil, NoteData}
+use Rattle.gm_locks.proofs.Lower.{ℕ, ◌<◌, sym, subst, ◌∙◌, ap, length, List, div_ceil, NoteData}
 use Rattle.gm_locks.proofs.RoundLemmas.{level_into}
 use Rattle.gm_locks.proofs.PieceLemmas.{begun_pieced}
 use Rattle.gm_locks.proofs.piece.Pieced.around.Goals as goal

@@ -1,5 +1,5 @@
-use Rattle.std.proofs.Common.{◌-◌, ◌<◌, ◌≤◌, ◌==◌, ℕ, List, length, set, refl, sym, ap, arith, Result, Ok, Err}
-use Rattle.gm_locks.proofs.Lower.{IsOk, get_or_read, NoteData, Refused, TooFar, PiecedData, IsTurnAt}
+use Rattle.gm_locks.proofs.Lower.{◌-◌, ◌<◌, ◌≤◌, ◌==◌, ℕ, List, length, set, refl, sym, ap, arith, Result, Ok, Err, IsOk, get_or_read, NoteData, Refused}
+use Rattle.gm_locks.proofs.Lower.{TooFar, PiecedData, IsTurnAt}
 use Rattle.gm_locks.proofs.PieceLemmas.{turned_at}
 use Rattle.gm_locks.proofs.piece.Pieced.deliver.Given.{Over}
 use Rattle.gm_locks.proofs.piece.Pieced.deliver.Goals.{After-range-after}

@@ -1,5 +1,4 @@
-use Rattle.std.proofs.Common.{false, get_or, ap, ◌∙◌}
-use Rattle.gm_locks.proofs.Lower.{PiecedData}
+use Rattle.gm_locks.proofs.Lower.{false, get_or, ap, ◌∙◌, PiecedData}
 use Rattle.gm_locks.proofs.PieceLemmas.{pieces_whole}
 use Rattle.gm_locks.proofs.piece.Pieced.into_whole.Goals as goal
 

@@ -1,5 +1,4 @@
-use Rattle.gm_page.proofs.Lower.{◌≡◌, List, ap, ◌∙◌, get, Position, is_key, place_of}
-use Rattle.std.proofs.Common.{rules}
+use Rattle.gm_page.proofs.Lower.{◌≡◌, List, ap, ◌∙◌, get, Position, is_key, place_of, rules}
 use Rattle.gm_page.proofs.Places.{made_of}
 use Rattle.gm_page.proofs.listing.Listing.place.Goals as goal
 

@@ -1,5 +1,4 @@
-use Rattle.gm_pieces.specs.Lower.{arith}
-use Rattle.gm_pieces.specs.laws.TriedFacts.{all_below}
+use Rattle.gm_pieces.proofs.Lower.{arith, all_below}
 use Rattle.gm_pieces.proofs.candidates.Candidates.below.Goals as goal
 
 pub returns : goal.returns

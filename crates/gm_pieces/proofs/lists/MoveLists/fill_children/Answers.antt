@@ -1,6 +1,4 @@
-use Rattle.std.specs.Prelude.{◌≤◌, ◌+◌}
-use Rattle.gm_pieces.specs.Lower.{length, List, get_or, take, take_all, take_more, sym, subst, arith, Position}
-use Rattle.gm_pieces.specs.Lower.{length_with_le, set_more, IsSetOf}
+use Rattle.gm_pieces.proofs.Lower.{◌≤◌, ◌+◌, length, List, get_or, take, take_all, take_more, sym, subst, arith, Position, length_with_le, set_more, IsSetOf}
 use Rattle.gm_pieces.proofs.lists.MoveLists.fill_children.Goals as goal
 
 pub loop-p-preserved : goal.loop-p-preserved

@@ -1,5 +1,4 @@
-use Rattle.std.specs.Prelude.{◌≤◌}
-use Rattle.gm_pieces.specs.Lower.{length, take, IsSetOf}
+use Rattle.gm_pieces.proofs.Lower.{◌≤◌, length, take, IsSetOf}
 use Rattle.gm_pieces.proofs.lists.MoveLists.fill_children.Given as goal
 
 abbrev pub invariant-loop-p : goal.invariant-loop-p

@@ -1,5 +1,4 @@
-use Rattle.gm_pieces.specs.Lower.{AreHoles}
-use Rattle.gm_pieces.specs.MoveGames.{move_rules}
+use Rattle.gm_pieces.proofs.Lower.{AreHoles, move_rules}
 use Rattle.gm_pieces.proofs.lists.MoveLists.first_board.Given as goal
 
 abbrev pub invariant-loop-index : goal.invariant-loop-index

@@ -1,8 +1,5 @@
-use Rattle.gm_pieces.specs.Lower.{◌∙◌, ap, length, List, Position, next_images, set_of, board_children}
-use Rattle.gm_game.specs.Boards.{board_of}
+use Rattle.gm_pieces.proofs.Lower.{◌∙◌, ap, length, List, Position, next_images, set_of, board_children, board_of, board_game, move_rules, move_game_lawful}
 use Rattle.gm_game.proofs.ChildrenLemmas.{set_itself, canonical_children_once}
-use Rattle.gm_pieces.specs.MoveGames.{board_game, move_rules}
-use Rattle.gm_pieces.specs.laws.MoveLaws.{move_game_lawful}
 use Rattle.gm_pieces.proofs.on_boards.OnBoardsGame.count_children.Goals as goal
 
 pub returns : goal.returns

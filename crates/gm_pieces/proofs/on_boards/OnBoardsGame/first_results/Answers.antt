@@ -1,7 +1,4 @@
-use Rattle.std.specs.Prelude.{◌≡◌}
-use Rattle.gm_pieces.specs.Lower.{rules, subst, next_images, HasSame, at, board_results}
-use Rattle.gm_pieces.specs.MoveGames.{board_game, move_rules}
-use Rattle.gm_pieces.specs.laws.MoveLaws.{move_game_lawful}
+use Rattle.gm_pieces.proofs.Lower.{◌≡◌, rules, subst, next_images, HasSame, at, board_results, board_game, move_rules, move_game_lawful}
 use Rattle.gm_pieces.proofs.on_boards.OnBoardsGame.first_results.Goals as goal
 
 pub returns-then-is_none : goal.returns-then-is_none

@@ -1,4 +1,4 @@
-use Rattle.gm_play.proofs.Lower.{Option, IfSome, ◌≤◌, subst, sym, REMOTENESS, Solved, IsTrueValue}
+use Rattle.gm_play.proofs.Lower.{◌∙◌, Option, IfSome, ◌≤◌, subst, sym, REMOTENESS, Solved}
 use Rattle.gm_play.proofs.Held.{held_own}
 use Rattle.gm_play.proofs.Small.{value_small}
 use Rattle.gm_play.proofs.known.Known.value.Goals as goal
@@ -8,12 +8,8 @@ unwrap-requires g c =
     let known = c.args.self.now in
     c.get.ensures.held.1 (known.legal, held_own g.G.Game.rules known.tables.now known.position.tier known.held)
 
-pub returns-clause-value : goal.returns-clause-value
-returns-clause-value g c = subst (λ (o : Option Solved). IfSome o (IsTrueValue g.G.Game.rules c.args.self.now.position)) c.unwrap.ensures c.get.ensures.is_true
-
 pub returns-clause-small : goal.returns-clause-small
 returns-clause-small g c =
     let known = c.args.self.now in
-    subst (λ (o : Option Solved). IfSome o (λ s. s.remoteness ≤ REMOTENESS)) c.unwrap.ensures
-    (subst (λ (o : Option Solved). IfSome o (λ s. s.remoteness ≤ REMOTENESS)) (sym c.get.ensures.value)
-    (value_small g.G.Game.rules known.tables.now known.position c.get.ensures.tables))
+    let small = value_small g.G.Game.rules known.tables.now known.position c.get.ensures.tables in
+    subst (λ (o : Option Solved). IfSome o (λ s. s.remoteness ≤ REMOTENESS)) (sym c.get.ensures.value ∙ c.unwrap.ensures) small

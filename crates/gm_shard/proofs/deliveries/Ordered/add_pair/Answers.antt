@@ -1,6 +1,4 @@
-use Rattle.gm_shard.specs.Logged.{logged}
-use Rattle.std.proofs.Common.{ℕ, ◌-◌, ◌<◌, ◌≤◌, length, sym, subst, arith, length-set}
-use Rattle.gm_shard.proofs.Lower.{ShardState, CanDeliver}
+use Rattle.gm_shard.proofs.Lower.{logged, ℕ, ◌-◌, ◌<◌, ◌≤◌, length, sym, subst, arith, length-set, ShardState, CanDeliver}
 use Rattle.gm_shard.proofs.StepLemmas.{within_after}
 use Rattle.gm_shard.proofs.OrderedLemmas.{place_left, place_statuses, can_fall, can_rise, kept_seen, shown_more}
 use Rattle.gm_shard.proofs.deliveries.Ordered.add_pair.Goals as goal

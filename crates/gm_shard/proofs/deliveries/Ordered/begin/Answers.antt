@@ -1,5 +1,4 @@
-use Rattle.gm_shard.proofs.Lower.{IfOk-from_err, length-replicate, Undecided}
-use Rattle.std.proofs.Common.{[], refl, length, ◌∙◌, ap, sym}
+use Rattle.gm_shard.proofs.Lower.{IfOk-from_err, length-replicate, Undecided, [], refl, length, ◌∙◌, ap, sym}
 use Rattle.gm_shard.proofs.OrderedLemmas.{first_fields, first_by}
 use Rattle.gm_shard.proofs.deliveries.Ordered.begin.Goals as goal
 

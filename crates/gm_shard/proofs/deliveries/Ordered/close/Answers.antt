@@ -1,6 +1,4 @@
-use Rattle.gm_shard.specs.Logged.{logged}
-use Rattle.std.proofs.Common.{◌≤◌, length, ap, subst, sym}
-use Rattle.gm_shard.proofs.Lower.{REMOTENESS, ShardState, state_by, IsWhole, next_level}
+use Rattle.gm_shard.proofs.Lower.{logged, ◌≤◌, length, ap, subst, sym, REMOTENESS, ShardState, state_by, IsWhole, next_level}
 use Rattle.gm_shard.proofs.CloseLemmas.{kept_next}
 use Rattle.gm_shard.proofs.deliveries.Ordered.close.Goals as goal
 

@@ -1,6 +1,4 @@
-use Rattle.gm_shard.specs.Logged.{logged}
-use Rattle.std.proofs.Common.{ℕ, length, ◌-◌, ◌<◌, ◌≤◌, subst, sym}
-use Rattle.gm_shard.proofs.Lower.{ShardState, state_by}
+use Rattle.gm_shard.proofs.Lower.{logged, ℕ, length, ◌-◌, ◌<◌, ◌≤◌, subst, sym, ShardState, state_by}
 use Rattle.gm_shard.proofs.CounterLemmas.{in_left, counter_read}
 use Rattle.gm_shard.proofs.deliveries.Ordered.counter.Goals as goal
 

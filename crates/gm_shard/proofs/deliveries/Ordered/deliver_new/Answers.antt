@@ -1,5 +1,4 @@
-use Rattle.std.proofs.Common.{◌≡◌, ◌==◌, Bool}
-use Rattle.gm_shard.specs.Delivery.{next_status, is_settling}
+use Rattle.gm_shard.proofs.Lower.{◌≡◌, ◌==◌, Bool, next_status, is_settling}
 use Rattle.gm_shard.proofs.StepLemmas.{Step, room_above, next_is, settling_is, next_after, can_settle, can_stay, settled_now, out_fresh}
 use Rattle.gm_shard.proofs.OrderedLemmas.{step_new}
 use Rattle.gm_shard.proofs.deliveries.Ordered.deliver_new.Given.{Over}

@@ -1,6 +1,5 @@
-use Rattle.gm_shard.specs.Logged.{logged}
-use Rattle.std.proofs.Common.{length, ◌≤◌, ◌*◌, subst}
-use Rattle.gm_shard.proofs.Lower.{MOVES, TIER_SIZE, ShardState, pairs_in, state_by}
+use Rattle.gm_shard.proofs.Lower.{logged, length, ◌≤◌, subst, MOVES, TIER_SIZE, ShardState, pairs_in, state_by}
+use Rattle.std.proofs.Common.{◌*◌}
 use Rattle.gm_shard.proofs.CloseLemmas.{few_there}
 use Rattle.gm_shard.proofs.deliveries.Ordered.delivered.Goals as goal
 

@@ -1,6 +1,4 @@
-use Rattle.gm_shard.specs.Logged.{logged}
-use Rattle.std.proofs.Common.{length, ap, subst, sym}
-use Rattle.gm_shard.proofs.Lower.{ShardState, state_by, CanTurn, first_ties}
+use Rattle.gm_shard.proofs.Lower.{logged, length, ap, subst, sym, ShardState, state_by, CanTurn, first_ties}
 use Rattle.gm_shard.proofs.CloseLemmas.{kept_ties}
 use Rattle.gm_shard.proofs.deliveries.Ordered.next_phase.Goals as goal
 

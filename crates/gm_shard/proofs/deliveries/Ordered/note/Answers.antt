@@ -1,6 +1,4 @@
-use Rattle.gm_shard.specs.Logged.{logged}
-use Rattle.std.proofs.Common.{length, ap, subst, sym, ◌∙◌}
-use Rattle.gm_shard.proofs.Lower.{Solved, at, Status, Settled, ShardState, IsInRange, delivered_to, state_by, StatusIs}
+use Rattle.gm_shard.proofs.Lower.{logged, length, ap, subst, sym, ◌∙◌, Solved, at, Status, Settled, ShardState, IsInRange, delivered_to, state_by, StatusIs}
 use Rattle.gm_shard.proofs.NoteLemmas.{note_of, none_of}
 use Rattle.gm_shard.proofs.deliveries.Ordered.note.Goals as goal
 

@@ -1,5 +1,4 @@
-use Rattle.std.proofs.Common.{◌∙◌, ◌+◌, ◌≤◌, length, ap, subst}
-use Rattle.gm_shard.proofs.Lower.{TIER_SIZE, ShardState, IsGood}
+use Rattle.gm_shard.proofs.Lower.{◌∙◌, ◌+◌, ◌≤◌, length, ap, subst, TIER_SIZE, ShardState, IsGood}
 use Rattle.gm_shard.proofs.GoodLemmas.{good_from}
 use Rattle.gm_shard.proofs.deliveries.Ordered.range.Goals as goal
 

@@ -1,5 +1,4 @@
-use Rattle.std.proofs.Common.{ℕ, ◌<◌, ◌≤◌, ap, arith, refl, subst, sym}
-use Rattle.gm_shard.proofs.Lower.{REMOTENESS, ShardState, IsSettledNow}
+use Rattle.gm_shard.proofs.Lower.{ℕ, ◌<◌, ◌≤◌, ap, arith, refl, subst, sym, REMOTENESS, ShardState, IsSettledNow}
 use Rattle.gm_shard.proofs.deliveries.Ordered.settle_pair.Goals as goal
 
 pub returns-then-self-ge-REMOTENESS : goal.returns-then-self-ge-REMOTENESS

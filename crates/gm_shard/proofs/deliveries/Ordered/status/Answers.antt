@@ -1,7 +1,5 @@
-use Rattle.gm_shard.specs.Logged.{logged}
+use Rattle.gm_shard.proofs.Lower.{logged, ShardState, state_by, ◌≤◌, length, subst, sym}
 use Rattle.gm_shard.proofs.CounterLemmas.{in_statuses, status_read}
-use Rattle.gm_shard.proofs.Lower.{ShardState, state_by}
-use Rattle.std.proofs.Common.{◌≤◌, length, subst, sym}
 use Rattle.gm_shard.proofs.deliveries.Ordered.status.Goals as goal
 
 pub overflow_sub-index : goal.overflow_sub-index

@@ -1,5 +1,8 @@
 -- `after` makes the empty struct, with the items that its clause names. Assumes `Logic`.
-use Rattle.std.proofs.Common.{List, [], ◌∷◌, ◌++◌, refl}
+use Rattle.gm_shard.proofs.Lower.{List, [], ◌∷◌, ◌++◌, refl, logged}
+use Rattle.std.specs.contracts.option.Option.{the_row as OptionOf}
+use Rattle.gm_shard.proofs.LogWalks.{none, one, one_made}
+use Rattle.gm_shard.specs.contracts.log.Log.after.Key.{name as #self}
 use seplogic.Ra.Ura.{Ura}
 use mir.Syntax.{Fn, Args, a_type}
 use mir.Val.{Val, vptr}
@@ -30,13 +33,9 @@ use denote.Triple.Entry.{alive}
 use denote.Triple.Spec.{Meets, triple_of}
 use denote.Triple.Table.{entered}
 use denote.Triple.Walked.{says, Stays, stay_dropped, walk_of, ends_at, walk_Meets, Goes-dropped}
-use Rattle.std.specs.contracts.option.Option.{the_row as OptionOf}
 use Rattle.std.specs.contracts.marker.PhantomData as Mark
-use Rattle.gm_shard.specs.Logged.{logged}
-use Rattle.gm_shard.proofs.LogWalks.{none, one, one_made}
 use Rattle.gm_shard.specs.contracts.log.Log as Log
 use Rattle.gm_shard.specs.contracts.log.Log.after as F
-use Rattle.gm_shard.specs.contracts.log.Log.after.Key.{name as #self}
 use Rattle.gm_shard.proofs.log.Log.after.Statement as stated
 use Rattle.gm_shard.proofs.log.Log.after.Code as code
 

@@ -1,5 +1,4 @@
-use Rattle.std.proofs.lemmas.Result.{IfOk-from_err}
-use Rattle.std.proofs.Common.{length}
+use Rattle.gm_shard.proofs.Lower.{IfOk-from_err, length}
 use Rattle.gm_shard.proofs.FillLemmas.{first_emptied, first_queues}
 use Rattle.gm_shard.proofs.ordered.OrderedShard.begin.Goals as goal
 

@@ -1,5 +1,4 @@
-use Rattle.std.proofs.Common.{sym, subst}
-use Rattle.gm_shard.specs.Steps.{IsWhole}
+use Rattle.gm_shard.proofs.Lower.{sym, subst, IsWhole}
 use Rattle.gm_shard.proofs.ShardLemmas.{closed}
 use Rattle.gm_shard.proofs.ordered.OrderedShard.close.Goals as goal
 

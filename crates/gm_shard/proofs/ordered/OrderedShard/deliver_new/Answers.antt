@@ -1,4 +1,4 @@
-use Rattle.std.proofs.Common.{◌-◌, ◌++◌, ◌∷◌, [], sym, ap, ◌∙◌, true≢false}
+use Rattle.gm_shard.proofs.Lower.{◌-◌, ◌++◌, ◌∷◌, [], sym, ap, ◌∙◌, true≢false}
 use Rattle.gm_shard.proofs.ShardLemmas.{quiet, room_there, pushed}
 use Rattle.gm_shard.proofs.ordered.OrderedShard.deliver_new.Goals as goal
 

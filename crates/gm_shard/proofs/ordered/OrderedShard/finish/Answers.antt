@@ -1,5 +1,6 @@
-use Rattle.std.proofs.Common.{◌≡◌, ◌++◌, [], ◌∷◌, List, Option, sym, ap, subst, ◌∙◌, arith, length-append}
-use Rattle.gm_shard.proofs.Lower.{append_assoc, Place, Phase, Ties, Solved, IsLastLevel, record_of}
+use Rattle.gm_shard.proofs.Lower.{◌≡◌, ◌++◌, [], ◌∷◌, List, Option, sym, ap, subst, ◌∙◌, arith, append_assoc, Place, Phase, Ties, Solved, IsLastLevel}
+use Rattle.gm_shard.proofs.Lower.{record_of}
+use Rattle.std.proofs.Common.{length-append}
 use Rattle.gm_shard.proofs.FinishLemmas.{part_more}
 use Rattle.gm_shard.proofs.ordered.OrderedShard.finish.Goals as goal
 

@@ -1,5 +1,4 @@
-use Rattle.std.proofs.Common.{◌≡◌, ◌+◌, ◌++◌, List, Option, length}
-use Rattle.gm_shard.proofs.Lower.{Solved, ArePart}
+use Rattle.gm_shard.proofs.Lower.{◌≡◌, ◌+◌, ◌++◌, List, Option, length, Solved, ArePart}
 use Rattle.gm_shard.proofs.ordered.OrderedShard.finish.Given as goal
 
 abbrev pub invariant-loop-index : goal.invariant-loop-index

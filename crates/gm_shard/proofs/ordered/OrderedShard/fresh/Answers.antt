@@ -1,6 +1,5 @@
 use Rattle.gm_shard.proofs.Lower.{IfOk-from_err, Contains, IsPermutation, IsNonDecreasing, IsNonDecreasingBy-from_sort, NoteData, IsRun, ShardState}
-use Rattle.gm_shard.proofs.Lower.{IsSettledAt, AreSettledAt, AreNotesAt, place_of}
-use Rattle.std.proofs.Common.{ℕ, ◌+◌, List, length, sym, subst}
+use Rattle.gm_shard.proofs.Lower.{IsSettledAt, AreSettledAt, AreNotesAt, place_of, ℕ, ◌+◌, List, length, sym, subst}
 use Rattle.gm_shard.proofs.FreshLemmas.{settled_permuted, run_of}
 use Rattle.gm_shard.proofs.ordered.OrderedShard.fresh.Given.{Over}
 use Rattle.gm_shard.proofs.ordered.OrderedShard.fresh.Goals.{After-sort_unstable}

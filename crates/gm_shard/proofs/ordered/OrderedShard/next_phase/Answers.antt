@@ -1,5 +1,4 @@
-use Rattle.std.proofs.Common.{ap, ◌∙◌}
-use Rattle.gm_shard.specs.State.{ShardState}
+use Rattle.gm_shard.proofs.Lower.{ap, ◌∙◌, ShardState}
 use Rattle.gm_shard.proofs.ShardLemmas.{turned}
 use Rattle.gm_shard.proofs.ordered.OrderedShard.next_phase.Goals as goal
 

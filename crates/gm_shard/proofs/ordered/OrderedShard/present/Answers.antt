@@ -1,5 +1,4 @@
-use Rattle.std.proofs.Common.{sym, subst}
-use Rattle.gm_shard.proofs.Lower.{ShardState, AreSettledAt}
+use Rattle.gm_shard.proofs.Lower.{sym, subst, ShardState, AreSettledAt}
 use Rattle.gm_shard.proofs.FreshLemmas.{present_of}
 use Rattle.gm_shard.proofs.ordered.OrderedShard.present.Goals as goal
 

@@ -1,4 +1,4 @@
-use Rattle.std.proofs.Common.{length}
+use Rattle.gm_shard.proofs.Lower.{length}
 use Rattle.gm_shard.proofs.MaskedLemmas.{tells_none}
 use Rattle.gm_shard.proofs.shard.Shard.begin.Goals as goal
 

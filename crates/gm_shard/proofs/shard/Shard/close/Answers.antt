@@ -1,5 +1,4 @@
-use Rattle.std.proofs.Common.{◌∙◌, refl, ap, subst, sym, arith}
-use Rattle.gm_shard.proofs.Lower.{IsWhole, next_level}
+use Rattle.gm_shard.proofs.Lower.{◌∙◌, refl, ap, subst, sym, arith, IsWhole, next_level}
 use Rattle.gm_shard.proofs.CloseLemmas.{not_whole, whole_from}
 use Rattle.gm_shard.proofs.shard.Shard.close.Goals as goal
 

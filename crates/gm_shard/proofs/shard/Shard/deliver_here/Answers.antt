@@ -1,5 +1,4 @@
-use Rattle.std.proofs.Common.{◌≡◌, ℕ, ◌-◌, get_or, subst, sym, arith, Some}
-use Rattle.gm_shard.proofs.Lower.{set, ShardState, IsInRange, IsPairHere, IsPlaceOf}
+use Rattle.gm_shard.proofs.Lower.{◌≡◌, ℕ, ◌-◌, get_or, subst, sym, arith, Some, set, ShardState, IsInRange, IsPairHere, IsPlaceOf}
 use Rattle.gm_shard.proofs.StepLemmas.{out_repeat, pair_here}
 use Rattle.gm_shard.proofs.MaskedLemmas.{Tells, in_told, added_is, tells_more}
 use Rattle.gm_shard.proofs.shard.Shard.deliver_here.Goals as goal

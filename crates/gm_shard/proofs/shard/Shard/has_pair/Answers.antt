@@ -1,5 +1,4 @@
-use Rattle.std.proofs.Common.{◌≡◌, ℕ, ◌-◌, ◌↔◌, IsTrue, Some, get_or, subst, sym, arith}
-use Rattle.gm_shard.proofs.Lower.{Contains, ShardState, IsInRange, delivered_to, IsPlaceOf}
+use Rattle.gm_shard.proofs.Lower.{◌≡◌, ℕ, ◌-◌, ◌↔◌, IsTrue, Some, get_or, subst, sym, arith, Contains, ShardState, IsInRange, delivered_to, IsPlaceOf}
 use Rattle.gm_shard.proofs.MaskedLemmas.{in_told, pair_is}
 use Rattle.gm_shard.proofs.shard.Shard.has_pair.Goals as goal
 

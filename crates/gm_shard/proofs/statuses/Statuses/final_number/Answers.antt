@@ -1,4 +1,4 @@
-use Rattle.gm_shard.specs.Statuses.{status_of}
+use Rattle.gm_shard.proofs.Lower.{status_of}
 use Rattle.gm_shard.proofs.FinishLemmas.{final_record}
 use Rattle.gm_shard.proofs.statuses.Statuses.final_number.Goals as goal
 

@@ -1,5 +1,5 @@
-use Rattle.std.proofs.Common.{List, set, ap, ◌∙◌}
-use Rattle.gm_shard.proofs.Lower.{map-set, Status, status_of}
+use Rattle.gm_shard.proofs.Lower.{List, ap, ◌∙◌, map-set, Status, status_of}
+use Rattle.std.proofs.Common.{set}
 use Rattle.gm_shard.proofs.NumberLemmas.{in_numbers}
 use Rattle.gm_shard.proofs.statuses.Statuses.set.Goals as goal
 

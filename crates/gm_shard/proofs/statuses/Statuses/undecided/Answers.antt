@@ -1,5 +1,4 @@
-use Rattle.gm_shard.proofs.Lower.{IfOk-from_err, status_of}
-use Rattle.std.proofs.Common.{◌∙◌, ap, map}
+use Rattle.gm_shard.proofs.Lower.{IfOk-from_err, status_of, ◌∙◌, ap, map}
 use Rattle.gm_shard.proofs.NumberLemmas.{all_undecided}
 use Rattle.gm_shard.proofs.statuses.Statuses.undecided.Goals as goal
 

@@ -1,6 +1,4 @@
-use Rattle.std.proofs.Common.{ℕ, sym, ap, subst, ◌∙◌}
-use Rattle.std.proofs.lemmas.Result.{err_from_is_err_and}
-use Rattle.gm_solver.proofs.Lower.{REMOTENESS, Place, AreHeld, IsTrueTable, IsNumberBefore}
+use Rattle.gm_solver.proofs.Lower.{ℕ, sym, ap, subst, ◌∙◌, err_from_is_err_and, REMOTENESS, Place, AreHeld, IsTrueTable, IsNumberBefore}
 use Rattle.gm_solver.proofs.context.SolveContext.solve.Goals as goal
 
 pub finish_levels-requires-clause-held : goal.finish_levels-requires-clause-held

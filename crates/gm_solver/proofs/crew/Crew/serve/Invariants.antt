@@ -1,4 +1,4 @@
-use Rattle.std.proofs.Common.{◌≡◌}
+use Rattle.gm_solver.proofs.Lower.{◌≡◌}
 use Rattle.gm_solver.proofs.crew.Crew.serve.Given as goal
 
 abbrev pub invariant-loop : goal.invariant-loop

@@ -1,5 +1,4 @@
-use Rattle.std.proofs.Common.{◌≡◌, ℕ, ◌+◌, ◌%◌, ◌<◌, Some, length, slice_get, sym, ap, ◌∙◌, arith, Vec}
-use Rattle.gm_solver.proofs.Lower.{Global, slice_get-get_or, NoteData, choose}
+use Rattle.gm_solver.proofs.Lower.{◌≡◌, ℕ, ◌+◌, ◌%◌, ◌<◌, Some, length, slice_get, sym, ap, ◌∙◌, arith, Vec, Global, slice_get-get_or, NoteData, choose}
 use Rattle.gm_solver.proofs.SplitLemmas.{list_is}
 use Rattle.gm_solver.proofs.crew.Crew.walk.Goals as goal
 

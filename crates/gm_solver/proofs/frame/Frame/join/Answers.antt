@@ -1,5 +1,4 @@
-use Rattle.std.proofs.Common.{subst, arith}
-use Rattle.gm_solver.proofs.Lower.{IsFound}
+use Rattle.gm_solver.proofs.Lower.{subst, arith, IsFound}
 use Rattle.gm_solver.proofs.Parts.{joined_none, joined_more, joined_true, joined_deliveries, joined_few, found_at}
 use Rattle.gm_solver.proofs.Final.{not_too_far}
 use Rattle.gm_solver.proofs.frame.Frame.join.Goals as goal

@@ -1,6 +1,5 @@
-use Rattle.std.proofs.Common.{◌≡◌, ◌*◌, ap, subst, ◌∙◌}
-use Rattle.gm_solver.proofs.Lower.{AllZip, nat_range, IfOk-then, block_in, IsFound, zip_whole}
-use Rattle.rayon.specs.Lists.{range_start, range_end, min_len_base}
+use Rattle.gm_solver.proofs.Lower.{◌≡◌, ap, subst, ◌∙◌, AllZip, nat_range, IfOk-then, block_in, IsFound, zip_whole, range_start, range_end, min_len_base}
+use Rattle.std.proofs.Common.{◌*◌}
 use Rattle.gm_solver.proofs.Parts.{found_by_zip}
 use Rattle.gm_solver.proofs.frame.Frame.settle_all.Goals as goal
 

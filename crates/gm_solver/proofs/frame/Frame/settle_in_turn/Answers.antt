@@ -1,5 +1,4 @@
-use Rattle.std.proofs.Common.{rules, ◌≡◌, ℕ, [], ◌∷◌, ◌++◌, length, length-append, sym, ap, subst, arith}
-use Rattle.gm_solver.proofs.Lower.{block_in, EachAt, one_at, IsFound}
+use Rattle.gm_solver.proofs.Lower.{rules, ◌≡◌, ℕ, [], ◌∷◌, ◌++◌, length, length-append, sym, ap, subst, arith, block_in, EachAt, one_at, IsFound}
 use Rattle.gm_solver.proofs.frame.Frame.settle_in_turn.Goals as goal
 
 pub loop-place-preserved : goal.loop-place-preserved

@@ -1,5 +1,4 @@
-use Rattle.std.proofs.Common.{◌≡◌, length}
-use Rattle.gm_solver.proofs.Lower.{block_in, EachAt, IsFound}
+use Rattle.gm_solver.proofs.Lower.{◌≡◌, length, block_in, EachAt, IsFound}
 use Rattle.gm_solver.proofs.frame.Frame.settle_in_turn.Given as goal
 
 abbrev pub invariant-loop-place : goal.invariant-loop-place

@@ -1,5 +1,4 @@
-use Rattle.std.proofs.Common.{List, sym, subst}
-use Rattle.gm_solver.proofs.Lower.{Contains, Position}
+use Rattle.gm_solver.proofs.Lower.{List, sym, subst, Contains, Position}
 use Rattle.gm_solver.proofs.position.Lists.list_children.Goals as goal
 
 pub returns : goal.returns

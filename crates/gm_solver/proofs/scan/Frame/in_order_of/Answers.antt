@@ -1,6 +1,6 @@
-use Rattle.std.proofs.Common.{◌≡◌, ℕ, ◌+◌, ◌*◌, ◌<◌, min, List, Some, ◌++◌, length, length-append, slice_get, sym, ap, subst, ◌∙◌, arith, IfOk}
-use Rattle.gm_solver.proofs.Lower.{slice_get-get_or, Start, AreStarts, block_in}
-use Rattle.gm_solver.specs.Blocks.{IsPart}
+use Rattle.gm_solver.proofs.Lower.{◌≡◌, ℕ, ◌+◌, ◌<◌, min, List, Some, ◌++◌, length, length-append, slice_get, sym, ap, subst, ◌∙◌, arith, IfOk}
+use Rattle.gm_solver.proofs.Lower.{slice_get-get_or, Start, AreStarts, block_in, IsPart}
+use Rattle.std.proofs.Common.{◌*◌}
 use Rattle.gm_solver.proofs.BlockLemmas.{starts_more, zip_at}
 use Rattle.gm_solver.proofs.scan.Frame.in_order_of.Goals as goal
 

@@ -1,5 +1,5 @@
-use Rattle.std.proofs.Common.{◌≡◌, ◌*◌, min, length}
-use Rattle.gm_solver.proofs.Lower.{AreStarts}
+use Rattle.gm_solver.proofs.Lower.{◌≡◌, min, length, AreStarts}
+use Rattle.std.proofs.Common.{◌*◌}
 use Rattle.gm_solver.proofs.scan.Frame.in_order_of.Given as goal
 
 abbrev pub invariant-loop-block : goal.invariant-loop-block

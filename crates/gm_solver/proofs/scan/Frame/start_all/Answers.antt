@@ -1,5 +1,4 @@
-use Rattle.std.proofs.Common.{◌∙◌}
-use Rattle.gm_solver.proofs.Lower.{nat_range, IfOk-then, zip_whole}
+use Rattle.gm_solver.proofs.Lower.{◌∙◌, nat_range, IfOk-then, zip_whole}
 use Rattle.gm_solver.proofs.scan.Frame.start_all.Goals as goal
 
 pub returns : goal.returns

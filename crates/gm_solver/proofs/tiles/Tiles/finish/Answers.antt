@@ -1,6 +1,4 @@
-use Rattle.std.proofs.lemmas.Result.{IfOk-at_ok, IfOk-weaker}
-use Rattle.gm_solver.proofs.Lower.{REMOTENESS, IsTrueTable, place_of}
-use Rattle.gm_solver.specs.Tiling.{AreRecordsOf}
+use Rattle.gm_solver.proofs.Lower.{IfOk-at_ok, IfOk-weaker, REMOTENESS, IsTrueTable, place_of, AreRecordsOf}
 use Rattle.gm_solver.proofs.TilingLemmas.{four_halves}
 use Rattle.gm_solver.proofs.tiles.Tiles.finish.Goals as goal
 

@@ -1,5 +1,4 @@
-use Rattle.std.proofs.Common.{rules}
-use Rattle.gm_solver.proofs.Lower.{place_of}
+use Rattle.gm_solver.proofs.Lower.{rules, place_of}
 use Rattle.gm_solver.proofs.RoundLemmas.{turned_none}
 use Rattle.gm_solver.proofs.tiles.Tiles.next_phase.Goals as goal
 

@@ -1,5 +1,4 @@
-use Rattle.std.proofs.Common.{subst, sym}
-use Rattle.gm_solver.proofs.Lower.{Place, AreShardsAt}
+use Rattle.gm_solver.proofs.Lower.{subst, sym, Place, AreShardsAt}
 use Rattle.gm_solver.proofs.tiles.Tiles.run.Goals as goal
 
 pub deliver-requires-clause-none : goal.deliver-requires-clause-none

@@ -1,8 +1,7 @@
-use Rattle.std.proofs.Common.{◌≡◌, ℕ, ◌-◌, List, sym, subst, ◌∙◌, arith}
-use Rattle.gm_solver.proofs.Lower.{ShardState, IsWhole, NoteData, Spot, spot_of, pairs_into, AreFirst, level_into}
+use Rattle.gm_solver.proofs.Lower.{◌≡◌, ℕ, ◌-◌, List, sym, subst, ◌∙◌, arith, ShardState, IsWhole, NoteData, Spot, spot_of, pairs_into, AreFirst, level_into}
 use Rattle.gm_solver.proofs.InOrderLemmas.{full_whole}
-use Rattle.gm_solver.proofs.workplace.Workplace.end.Goals as goal
 use Rattle.gm_solver.proofs.workplace.Workplace.end.Goals.{then-not-is_full+in_ok-deliver_rest, else-not-is_full}
+use Rattle.gm_solver.proofs.workplace.Workplace.end.Goals as goal
 
 pub deliver_rest-requires-clause-first : goal.deliver_rest-requires-clause-first
 deliver_rest-requires-clause-first g c =

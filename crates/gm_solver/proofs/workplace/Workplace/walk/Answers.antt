@@ -1,5 +1,5 @@
-use Rattle.std.proofs.Common.{refl, ◌≡◌, ◌≤◌, ◌+◌, ℕ, Some, suc, slice_get, length, drop, sym, subst, ◌∙◌, arith}
-use Rattle.gm_solver.proofs.Lower.{slice_get_within, Place, TIER_SIZE, NoteData, pairs_into, level_into, pairs_are_into}
+use Rattle.gm_solver.proofs.Lower.{refl, ◌≡◌, ◌≤◌, ◌+◌, ℕ, Some, suc, slice_get, length, drop, sym, subst, ◌∙◌, arith, slice_get_within, Place, TIER_SIZE}
+use Rattle.gm_solver.proofs.Lower.{NoteData, pairs_into, level_into, pairs_are_into}
 use Rattle.gm_solver.proofs.RoundLemmas.{into_fit, item_next, item_last}
 use Rattle.gm_solver.proofs.workplace.Workplace.walk.Goals as goal
 

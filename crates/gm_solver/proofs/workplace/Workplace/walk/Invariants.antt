@@ -1,5 +1,4 @@
-use Rattle.std.proofs.Common.{◌≡◌, ◌≤◌, length, drop}
-use Rattle.gm_solver.proofs.Lower.{pairs_into}
+use Rattle.gm_solver.proofs.Lower.{◌≡◌, ◌≤◌, length, drop, pairs_into}
 use Rattle.gm_solver.proofs.workplace.Workplace.walk.Given as goal
 
 abbrev pub invariant-loop-note : goal.invariant-loop-note

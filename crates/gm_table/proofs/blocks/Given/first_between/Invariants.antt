@@ -1,5 +1,4 @@
-use Rattle.std.proofs.Common.{◌≡◌, ◌≤◌, ◌-◌}
-use Rattle.gm_table.proofs.Lower.{FitBetween}
+use Rattle.gm_table.proofs.Lower.{◌≡◌, ◌≤◌, ◌-◌, FitBetween}
 use Rattle.gm_table.proofs.blocks.Given.first_between.Given as goal
 
 abbrev pub invariant-loop-canonical : goal.invariant-loop-canonical

@@ -1,5 +1,4 @@
-use Rattle.std.proofs.Common.{◌<◌, length, None, sym, subst, ◌∙◌, arith}
-use Rattle.gm_table.proofs.Lower.{at, RecordFits}
+use Rattle.gm_table.proofs.Lower.{◌<◌, length, None, sym, subst, ◌∙◌, arith, at, RecordFits}
 use Rattle.gm_table.proofs.CheckLemmas.{fits_at, wrong_at, fit_more, hole_fits, hole_filled}
 use Rattle.gm_table.proofs.LevelLemmas.{record_read}
 use Rattle.gm_table.proofs.blocks.Given.first_filled.Goals as goal

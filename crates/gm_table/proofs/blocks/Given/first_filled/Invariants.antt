@@ -1,4 +1,4 @@
-use Rattle.gm_table.specs.Checks.{FitBetween}
+use Rattle.gm_table.proofs.Lower.{FitBetween}
 use Rattle.gm_table.proofs.blocks.Given.first_filled.Given as goal
 
 abbrev pub invariant-loop-index : goal.invariant-loop-index

@@ -1,5 +1,4 @@
-use Rattle.std.proofs.Common.{sym, subst}
-use Rattle.gm_table.proofs.Lower.{block_in, IsFirstOfBlock}
+use Rattle.gm_table.proofs.Lower.{sym, subst, block_in, IsFirstOfBlock}
 use Rattle.gm_table.proofs.BlockLemmas.{in_block, block_fits}
 use Rattle.gm_table.proofs.blocks.Given.first_in.Goals as goal
 

@@ -1,5 +1,5 @@
-use Rattle.std.proofs.Common.{◌≡◌, refl, subst, ◌∙◌, arith}
-use Rattle.gm_table.proofs.Lower.{slice_get_within, nat_range, AllZip, range_start, range_end, min_len_base, block_in, IsFirstOfBlock}
+use Rattle.gm_table.proofs.Lower.{◌≡◌, refl, subst, ◌∙◌, arith, slice_get_within, AllZip, range_start, range_end, min_len_base, block_in, IsFirstOfBlock}
+use Rattle.rayon.specs.Numbers.{nat_range}
 use Rattle.gm_table.proofs.Dealt.{zip_whole}
 use Rattle.gm_table.proofs.BlockLemmas.{IsFirst, first_is}
 use Rattle.gm_table.proofs.blocks.Given.first_of_all.Given.{Over}

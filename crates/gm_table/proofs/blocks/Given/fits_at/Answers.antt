@@ -1,6 +1,4 @@
-use Rattle.std.proofs.Common.{◌↔◌, IsTrue, get_or, None, sym, subst, ◌∙◌}
-use Rattle.gm_table.specs.Caches.{CacheData}
-use Rattle.gm_table.proofs.Lower.{at, RecordFits, slice_get-get_or}
+use Rattle.gm_table.proofs.Lower.{◌↔◌, IsTrue, get_or, None, sym, subst, ◌∙◌, CacheData, at, RecordFits, slice_get-get_or}
 use Rattle.gm_table.proofs.CheckLemmas.{fits_at}
 use Rattle.gm_table.proofs.LevelLemmas.{record_read}
 use Rattle.gm_table.proofs.blocks.Given.fits_at.Goals as goal

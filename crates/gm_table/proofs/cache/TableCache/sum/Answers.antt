@@ -1,6 +1,4 @@
-use Rattle.std.proofs.Common.{subst}
-use Rattle.gm_table.specs.Caches.{CacheData}
-use Rattle.gm_table.proofs.Lower.{AreTables}
+use Rattle.gm_table.proofs.Lower.{subst, CacheData, AreTables}
 use Rattle.gm_table.proofs.cache.TableCache.sum.Goals as goal
 
 pub returns-in-Some-clause-tables : goal.returns-in-Some-clause-tables

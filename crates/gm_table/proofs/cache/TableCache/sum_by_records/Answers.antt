@@ -1,6 +1,5 @@
-use Rattle.std.proofs.Common.{◌≡◌, ℕ, Option, Some, IsSome, get_or, refl, ap, subst, ◌∙◌, ◌+◌, ◌≤◌, Bool, true, false, cond, arith}
-use Rattle.gm_table.proofs.Lower.{TableData, record_of, at, is_decided}
-use Rattle.gm_table.specs.Caches.{CacheData, other_table}
+use Rattle.gm_table.proofs.Lower.{◌≡◌, ℕ, Option, Some, IsSome, get_or, refl, ap, subst, ◌∙◌, ◌+◌, ◌≤◌, Bool, true, false, cond, arith, TableData, record_of}
+use Rattle.gm_table.proofs.Lower.{at, is_decided, CacheData, other_table}
 use Rattle.gm_table.proofs.CacheLemmas.{sum_more}
 use Rattle.gm_table.proofs.cache.TableCache.sum_by_records.Goals as goal
 

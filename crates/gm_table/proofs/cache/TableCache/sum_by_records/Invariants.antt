@@ -1,5 +1,4 @@
-use Rattle.std.proofs.Common.{◌≡◌, ◌≤◌, take}
-use Rattle.gm_table.proofs.Lower.{IsSumOf}
+use Rattle.gm_table.proofs.Lower.{◌≡◌, ◌≤◌, take, IsSumOf}
 use Rattle.gm_table.proofs.cache.TableCache.sum_by_records.Given as goal
 
 abbrev pub invariant-loop-p : goal.invariant-loop-p

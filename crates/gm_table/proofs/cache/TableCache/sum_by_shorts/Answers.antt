@@ -1,7 +1,4 @@
-use Rattle.std.proofs.Common.{◌≡◌, Some, IsSome, get_or, refl, sym, subst, ◌∙◌}
-use Rattle.gm_table.proofs.Lower.{TableData, at}
-use Rattle.gm_table.specs.Caches.{CacheData, other_table, other_record}
-use Rattle.gm_table.specs.Shorts.{record_of_short}
+use Rattle.gm_table.proofs.Lower.{◌≡◌, Some, IsSome, get_or, refl, sym, subst, ◌∙◌, TableData, at, CacheData, other_table, other_record, record_of_short}
 use Rattle.gm_table.proofs.CacheLemmas.{read_more}
 use Rattle.gm_table.proofs.cache.TableCache.sum_by_shorts.Goals as goal
 

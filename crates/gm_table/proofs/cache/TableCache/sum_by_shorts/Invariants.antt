@@ -1,5 +1,4 @@
-use Rattle.std.proofs.Common.{◌≡◌, map, take}
-use Rattle.gm_table.proofs.Lower.{AreRead, record_of_short}
+use Rattle.gm_table.proofs.Lower.{◌≡◌, map, take, AreRead, record_of_short}
 use Rattle.gm_table.proofs.cache.TableCache.sum_by_shorts.Given as goal
 
 abbrev pub invariant-loop-p : goal.invariant-loop-p

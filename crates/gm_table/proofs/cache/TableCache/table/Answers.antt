@@ -1,5 +1,4 @@
-use Rattle.std.proofs.Common.{◌≡◌, ◌%◌, option_copied, sym, subst, ◌∙◌, arith}
-use Rattle.gm_table.specs.Caches.{CacheData, cache_of, other_table}
+use Rattle.gm_table.proofs.Lower.{◌≡◌, ◌%◌, option_copied, sym, subst, ◌∙◌, arith, CacheData, cache_of, other_table}
 use Rattle.gm_table.proofs.CacheLemmas.{known_table, still_cached, else_table}
 use Rattle.gm_table.proofs.cache.TableCache.table.Goals as goal
 

@@ -1,5 +1,5 @@
-use Rattle.std.proofs.Common.{◌≡◌, ℕ, ◌+◌, ◌*◌, ◌/◌, ◌%◌, ◌<◌, sym, subst}
-use Rattle.gm_table.specs.Dealing.{block_in}
+use Rattle.gm_table.proofs.Lower.{◌≡◌, ℕ, ◌+◌, ◌/◌, ◌%◌, ◌<◌, sym, subst, block_in}
+use Rattle.std.proofs.Common.{◌*◌}
 use Rattle.gm_table.proofs.Dealt.{dealt}
 use Rattle.gm_table.proofs.dealing.Dealing.place_of.Goals as goal
 

@@ -1,7 +1,5 @@
-use Rattle.std.proofs.Common.{◌≡◌, ◌<◌, List, ℕ, slice_get, IfSome, map, sym, ap, ◌∙◌, subst}
-use Rattle.gm_table.specs.Numbers.{listed}
+use Rattle.gm_table.proofs.Lower.{◌≡◌, ◌<◌, List, ℕ, slice_get, IfSome, map, sym, ap, ◌∙◌, subst, listed, wide}
 use Rattle.gm_table.proofs.HoleLemmas.{wide_holes}
-use Rattle.gm_table.proofs.Lower.{wide}
 use Rattle.gm_table.proofs.numbers.Numbers.skip_holes.Goals as goal
 
 pub returns-in-Short-clause-holes : goal.returns-in-Short-clause-holes

@@ -1,4 +1,4 @@
-use Rattle.std.proofs.Common.{None}
+use Rattle.gm_table.proofs.Lower.{None}
 use Rattle.gm_table.proofs.PackedLemmas.{packed_more, packed_all, near_at}
 use Rattle.gm_table.proofs.packed.Packed.of.Goals as goal
 

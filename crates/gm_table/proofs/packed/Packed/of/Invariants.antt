@@ -1,5 +1,4 @@
-use Rattle.std.proofs.Common.{◌≡◌, map, take}
-use Rattle.gm_table.specs.Packed.{unpacked}
+use Rattle.gm_table.proofs.Lower.{◌≡◌, map, take, unpacked}
 use Rattle.gm_table.proofs.packed.Packed.of.Given as goal
 
 abbrev pub invariant-loop-known : goal.invariant-loop-known

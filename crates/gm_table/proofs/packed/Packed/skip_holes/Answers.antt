@@ -1,6 +1,5 @@
-use Rattle.std.proofs.Common.{◌≡◌, List, Option, None, subst}
+use Rattle.gm_table.proofs.Lower.{◌≡◌, List, Option, None, subst, Solved, record_at}
 use Rattle.gm_table.proofs.HoleLemmas.{unpacked_holes}
-use Rattle.gm_table.proofs.Lower.{Solved, record_at}
 use Rattle.gm_table.proofs.packed.Packed.skip_holes.Goals as goal
 
 pub returns-clause-holes : goal.returns-clause-holes

@@ -1,5 +1,4 @@
-use Rattle.std.proofs.Common.{◌<◌, ◌++◌, ◌∷◌, [], List, None, Option, length, take, ap, sym, ◌∙◌, arith}
-use Rattle.gm_table.proofs.Lower.{take_more, take_all, Solved}
+use Rattle.gm_table.proofs.Lower.{◌<◌, ◌++◌, ◌∷◌, [], List, None, Option, length, take, ap, sym, ◌∙◌, arith, take_more, take_all, Solved}
 use Rattle.gm_table.proofs.LevelLemmas.{record_read}
 use Rattle.gm_table.proofs.packed.Packed.to_vec.Goals as goal
 

@@ -1,4 +1,4 @@
-use Rattle.std.proofs.Common.{◌≡◌, take}
+use Rattle.gm_table.proofs.Lower.{◌≡◌, take}
 use Rattle.gm_table.proofs.packed.Packed.to_vec.Given as goal
 
 abbrev pub invariant-loop-index : goal.invariant-loop-index

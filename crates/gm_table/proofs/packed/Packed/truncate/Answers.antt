@@ -1,5 +1,4 @@
-use Rattle.std.proofs.Common.{map, take, ap, sym, ◌∙◌}
-use Rattle.gm_table.proofs.Lower.{take-map, unpacked}
+use Rattle.gm_table.proofs.Lower.{map, take, ap, sym, ◌∙◌, take-map, unpacked}
 use Rattle.gm_table.proofs.packed.Packed.truncate.Goals as goal
 
 pub returns : goal.returns

@@ -1,10 +1,8 @@
-use Rattle.std.proofs.Common.{◌≡◌, ◌+◌, ◌<◌, None, Some, length, take, sym, ◌∙◌, ap, arith}
-use Rattle.gm_table.specs.Runs.{run_in}
+use Rattle.gm_table.proofs.Lower.{◌≡◌, ◌+◌, ◌<◌, None, Some, length, take, sym, ◌∙◌, ap, arith, run_in, indexes_at}
 use Rattle.gm_table.proofs.HoleLemmas.{indexes_over}
-use Rattle.gm_table.proofs.Lower.{indexes_at}
 use Rattle.gm_table.proofs.RunLemmas.{empty_runs, indexes_with}
-use Rattle.gm_table.proofs.runs.Runs.of.Goals as goal
 use Rattle.gm_table.proofs.runs.Runs.of.Goals.{in-Some+in_ok-place, in_default}
+use Rattle.gm_table.proofs.runs.Runs.of.Goals as goal
 
 pub loop-index-init : goal.loop-index-init
 loop-index-init c =

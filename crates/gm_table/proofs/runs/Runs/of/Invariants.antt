@@ -1,5 +1,4 @@
-use Rattle.std.proofs.Common.{◌≡◌, ℕ, ◌-◌, ◌≤◌, take, length}
-use Rattle.gm_table.proofs.Lower.{Phase, indexes_at, run_in}
+use Rattle.gm_table.proofs.Lower.{◌≡◌, ℕ, ◌-◌, ◌≤◌, take, length, Phase, indexes_at, run_in}
 use Rattle.gm_table.proofs.runs.Runs.of.Given as goal
 
 abbrev pub invariant-loop-index : goal.invariant-loop-index

@@ -1,5 +1,4 @@
-use Rattle.std.proofs.Common.{ap, sym, subst, ◌∙◌}
-use Rattle.gm_table.proofs.Lower.{REMOTENESS, at, IsTrueValue, IsRecord, record_at, IsTable}
+use Rattle.gm_table.proofs.Lower.{ap, sym, subst, ◌∙◌, REMOTENESS, at, IsTrueValue, IsRecord, record_at, IsTable}
 use Rattle.gm_table.proofs.ValueLemmas.{record_is}
 use Rattle.gm_table.proofs.table.Table.at.Goals as goal
 

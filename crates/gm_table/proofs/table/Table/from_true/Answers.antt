@@ -1,4 +1,4 @@
-use Rattle.std.proofs.Common.{None, Some}
+use Rattle.gm_table.proofs.Lower.{None, Some}
 use Rattle.gm_table.proofs.table.Table.from_true.Goals as goal
 
 pub of-requires : goal.of-requires

@@ -1,5 +1,4 @@
-use Rattle.std.proofs.Common.{ap, sym, ◌∙◌}
-use Rattle.gm_table.specs.Levels.{greatest_of}
+use Rattle.gm_table.proofs.Lower.{ap, sym, ◌∙◌, greatest_of}
 use Rattle.gm_table.proofs.LevelLemmas.{greatest_is}
 use Rattle.gm_table.proofs.table.Table.greatest.Goals as goal
 

@@ -1,5 +1,4 @@
-use Rattle.std.proofs.Common.{ap, ◌∙◌, subst}
-use Rattle.gm_table.specs.Tables.{AreTables, table_of}
+use Rattle.gm_table.proofs.Lower.{ap, ◌∙◌, subst, AreTables, table_of}
 use Rattle.gm_table.proofs.TableLemmas.{lookup-values, kept_tables}
 use Rattle.gm_table.proofs.tables.Tables.entry.Goals as goal
 

@@ -1,5 +1,4 @@
-use Rattle.std.proofs.Common.{◌≡◌, ◌↔◌, true, sym, ap, ◌∙◌, subst, IsSome, IfSome}
-use Rattle.gm_table.proofs.Lower.{IsTrueValue, IsHeld, record_at}
+use Rattle.gm_table.proofs.Lower.{◌≡◌, ◌↔◌, true, sym, ap, ◌∙◌, subst, IsSome, IfSome, IsTrueValue, IsHeld, record_at}
 use Rattle.gm_table.proofs.ValueLemmas.{value_read, value_known, value_true}
 use Rattle.gm_table.proofs.tables.Tables.get.Goals as goal
 

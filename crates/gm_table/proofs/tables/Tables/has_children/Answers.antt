@@ -1,5 +1,4 @@
-use Rattle.std.proofs.Common.{ℕ, List, refl, sym, subst, ◌∙◌, arith, below_more}
-use Rattle.gm_table.proofs.Lower.{Contains, get_or_default_zero, IsHeld}
+use Rattle.gm_table.proofs.Lower.{ℕ, List, refl, sym, subst, ◌∙◌, arith, below_more, Contains, get_or_default_zero, IsHeld}
 use Rattle.gm_table.proofs.tables.Tables.has_children.Goals as goal
 
 pub loop-child-preserved : goal.loop-child-preserved

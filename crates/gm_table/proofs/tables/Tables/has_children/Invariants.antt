@@ -1,5 +1,4 @@
-use Rattle.std.proofs.Common.{ℕ, ◌<◌, get_or}
-use Rattle.gm_table.specs.Tables.{IsHeld}
+use Rattle.gm_table.proofs.Lower.{ℕ, ◌<◌, get_or, IsHeld}
 use Rattle.gm_table.proofs.tables.Tables.has_children.Given as goal
 
 abbrev pub invariant-loop-child : goal.invariant-loop-child

@@ -1,5 +1,4 @@
-use Rattle.std.proofs.Common.{◌==◌, if◌then◌else◌, List, Some, ap, ◌∙◌}
-use Rattle.gm_table.specs.Tables.{TableData, table_of}
+use Rattle.gm_table.proofs.Lower.{◌==◌, if◌then◌else◌, List, Some, ap, ◌∙◌, TableData, table_of}
 use Rattle.gm_table.proofs.TableLemmas.{kept_after, table_after}
 use Rattle.gm_table.proofs.tables.Tables.insert.Goals as goal
 

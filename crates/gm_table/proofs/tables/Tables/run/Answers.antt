@@ -1,5 +1,4 @@
-use Rattle.std.proofs.Common.{◌≡◌, ◌↔◌, ℕ, List, rules, sym, subst}
-use Rattle.gm_table.proofs.Lower.{Contains, at, IsCanonical, IsAscending, StandsAt, IsHeld, run_of}
+use Rattle.gm_table.proofs.Lower.{◌≡◌, ◌↔◌, ℕ, List, rules, sym, subst, Contains, at, IsCanonical, IsAscending, StandsAt, IsHeld, run_of}
 use Rattle.gm_table.proofs.PlaceLemmas.{run_stands, run_ascending}
 use Rattle.gm_table.proofs.tables.Tables.run.Goals as goal
 

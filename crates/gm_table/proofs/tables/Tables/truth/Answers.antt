@@ -1,5 +1,4 @@
-use Rattle.std.proofs.Common.{subst}
-use Rattle.gm_table.specs.Tables.{AreTables}
+use Rattle.gm_table.proofs.Lower.{subst, AreTables}
 use Rattle.gm_table.proofs.TableLemmas.{kept_tables}
 use Rattle.gm_table.proofs.tables.Tables.truth.Goals as goal
 

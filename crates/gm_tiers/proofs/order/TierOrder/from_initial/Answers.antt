@@ -1,8 +1,5 @@
-use Rattle.std.proofs.Common.{ℕ, IsErrOf, ap, subst}
-use Rattle.gm_game.specs.declared.limits.TheConstants.{TIERS}
-use Rattle.gm_game.specs.declared.position.Position.{Position}
-use Rattle.gm_tiers.specs.declared.tier_error.TierError.TheVariants.{TooManyTiers}
-use Rattle.gm_tiers.specs.Limits.{AreMoreThan}
+use Rattle.gm_tiers.proofs.Lower.{ℕ, ap, subst, TIERS, Position, TooManyTiers, AreMoreThan}
+use Rattle.std.proofs.Common.{IsErrOf}
 use Rattle.gm_tiers.proofs.order.TierOrder.from_initial.Goals as goal
 
 pub returns-clause-more : goal.returns-clause-more

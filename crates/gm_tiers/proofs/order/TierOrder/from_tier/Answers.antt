@@ -1,9 +1,8 @@
-use Rattle.gm_tiers.specs.declared.tier_error.TierError.TheVariants.{TooManyTiers, TierTooLarge}
+use Rattle.gm_tiers.proofs.Lower.{TooManyTiers, TierTooLarge, []}
 use Rattle.gm_tiers.proofs.StepLemmas.{passed_on, ends_as}
 use Rattle.gm_tiers.proofs.SearchLemmas.{too_many_reached, found_next_reached}
 use Rattle.gm_tiers.proofs.AnswerLemmas.{found_is, many_is, large_is}
 use Rattle.gm_tiers.proofs.OrderLemmas.{order_is}
-use Rattle.std.proofs.Common.{[]}
 use Rattle.gm_tiers.proofs.order.TierOrder.from_tier.Goals as goal
 
 pub returns-in_err-found-clause-refusal : goal.returns-in_err-found-clause-refusal

@@ -1,7 +1,4 @@
-use Rattle.std.proofs.Common.{◌≡◌, ◌↔◌, ℕ, Some, subst}
-use Rattle.std.specs.List.{Contains}
-use Rattle.std.specs.Fmt.{decimal}
-use Rattle.gm_toys.specs.Subtraction.{moves_down}
+use Rattle.gm_toys.proofs.Lower.{◌≡◌, ◌↔◌, ℕ, Some, subst, Contains, decimal, moves_down}
 use Rattle.gm_toys.proofs.countdown.CountsDownShown.read_move.Goals as goal
 
 pub returns : goal.returns

@@ -1,4 +1,4 @@
-use Rattle.std.proofs.Common.{rules}
+use Rattle.gm_toys.proofs.Lower.{rules}
 use Rattle.std.specs.Fmt.{digits}
 use Rattle.gm_toys.specs.Pictures.{wheel_picture}
 use Rattle.gm_draw.specs.Points.{number_points}

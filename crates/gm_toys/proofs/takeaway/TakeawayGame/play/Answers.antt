@@ -1,5 +1,4 @@
-use Rattle.std.proofs.Common.{arith}
-use Rattle.gm_toys.specs.laws.SubtractionLaws.{range_in}
+use Rattle.gm_toys.proofs.Lower.{arith, range_in}
 use Rattle.gm_toys.proofs.takeaway.TakeawayGame.play.Goals as goal
 
 pub overflow_sub-result : goal.overflow_sub-result

@@ -1,7 +1,0 @@
-use Rattle.gm_json.proofs.Lower.{◌≡◌, ◌++◌, ◌∷◌, false, map, drop, items_of, items_text, move_tree}
-use Rattle.gm_json.proofs.moves.push_list.Given as goal
-
-abbrev pub invariant-loop-x : goal.invariant-loop-x
-invariant-loop-x g l =
-    let tree = move_tree g.G.Game.rules g.G.Shown.shown g.G.Shown.move_shown l.p in
-    l.out.items ++ items_text l.later (items_of (map tree (drop l.x-index l.list))) ≡ l.fn.out.items ++ 91 ∷ items_text false (items_of (map tree l.list))

@@ -1,5 +1,0 @@
-use Rattle.gm_play.proofs.Lower.{take, AreExchangeRows}
-use Rattle.gm_play.proofs.why.rows_for.Given as goal
-
-abbrev pub invariant-loop-x : goal.invariant-loop-x
-invariant-loop-x g l = AreExchangeRows g.G.Game.rules g.G.Shown.shown g.G.Shown.move_shown l.known.position (take l.x-index l.list) l.rows.items

@@ -1,0 +1,40 @@
+-- The tables of Shisima and Tapatan are right: each field but the first and the last is a computation.
+use Rattle.std.proofs.Common.{refl, arith}
+use Rattle.gm_board.specs.Cells.{number_of}
+use Rattle.gm_pieces.specs.Steps.{from_point, to_point}
+use Rattle.gm_ways.specs.Ways.{are_joined, has_numbers, legal}
+use Rattle.gm_ways.specs.WayTables.{IsWayGame}
+use Rattle.gm_ways.specs.ShisimaRules.{shisima}
+use Rattle.gm_ways.specs.TapatanRules.{tapatan}
+
+pub shisima_tables : IsWayGame 9 shisima
+unfolding are_joined from_point to_point legal has_numbers number_of
+shisima_tables = record {
+  few = omega arith;
+  name_length = refl;
+  name_text = refl;
+  start = refl;
+  ways = refl;
+  moves = refl;
+  group = refl;
+  kept = refl;
+  lines = refl;
+  names = refl;
+  may_go = λ p b i j c e l m k f. refl;
+}
+
+pub tapatan_tables : IsWayGame 9 tapatan
+unfolding are_joined from_point to_point legal has_numbers number_of
+tapatan_tables = record {
+  few = omega arith;
+  name_length = refl;
+  name_text = refl;
+  start = refl;
+  ways = refl;
+  moves = refl;
+  group = refl;
+  kept = refl;
+  lines = refl;
+  names = refl;
+  may_go = λ p b i j c e l m k f. refl;
+}
