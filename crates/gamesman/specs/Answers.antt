@@ -57,7 +57,7 @@ pub record IsLocatedBy (r : Rules) (shown : Position → List ℕ) (text : List 
   pub unread : IsUnlocated r shown text → result ≡ Err NoSuchPosition
 
 -- a command about a game is answered, from the rest of the input, the output before and the output after
-abbrev pub IsAnswered : GameSpec → GameCommand → Option (List ℕ) → Option (List ℕ) → Option (List ℕ) → Result ℕ Fault → Type 0
+unfoldable pub IsAnswered : GameSpec → GameCommand → Option (List ℕ) → Option (List ℕ) → Option (List ℕ) → Result ℕ Fault → Type 0
 IsAnswered g Solve input before after result = IsSolvedBy g.rules before after result
 IsAnswered g (Explore position question) input before after result = IsExplored g position question before after result
 IsAnswered g (Filter question) input before after result = IsFiltered g question input before after result

@@ -23,6 +23,7 @@ use gm_draw::pictured::Pictured;
 use std::io::{Read, Write};
 
 // Answers a command about a game.
+#[tactic(auto, unfolding(crate::specs::Answers::IsAnswered))]
 fn answer<G: Pictured + Send + Sync, R: Host, I: Read, O: Write, E: Write + Send>(
     rt: &R,
     command: GameCommand<'_>,
