@@ -1,6 +1,6 @@
 -- The queue of the positions of a range that have ended, index by index.
 use Rattle.gm_shard.proofs.Lower.{◌≡◌, ℕ, ◌+◌, ◌<◌, ◌≤◌, ◌↔◌, inl, inr, List, [], ◌∷◌, ◌++◌, length, refl, sym, ap, subst, ◌∙◌, arith, Some, Contains}
-use Rattle.gm_shard.proofs.Lower.{slice_get, cases_eq, slice_get_within, get_or_from_slice_get, Contains-get_or, Contains-append_left, Contains-append_right}
+use Rattle.gm_shard.proofs.Lower.{slice_get, cases_eq, cases_lt, slice_get_within, get_or_from_slice_get, Contains-get_or, Contains-append_left, Contains-append_right}
 use Rattle.gm_shard.proofs.Lower.{Contains-append_cases, Position, End, Phase, WinLose, Ties, Solved, Rules, at, from_end, IsSettled, contains_none}
 use Rattle.gm_shard.proofs.Lower.{contains_first, contains_cases, Status, Hole, Undecided, Settled, first_state, ShardState, IsInRange, delivered_to, In}
 use Rattle.gm_shard.proofs.Lower.{StatusIs, IsGood, QueueData, IsSettledIn, IsQueue, AreQueues, AreDistinct, HasPhase, IsEmptied}
@@ -48,6 +48,27 @@ settled_in r s phase k l Hole a p = absurd p
 settled_in r s phase k l Undecided a p = absurd p
 settled_in r s phase k l (Settled x) a p = record { within = l; value = x; settled = a; phase_is = p }
 
+-- indexes that are not settled in the phase are in no queue
+filled_over : (r : Rules) (s : ShardState) (phase : Phase) (n m : ℕ) (q : QueueData) → n ≤ m
+    → ((k : ℕ) → n ≤ k → k < m → IsSettledIn r s phase k → ⊥) → IsFilled r s phase n q → IsFilled r s phase m q
+filled_over r s phase n m q order none f = record {
+  listed = λ k. (
+    λ h. (let (l, w) = (f.listed k).0 h in (omega arith, w)),
+    λ (l, w). elim (cases_lt k n) [ inl b ↦ (f.listed k).1 (b, w) | inr a ↦ absurd (none k a l w) ],
+  );
+  once = f.once;
+  from = f.from;
+  to = f.to;
+  room = f.room;
+}
+
+-- nor are holes
+pub filled_holes : (r : Rules) (s : ShardState) (phase : Phase) (n m : ℕ) (q : QueueData) → n ≤ m
+    → ((i : ℕ) → s.lo + n ≤ i → i < s.lo + m → StatusIs r s i Hole) → IsFilled r s phase n q → IsFilled r s phase m q
+filled_holes r s phase n m q order holes = filled_over r s phase n m q order
+    (λ k low high w. none_of r (at s.tier (s.lo + k)) (delivered_to s (s.lo + k)) Hole (holes (s.lo + k) (omega arith) (omega arith)) (λ y e. cc)
+    w.value w.settled)
+
 module _ (r : Rules) (s : ShardState) (good : IsGood r s) (phase : Phase) (n : ℕ) (within : n < length s.delivered) (q : QueueData)
     (f : IsFilled r s phase n q) (status : Status) (is : StatusIs r s (s.lo + n) status) where
   pub filled_more : HasPhase phase status → (p : QueueData) → p.indexes ≡ q.indexes ++ n ∷ [] → p.from ≡ q.from → p.to ≡ q.to → q.room ≤ p.room
@@ -73,21 +94,10 @@ module _ (r : Rules) (s : ShardState) (good : IsGood r s) (phase : Phase) (n : �
   }
 
   pub filled_past : (HasPhase phase status → ⊥) → IsFilled r s phase (n + 1) q
-  filled_past none = record {
-    listed = λ k. (
-      λ h. (let (l, w) = (f.listed k).0 h in (omega arith, w)),
-      λ (l, w). elim (cases_eq k n) [
-        | inl i ↦ (
-            let a : StatusIs r s (s.lo + n) (Settled w.value) = subst (λ (j : ℕ). StatusIs r s (s.lo + j) (Settled w.value)) i w.settled in
-            absurd (none (has_phase_of r s good phase (s.lo + n) (omega arith, omega arith) status w.value is a w.phase_is)))
-        | inr ne ↦ (f.listed k).1 (omega arith, w)
-      ],
-    );
-    once = f.once;
-    from = f.from;
-    to = f.to;
-    room = f.room;
-  }
+  filled_past none = filled_over r s phase n (n + 1) q (omega arith)
+      (λ k low high w. let i : k ≡ n = omega arith in
+      let a : StatusIs r s (s.lo + n) (Settled w.value) = subst (λ (j : ℕ). StatusIs r s (s.lo + j) (Settled w.value)) i w.settled in
+      none (has_phase_of r s good phase (s.lo + n) (omega arith, omega arith) status w.value is a w.phase_is)) f
 
 -- if no child is delivered a settled position has ended
 end_at_once : (e : End) → (from_end e).remoteness ≡ 0

@@ -1,9 +1,10 @@
 -- The records of a range at the end of ties.
-use Rattle.gm_shard.proofs.Lower.{◌≡◌, ◌≢◌, ℕ, ◌+◌, List, [], ◌∷◌, ◌++◌, length, get_or, refl, sym, ap, subst, ◌∙◌, arith, inl, inr, Option, None, Some, ne_eqb}
-use Rattle.gm_shard.proofs.Lower.{cases_lt, get_or_append_left, get_or-append_seam, slice_get-get_or, get_or_from_slice_get, slice_get_within, REMOTENESS}
+use Rattle.gm_shard.proofs.Lower.{◌≡◌, ◌≢◌, ℕ, zero, suc, ◌+◌, ◌<◌, ◌≤◌, List, [], ◌∷◌, ◌++◌, length, replicate, refl, sym, subst, ◌∙◌, arith, inl, inr, Option}
+use Rattle.gm_shard.proofs.Lower.{None, Some, ne_eqb, same_Some, get_or_from_slice_get, slice_get_within, get_or-replicate, length-replicate, REMOTENESS}
 use Rattle.gm_shard.proofs.Lower.{Phase, Ties, Solved, Rules, at, IsInner, IsGame, IsRecord, IsTrueValue, IsLastLevel, AreReached, undecided_draw, unpacked}
 use Rattle.gm_shard.proofs.Lower.{Status, Hole, Undecided, Settled, ShardState, IsInRange, delivered_to, In, StatusIs, IsGood, record_of, status_of, ArePart}
-use Rattle.std.proofs.Common.{length-append}
+use Rattle.gm_shard.proofs.Lower.{AreFinal}
+use Rattle.gm_table.proofs.Dealt.{append_cases}
 use Rattle.gm_shard.proofs.NoteLemmas.{settled_canonical}
 use Rattle.gm_shard.proofs.StatusLemmas.{reached_by}
 
@@ -37,23 +38,37 @@ final_record n other = rw (ne_eqb n 1 other) (of_record (unpacked n))
     of_record None = refl
     of_record (Some x) = refl
 
--- one record more
-pub part_more : (r : Rules) → IsGame r → (s : ShardState) → IsGood r s → s.phase ≡ Ties → IsLastLevel r s.tier Ties s.level
-    → (part : List (Option Solved)) (i : ℕ) → i ≡ s.lo + length part → IsInRange s i
-    → (status : Status) → StatusIs r s i status → ArePart r s.tier s.lo part → ArePart r s.tier s.lo (part ++ record_of status ∷ [])
-part_more r g s good ties last part i is m status h old = record {
-  each = λ k o e. elim (cases_lt k (length part)) [
-    | inl l ↦ old.each k o (slice_get-get_or part k o l ∙ ap (λ (x : Option Solved). Some x)
-        (sym (get_or_append_left part (record_of status ∷ []) o k l) ∙ get_or_from_slice_get (part ++ record_of status ∷ []) k o o e))
-    | inr n ↦ (
-        let a = length-append part (record_of status ∷ []) in
-        let w = slice_get_within (part ++ record_of status ∷ []) k o e in
-        let end : k ≡ length part = omega arith in
-        let o_is : record_of status ≡ o =
-        sym (ap (λ (j : ℕ). get_or (part ++ record_of status ∷ []) j o) end ∙ get_or-append_seam part (record_of status) [] o)
-        ∙ get_or_from_slice_get (part ++ record_of status ∷ []) k o o e in
-        let here : i ≡ s.lo + k = omega arith in
-        subst (λ (x : Option Solved). IsRecord r REMOTENESS (IsTrueValue r) (at s.tier (s.lo + k)) x) o_is
-        (subst (λ (j : ℕ). IsRecord r REMOTENESS (IsTrueValue r) (at s.tier j) (record_of status)) here (record_true r g s good ties last i m status h)))
-  ];
+-- the records of a range and of another after it
+pub final_append : (r : Rules) (s : ShardState) (i : ℕ) (xs ys : List (Option Solved)) → AreFinal r s i xs → AreFinal r s (i + length xs) ys
+    → AreFinal r s i (xs ++ ys)
+final_append r s i xs ys a b k o e = elim (append_cases xs ys k o e) [
+  | inl h ↦ a k o h
+  | inr (j, is, h) ↦ (
+      let (status, known, record_is) = b j o h in
+      let place : i + length xs + j ≡ i + k = omega arith in
+      (status, subst (λ (n : ℕ). StatusIs r s n status) place known, record_is))
+]
+
+-- so many holes have no records
+pub final_holes : (r : Rules) (s : ShardState) (i n : ℕ) → ((j : ℕ) → i ≤ j → j < i + n → StatusIs r s j Hole) → AreFinal r s i (replicate n None)
+final_holes r s i n holes k o e =
+    let w = slice_get_within (replicate n None) k o e in
+    let many = length-replicate n (let none : Option Solved = None in none) in
+    (Hole, holes (i + k) (omega arith) (omega arith), sym (get_or_from_slice_get (replicate n None) k o o e) ∙ get_or-replicate n k None o (omega arith))
+
+-- the record of one index
+pub final_one : (r : Rules) (s : ShardState) (i : ℕ) (status : Status) → StatusIs r s i status → AreFinal r s i (record_of status ∷ [])
+final_one r s i status h zero o e = let place : i ≡ i + zero = omega arith in
+    (status, subst (λ (n : ℕ). StatusIs r s n status) place h, sym (same_Some (record_of status) o e))
+final_one r s i status h (suc k) o e = absurd (let z : None ≡ Some o = e in cc)
+
+-- at the end of ties they are the true ones
+pub part_true : (r : Rules) → IsGame r → (s : ShardState) → IsGood r s → s.phase ≡ Ties → IsLastLevel r s.tier Ties s.level
+    → (part : List (Option Solved)) → length part ≡ length s.delivered → AreFinal r s s.lo part → ArePart r s.tier s.lo part
+part_true r g s good ties last part many final = record {
+  each = λ k o e.
+      let (status, known, is) = final k o e in
+      let w = slice_get_within part k o e in
+      subst (IsRecord r REMOTENESS (IsTrueValue r) (at s.tier (s.lo + k))) (sym is)
+      (record_true r g s good ties last (s.lo + k) (omega arith, omega arith) status known);
 }

@@ -32,7 +32,7 @@ pub use Rattle.gm_game.specs.declared.position.Solved.{Solved}
 pub use Rattle.gm_game.specs.declared.position.Value.{Value}
 pub use Rattle.gm_game.specs.declared.position.Value.TheVariants.{Draw, Lose, Tie, Win}
 pub use Rattle.gm_shard.specs.Begin.{AreStarts, IsStart, first_left, first_state, first_status}
-pub use Rattle.gm_shard.specs.Closing.{ArePart, Closes, IsNoteOf, record_of}
+pub use Rattle.gm_shard.specs.Closing.{AreFinal, ArePart, Closes, IsNoteOf, record_of}
 pub use Rattle.gm_shard.specs.Delivery.{Delivers, IsAdded, IsPairHere, IsPlaceOf, IsSettledNow, IsThisLevel, KeepsStatus, is_settling, next_status}
 pub use Rattle.gm_shard.specs.Good.{IsCounter, IsGood, IsKept, IsShard, IsWithinLimit}
 pub use Rattle.gm_shard.specs.Logged.{logged}

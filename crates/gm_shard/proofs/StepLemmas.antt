@@ -3,7 +3,7 @@ use Rattle.gm_shard.proofs.Lower.{◌≡◌, ℕ, ◌+◌, ◌-◌, ◌^◌, ◌
 use Rattle.gm_shard.proofs.Lower.{length-set, true≢false, ◌==◌, Contains, slice_get, set, false_from_ne_true, Decides-eqb, REMOTENESS, Position, Solved, Value}
 use Rattle.gm_shard.proofs.Lower.{Lose, Draw, Tie, Win, Rules, at, children, IsCanonicalChild, IsParent, IsGame, HasValue, StandsAt, StandsBefore}
 use Rattle.gm_shard.proofs.Lower.{with_position, canonical_children_of, AreAscending, solved, NoteData, IsNote, phase_of, Status, Hole, Undecided, Settled}
-use Rattle.gm_shard.proofs.Lower.{Fresh, Repeat, AreAll, ShardState, IsInRange, delivered_to, with_pair, In, HasStatus, StatusIs, IsShard, IsWithinLimit}
+use Rattle.gm_shard.proofs.Lower.{Err, FreshSettled, TooFar, Fresh, Repeat, AreAll, ShardState, IsInRange, delivered_to, with_pair, In, HasStatus, StatusIs, IsShard, IsWithinLimit}
 use Rattle.gm_shard.proofs.Lower.{IsKept, CanDeliver, IsPlaceOf, Delivers, next_status, is_settling, IsThisLevel, IsPairHere, IsSettledNow, KeepsStatus}
 use Rattle.gm_shard.proofs.Lower.{has_old, with_cases, set_has, has_set, ascending_set, ascending_with, shorter, no_longer, has_all, length_with, now_stands}
 use Rattle.gm_shard.proofs.Lower.{at_place}
@@ -220,6 +220,14 @@ module _ {r : Rules} {s : ShardState} {statuses : List Status} {note : NoteData}
   pub out_fresh : (v : ShardState) → v ≡ with_pair s note.position parent → is_settling old (next_status old note.solved last) ≡ false
       → Delivers r note parent s v (Ok Fresh)
   out_fresh v w settles = (w, t.here, t.new, subst (λ (v : ShardState). KeepsStatus r s v parent) (sym w) (keeps settles))
+
+  pub out_settled : (v : ShardState) → v ≡ with_pair s note.position parent → is_settling old (next_status old note.solved last) ≡ true
+      → s.level < REMOTENESS → Delivers r note parent s v (Ok FreshSettled)
+  out_settled v w settles l =
+      (w, t.here, t.new, subst (λ (v : ShardState). IsSettledNow r s v parent) (sym w) (settled_now settles), omega (arith, l))
+
+  pub out_far : is_settling old (next_status old note.solved last) ≡ true → REMOTENESS ≤ s.level → Delivers r note parent s s (Err TooFar)
+  out_far settles l = (refl, t.here, t.new, settled_now settles, omega (arith, l))
 
   -- the status of the parent after the pair
   pub next_after : (next : Status) → next ≡ next_status old note.solved last → StatusIs r (with_pair s note.position parent) parent next

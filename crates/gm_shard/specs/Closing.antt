@@ -24,6 +24,11 @@ record_of Hole = None
 record_of Undecided = Some (solved Draw 0)
 record_of (Settled x) = Some x
 
+-- the records of the indexes from one on, where what is undecided is a draw
+abbrev pub AreFinal : Rules → ShardState → ℕ → List (Option Solved) → Type 0
+AreFinal r s index records = (k : ℕ) (o : Option Solved) → slice_get records k ≡ Some o
+    → (status : Status) × StatusIs r s (index + k) status × (o ≡ record_of status)
+
 -- the true records of a range of a tier
 pub record ArePart (r : Rules) (tier lo : ℕ) (records : List (Option Solved)) : Type 0 where
   pub each : (k : ℕ) (o : Option Solved) → slice_get records k ≡ Some o → IsRecord r REMOTENESS (IsTrueValue r) (at tier (lo + k)) o

@@ -26,10 +26,12 @@ fn ended<G: Game>(alloc: Global, children: &Ordered<G>, phase: Phase) -> Result<
 {
     let (lo, count) = children.range();
     let mut queue = Queue::new(alloc, count as usize)?;
-    for index in 0..count {
-        if has_phase(children.status(lo + index), phase) {
-            queue.push(index as u32);
+    let mut index = children.skip_holes(lo);
+    while index < lo + count {
+        if has_phase(children.status(index), phase) {
+            queue.push((index - lo) as u32);
         }
+        index = children.skip_holes(index + 1);
     }
     queue.advance();
     Ok(queue)
@@ -84,7 +86,7 @@ impl<G: Game> Model for OrderedShard<G> {
 }
 
 impl<G: Game> OrderedShard<G> {
-    ghost use Rattle.std.specs.Prelude.{◌≡◌, ◌+◌, ◌*◌, ◌≤◌, ◌++◌, List, Option, length, IfOk, OnOk, OnErr};
+    ghost use Rattle.std.specs.Prelude.{◌≡◌, ◌+◌, ◌*◌, ◌<◌, ◌≤◌, ◌++◌, List, Option, length, IfOk, OnOk, OnErr};
     ghost use Rattle.gm_shard.specs.Lower.{MOVES, Solved, Ties, Contains};
     ghost use Rattle.gm_shard.specs.Begin.{AreStarts, first_state};
     ghost use Rattle.gm_shard.specs.State.{IsInRange, delivered_to, pairs_in};
@@ -92,7 +94,7 @@ impl<G: Game> OrderedShard<G> {
     ghost use Rattle.gm_shard.specs.Good.{IsGood, IsCounter};
     ghost use Rattle.gm_shard.specs.Delivery.{IsPairHere, Delivers};
     ghost use Rattle.gm_shard.specs.Steps.{IsWhole, CanTurn, place_of, next_level, first_ties};
-    ghost use Rattle.gm_shard.specs.Closing.{IsNoteOf, ArePart, record_of};
+    ghost use Rattle.gm_shard.specs.Closing.{IsNoteOf, AreFinal, ArePart, record_of};
     ghost use Rattle.gm_shard.specs.declared.status.Status.{Status as StatusSpec};
     ghost use Rattle.gm_table.specs.Packed.{unpacked};
     ghost use Rattle.gm_shard.specs.Queues.{AreSettledAt};
@@ -224,6 +226,25 @@ impl<G: Game> OrderedShard<G> {
         self.children.final_number(index)
     }
 
+    // Appends the records of the holes from an index on and that of the index after them; returns the first index whose record is not appended yet. If memory is
+    // refused, some of them may be appended.
+    fn push_next(&self, index: u64, records: &mut Packed) -> Result<u64, AllocError>
+        requires { IsInRange self.now index }
+        ensures next { IfOk result (λ next. (index < next) × (next ≤ self.now.lo + length self.now.delivered)) }
+        ensures ok { IfOk result (λ next. (part : List (Option Solved)) × (records.new ≡ records.old ++ part) × (index + length part ≡ next)
+            × AreFinal G.rules self.now index part) }
+        ensures err { OnErr result ((part : List (Option Solved)) × (records.new ≡ records.old ++ part)) }
+    {
+        let (_lo, hi) = self.range();
+        let next = self.children.skip_holes(index);
+        records.push_none((next - index) as usize)?;
+        if next == hi {
+            return Ok(next);
+        }
+        records.push_number(self.final_number(next))?;
+        Ok(next + 1)
+    }
+
     /// Appends the true records of the range when nothing is left to settle: undecided positions are draws. If memory is refused, the records are unchanged.
     pub fn finish(&self, last: &Last<G>, records: &mut Packed) -> Result<(), AllocError>
         requires last { last.now ≡ place_of self.now }
@@ -234,11 +255,14 @@ impl<G: Game> OrderedShard<G> {
     {
         let _place = last.place();
         let before = records.len();
-        let (lo, hi) = self.range();
-        for index in lo..hi {
-            if let Err(error) = records.push_number(self.final_number(index)) {
-                records.truncate(before);
-                return Err(error);
+        let (mut index, hi) = self.range();
+        while index < hi {
+            match self.push_next(index, records) {
+                Ok(next) => index = next,
+                Err(error) => {
+                    records.truncate(before);
+                    return Err(error);
+                }
             }
         }
         Ok(())

@@ -1,16 +1,19 @@
 //! Statuses of four bytes each.
-ghost use Rattle.std.specs.Prelude.{◌≡◌, ◌<◌, Some, length, slice_get, set, replicate, IfOk};
+ghost use Rattle.std.specs.Prelude.{◌≡◌, ◌<◌, ◌≤◌, ℕ, Some, length, slice_get, set, replicate, IfOk};
 ghost use Rattle.gm_shard.specs.Good.{IsWithinLimit};
 ghost use Rattle.gm_table.specs.Packed.{unpacked};
 ghost use Rattle.gm_shard.specs.Closing.{record_of};
 ghost use Rattle.gm_shard.specs.declared.status.Status.{Status as StatusSpec};
-ghost use Rattle.gm_shard.specs.declared.status.Status.TheVariants.{Undecided};
+ghost use Rattle.gm_shard.specs.declared.status.Status.TheVariants.{Hole, Undecided};
 ghost use Rattle.gm_shard.specs.Statuses.{status_of};
 
 use crate::status::Status;
 use gm_table::packed::{number_of, unpacked};
 use std::alloc::{AllocError, Global};
 use std::marker::Model;
+
+/// The number of a hole.
+const HOLE: u32 = 0;
 
 /// The number of an undecided index: no record has it.
 const UNDECIDED: u32 = 1;
@@ -41,6 +44,23 @@ impl Statuses {
     {
         let numbers = vec![in alloc; UNDECIDED; count]?;
         Ok(Statuses { numbers })
+    }
+
+    /// Returns a place from `from` on that only holes come before, so that these places need no look: the first whose number is not that of a hole, or the end.
+    pub(crate) fn skip_holes(&self, from: usize) -> usize
+        requires { from ≤ length self.now }
+        ensures low { from ≤ result }
+        ensures high { result ≤ length self.now }
+        ensures holes { (k : ℕ) → from ≤ k → k < result → slice_get self.now k ≡ Some Hole }
+    {
+        let mut k = from;
+        while self.numbers[k..].starts_with(&[HOLE; 8]) {
+            k += 8;
+        }
+        while k < self.numbers.len() && self.numbers[k] == HOLE {
+            k += 1;
+        }
+        k
     }
 
     /// Returns the status at a place.

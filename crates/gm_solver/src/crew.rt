@@ -27,18 +27,6 @@ struct WorkerSlot<A: ShardLedger, B: ShardLedger, C: ShardLedger, D: ShardLedger
     ghost one_part: { shares.parts ≡ 1 },
 }
 
-impl<A: PieceLedger, B: PieceLedger, C: PieceLedger, D: PieceLedger> WorkerSlot<A, B, C, D> {
-    // Lets a worker of a crew work with these shares.
-    fn work<G: Game, R: Wait, T: Gate, S: Source>(
-        &mut self,
-        crew: &Crew<G, A, B, C, D, T, S>,
-        rt: &R,
-        worker: usize,
-    ) {
-        crew.serve(rt, worker, &mut self.shares);
-    }
-}
-
 // Makes a slot for each worker, with one part of each share.
 fn slots_of<A: ShardLedger, B: ShardLedger, C: ShardLedger, D: ShardLedger>(
     alloc: Global,
@@ -174,35 +162,10 @@ impl<
     // Does the work of one worker, over its slot.
     fn work<R: Wait>(&self, rt: &R, worker: usize) {
         if let Some(slot) = self.slots.get(worker) {
-            slot.lock(rt).work(self, rt, worker);
+            let mut slot = slot.lock(rt);
+            self.serve(rt, worker, &mut slot.shares);
         }
     }
-}
-
-// Runs a worker for each slot and waits for all: the first in this thread, every other in a thread of its own. A worker that can't be started leaves its slot
-// unchanged. For one worker no thread is started.
-fn run_workers<
-    'a,
-    'b,
-    G: Game + Send + Sync,
-    A: PieceLedger + Send,
-    B: PieceLedger + Send,
-    C: PieceLedger + Send,
-    D: PieceLedger + Send,
-    R: Threads + Wait + Sync,
-    T: Gate,
-    S: Source,
->(rt: &R, crew: &Crew<'a, 'b, G, A, B, C, D, T, S>) {
-    if crew.slots.len() <= 1 {
-        crew.work(rt, 0);
-        return;
-    }
-    thread::scope(thread::scope_env(), rt, |scope| {
-        for worker in 1..crew.slots.len() {
-            let _started = scope.spawn(move || crew.work(rt, worker));
-        }
-        crew.work(rt, 0);
-    });
 }
 
 // Takes back the workers' parts of the shares.
@@ -232,8 +195,9 @@ fn sum_of<A: ShardLedger, B: ShardLedger, C: ShardLedger, D: ShardLedger>(
         .saturating_add(shares.amount(3))
 }
 
-/// Runs the workers of a level, and takes their parts of the shares back after the last has ended. Returns the number of pairs that were delivered by the
-/// shares, or `u64::MAX` if there were more.
+/// Runs the workers of a level and waits for all: the first in this thread, every other in a thread of its own, so that one worker starts no thread. A worker that
+/// can't be started does nothing. Then takes the workers' parts of the shares back. Returns the number of pairs that were delivered by the shares, or `u64::MAX`
+/// if there were more.
 pub(crate) fn run_crew<
     G: Game + Send + Sync,
     A: PieceLedger + Send,
@@ -259,7 +223,7 @@ pub(crate) fn run_crew<
     ensures number { IfOk result (λ number. number ≡ min (total_of rest.new) (2 ^ 64 - 1)) }
 {
     let slots = slots_of::<A, B, C, D>(context.alloc, workers, rest)?;
-    let crew = Crew {
+    let crew = &Crew {
         alloc: context.alloc,
         board,
         job,
@@ -267,7 +231,17 @@ pub(crate) fn run_crew<
         source: context.source,
         slots: slots.as_slice(),
     };
-    run_workers(context.rt, &crew);
+    let rt = context.rt;
+    if workers <= 1 {
+        crew.work(rt, 0);
+    } else {
+        thread::scope(thread::scope_env(), rt, |scope| {
+            for worker in 1..workers {
+                let _started = scope.spawn(move || crew.work(rt, worker));
+            }
+            crew.work(rt, 0);
+        });
+    }
     take_back(slots, rest);
     Ok(sum_of(rest))
 }

@@ -1,6 +1,7 @@
 -- What indexes without a record leave unchanged.
 use Rattle.gm_table.proofs.Lower.{◌≡◌, ℕ, zero, suc, ◌+◌, ◌/◌, ◌<◌, ◌≤◌, List, [], ◌∷◌, Option, None, map, take, length, slice_get, IfSome, refl, sym, ap, ◌∙◌}
 use Rattle.gm_table.proofs.Lower.{arith, inl, inr, eq-eqb, cases_lt, Solved, Phase, record_at, wide, unpacked, indexes_at, greatest_of}
+use Rattle.gm_table.proofs.Lower.{Bool, true, replicate, subst, ◌++◌, ◌-◌, eqb, length-append, take_all, drop, length-drop, starts_with, starts_is, Decides-eqb}
 use Rattle.gm_table.proofs.LevelLemmas.{greatest_without}
 use Rattle.gm_table.proofs.RunLemmas.{indexes_with}
 
@@ -9,6 +10,34 @@ pub wide_holes : (shorts : List ℕ) (k : ℕ) → IfSome (slice_get shorts k) (
 wide_holes [] k h = h
 wide_holes (x ∷ xs) zero h = omega arith
 wide_holes (x ∷ xs) (suc k) h = wide_holes xs k h
+
+-- zeros that a list begins with are no records
+first_zeros : (n k : ℕ) (rest : List ℕ) → k < n → IfSome (slice_get (replicate n 0 ++ rest) k) (λ short. short < 32)
+first_zeros zero k rest h = elim h [ ]
+first_zeros (suc n) zero rest h = omega arith
+first_zeros (suc n) (suc k) rest h = first_zeros n k rest (omega arith)
+
+-- what is no record from an index on
+from_index : (shorts : List ℕ) (i k j : ℕ) → i ≤ k → j ≡ k - i → IfSome (slice_get (drop i shorts) j) (λ short. short < 32)
+    → IfSome (slice_get shorts k) (λ short. short < 32)
+from_index shorts zero k j low e h =
+    let same : j ≡ k = omega arith in
+    subst (λ (n : ℕ). IfSome (slice_get shorts n) (λ short. short < 32)) same h
+from_index [] (suc i) k j low e h = h
+from_index (x ∷ xs) (suc i) zero j low e h = elim low [ ]
+from_index (x ∷ xs) (suc i) (suc k) j low e h = from_index xs i k j (omega arith) (omega arith) h
+
+-- where a list goes on with eight zeros from an index on, these are no records
+pub eight_holes : (shorts : List ℕ) (i : ℕ) (zeros : Bool) → i ≤ length shorts → zeros ≡ starts_with eqb (take (length shorts - i) (drop i shorts)) (replicate 8 0) → zeros ≡ true
+    → (i + 8 ≤ length shorts) × ((k : ℕ) → i ≤ k → k < i + 8 → IfSome (slice_get shorts k) (λ short. short < 32))
+eight_holes shorts i zeros inside is true_ =
+    let all = take_all (length shorts - i) (drop i shorts) (omega (arith, length-drop i shorts)) in
+    let zeros_first = sym all ∙ (starts_is Decides-eqb (take (length shorts - i) (drop i shorts)) (replicate 8 0) zeros is).0 true_ in
+    let rest = drop 8 (take (length shorts - i) (drop i shorts)) in (
+      omega (arith, ap length zeros_first, length-append (replicate 8 0) rest, length-drop i shorts),
+      λ k low high. from_index shorts i k (k - i) low refl
+          (subst (λ (l : List ℕ). IfSome (slice_get l (k - i)) (λ short. short < 32)) (sym zeros_first) (first_zeros 8 (k - i) rest (omega arith))),
+    )
 
 -- a number of no record
 pub unpacked_holes : (numbers : List ℕ) (k : ℕ) → IfSome (slice_get numbers k) (λ number. number < 1048576) → record_at (map unpacked numbers) k ≡ None

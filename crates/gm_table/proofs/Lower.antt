@@ -39,15 +39,15 @@ pub use Rattle.gm_table.specs.declared.version.Version.{Version}
 pub use Rattle.gm_table.specs.declared.version.Version.TheVariants.{One, Two}
 pub use Rattle.rayon.proofs.Reducing.{Reduces-elim}
 pub use Rattle.rayon.specs.Lists.{Reduces, min_len_base, range_end, range_start}
-pub use Rattle.std.proofs.Common.{Bool, Err, IfSome, IsSome, IsTrue, List, MatchOption, None, Option, Some, Vec, [], ap, arith, below_more, cond, eq-eqb, eqb}
+pub use Rattle.std.proofs.Common.{drop, Bool, Err, IfSome, IsSome, IsTrue, List, MatchOption, None, Option, Some, Vec, [], ap, arith, below_more, cond, eq-eqb, eqb}
 pub use Rattle.std.proofs.Common.{eqb-true, false, get_or, if◌then◌else◌, inl, inr, length, length-append, map, max, min, ne_eqb, not, option_copied, refl}
 pub use Rattle.std.proofs.Common.{replicate, rules, set, slice_get, slice_index_or, subst, suc, sym, take, true, vec_len, zero, ℕ, ◌%◌, ◌++◌, ◌+◌, ◌-◌, ◌/◌}
 pub use Rattle.std.proofs.Common.{◌<◌, ◌==◌, ◌^◌, ◌↔◌, ◌∙◌, ◌∷◌, ◌≡◌, ◌≢◌, ◌≤◌, ◌⊎◌}
 pub use Rattle.std.proofs.Math.Nat.{div-add-mod, div-lt_iff_lt-mul, mod-lt}
 pub use Rattle.std.proofs.lemmas.Bool.{cases_Bool, cases_eq, cases_lt, cases_order, eqb-false}
-pub use Rattle.std.proofs.lemmas.Bool.Decides.{nat_tests}
+pub use Rattle.std.proofs.lemmas.Bool.Decides.{Decides-eqb, nat_tests}
 pub use Rattle.std.proofs.lemmas.Grind.{get_or_default_zero}
-pub use Rattle.std.proofs.lemmas.List.{get_or-map, get_or-set_other, get_or-set_same, get_or_default, length-map, length-set, length-take, map-append, map-set}
+pub use Rattle.std.proofs.lemmas.List.{get_or-map, get_or-set_other, get_or-set_same, get_or_default, length-drop, length-map, length-set, length-take, map-append, map-set}
 pub use Rattle.std.proofs.lemmas.List.{map_more, take-map, take_all, take_more}
 pub use Rattle.std.proofs.lemmas.List.Elements.{AllZip-get_or, Contains-append_cases, Contains-append_left, Contains-append_right, Contains-get_or}
 pub use Rattle.std.proofs.lemmas.List.Elements.{Contains-push_cases, filter-append}
@@ -56,11 +56,12 @@ pub use Rattle.std.proofs.lemmas.List.FromFn.{get_or-range_with_len, length-rang
 pub use Rattle.std.proofs.lemmas.Nat.{div-add-mod', div-mul-add, from_le_bytes-to_le_bytes_2, from_le_bytes-to_le_bytes_4, mod-mul-add, mul-add-lt}
 pub use Rattle.std.proofs.lemmas.Option.{none-some, same_Some, slice_get-get_or, slice_get_within}
 pub use Rattle.std.proofs.lemmas.Simd.{map-map}
+pub use Rattle.std.proofs.lemmas.Slice.Eq.{starts_is}
 pub use Rattle.std.proofs.lemmas.Slice.Zip.{AllZip-long}
 pub use Rattle.std.specs.BTreeMap.{insert_entry, is_at}
 pub use Rattle.std.specs.Borrow.{Bor}
 pub use Rattle.std.specs.Cmp.{ranked}
-pub use Rattle.std.specs.List.{AllZip, Contains, filter, range_with_len}
+pub use Rattle.std.specs.List.{AllZip, Contains, filter, range_with_len, starts_with}
 pub use Rattle.std.specs.Map.{lookup, values_of}
 pub use Rattle.std.specs.Option.{is_some}
 pub use Rattle.std.specs.Ordering.{MatchOrdering, is_eq, match_ordering, nat_cmp}

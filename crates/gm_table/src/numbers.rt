@@ -203,9 +203,23 @@ fn next_record(shorts: &[u8], from: usize) -> usize
     ensures high { result ≤ length shorts.now }
     ensures holes { (k : ℕ) → from ≤ k → k < result → IfSome (slice_get shorts.now k) (λ short. short < 32) }
 {
-    let mut index = from;
+    let mut index = skip_eights(shorts, from);
     while index < shorts.len() && u32::from(shorts[index]) < SHORT_STEP {
         index += 1;
+    }
+    index
+}
+
+// Returns an index from `from` on, up to which all short forms are zeros: it passes eight at once.
+fn skip_eights(shorts: &[u8], from: usize) -> usize
+    requires { from ≤ length shorts.now }
+    ensures low { from ≤ result }
+    ensures high { result ≤ length shorts.now }
+    ensures holes { (k : ℕ) → from ≤ k → k < result → IfSome (slice_get shorts.now k) (λ short. short < 32) }
+{
+    let mut index = from;
+    while shorts[index..].starts_with(&[0; 8]) {
+        index += 8;
     }
     index
 }
