@@ -1,11 +1,11 @@
 -- A shard with no pair.
-use Rattle.gm_shard.proofs.Lower.{◌≡◌, ℕ, ◌+◌, ◌-◌, ◌<◌, ◌≤◌, inl, List, [], length, get_or, map, refl, ap, sym, subst, ◌∙◌, arith, Some, None, take, ◌++◌, ◌∷◌}
-use Rattle.gm_shard.proofs.Lower.{length-set, Contains, slice_get, length-map, get_or-map, get_or-replicate, length-replicate, map_more, take_all}
-use Rattle.gm_shard.proofs.Lower.{take_more_set, sum_by-replicate, slice_get-get_or, get_or_from_slice_get, TIER_SIZE, Position, End, Phase, WinLose, Ties}
+use Rattle.gm_shard.proofs.Lower.{◌≡◌, ℕ, ◌+◌, ◌-◌, ◌<◌, ◌≤◌, inl, List, [], length, get_or, map, refl, ap, sym, subst, ◌∙◌, arith, Some, None}
+use Rattle.gm_shard.proofs.Lower.{Contains, slice_get, length-map, get_or-map, get_or-replicate, length-replicate}
+use Rattle.gm_shard.proofs.Lower.{sum_by-replicate, slice_get-get_or, get_or_from_slice_get, TIER_SIZE, Position, End, Phase, WinLose, Ties}
 use Rattle.gm_shard.proofs.Lower.{Lose, Draw, Tie, Win, IsUndecided, Rules, at, StandsBefore, IsPlaceBefore, AreAscending, canonical_children_of, from_end}
 use Rattle.gm_shard.proofs.Lower.{Start, Status, Hole, Settled, IsInRange, delivered_to, In, HasStatus, StatusIs, IsShard, IsWithinLimit, IsKept, IsCounter}
 use Rattle.gm_shard.proofs.Lower.{IsStart, AreStarts, first_status, first_left, first_state, has_none}
-use Rattle.std.proofs.Common.{◌*◌, set}
+use Rattle.std.proofs.Common.{◌*◌}
 use Rattle.gm_shard.specs.declared.status.Start.TheVariants.{Ended, Inner, Hole as NoStart}
 use Rattle.gm_game.specs.declared.position.End.TheVariants.{Lose as EndLose, Tie as EndTie, Win as EndWin}
 
@@ -13,12 +13,6 @@ near_end : (e : End) → IsWithinLimit (Settled (from_end e))
 near_end EndLose = omega arith
 near_end EndTie = omega arith
 near_end EndWin = omega arith
-
--- what a position begins with is within the limit
-pub near_start : (x : Start) → IsWithinLimit (first_status x)
-near_start NoStart = tt
-near_start (Ended e) = near_end e
-near_start (Inner n) = tt
 
 -- no child settles nothing
 pub nothing_settled : (r : Rules) (p : Position) → IsUndecided r p (In [])
@@ -102,21 +96,3 @@ first_kept r tier lo starts are few' = record {
       inner = λ _. (let z = ap (λ (xs : List Position). length xs) e in let f : c ≡ length (canonical_children_of r (at tier i)) = k.1 in omega arith);
       other = λ none. absurd (none k.0);
     }
-
--- the first k items of ys are those of xs under f
-pub record IsFilled {X A : Type 0} (f : X → A) (xs : List X) (k : ℕ) (ys : List A) : Type 0 where
-  pub many : length ys ≡ length xs
-  pub first : take k ys ≡ map f (take k xs)
-
--- one more item
-pub filled_more : {X A : Type 0} (f : X → A) (xs : List X) (k : ℕ) (d : X) (old new : List A) (y : A) → k < length xs → IsFilled f xs k old
-    → y ≡ f (get_or xs k d) → new ≡ set old k y → IsFilled f xs (k + 1) new
-filled_more {X} {A} f xs k d old new y inside t is put = subst (λ (ys : List A). IsFilled f xs (k + 1) ys) (sym put) (record {
-  many = length-set old k y ∙ t.many;
-  first = take_more_set old k y (subst (λ (n : ℕ). k < n) (sym t.many) inside) ∙ ap (λ (ys : List A). ys ++ y ∷ []) t.first
-      ∙ ap (λ (z : A). map f (take k xs) ++ z ∷ []) is ∙ sym (map_more f xs k d inside);
-})
-
--- all of them
-pub filled_all : {X A : Type 0} (f : X → A) (xs : List X) (k : ℕ) (ys : List A) → length xs ≤ k → IsFilled f xs k ys → ys ≡ map f xs
-filled_all f xs k ys l t = sym (take_all k ys (let m = t.many in omega arith)) ∙ t.first ∙ ap (map f) (take_all k xs l)

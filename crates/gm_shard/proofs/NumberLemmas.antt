@@ -1,16 +1,23 @@
 -- Statuses as numbers.
-use Rattle.gm_shard.proofs.Lower.{◌≡◌, ℕ, zero, suc, ◌+◌, ◌-◌, ◌<◌, ◌≤◌, Bool, true, List, ◌∷◌, ◌++◌, length, map, replicate, drop, get_or, refl, sym, ap}
+use Rattle.gm_shard.proofs.Lower.{◌≡◌, ℕ, ◌+◌, ◌-◌, ◌<◌, ◌≤◌, Bool, true, List, ◌++◌, length, map, replicate, drop, get_or, refl, sym, ap}
 use Rattle.gm_shard.proofs.Lower.{subst, ◌∙◌, arith, inl, inr, Some, cases_lt, length-map, slice_get, slice_get-get_or, get_or-drop, get_or-take, get_or-replicate}
-use Rattle.gm_shard.proofs.Lower.{get_or_append_left, Decides-eqb, slice_range, Status, Hole, Undecided, status_of}
+use Rattle.gm_shard.proofs.Lower.{get_or_append_left, Decides-eqb, slice_range, Status, Hole, status_of}
+use Rattle.gm_shard.proofs.Lower.{Start, first_status}
+use Rattle.gm_shard.specs.Statuses.{first_number}
+use Rattle.gm_shard.specs.declared.status.Start.TheVariants.{Ended, Inner, Hole as NoStart}
+use Rattle.gm_game.specs.declared.position.End.TheVariants.{Lose, Tie, Win}
 use Rattle.std.specs.List.{starts_with}
 use Rattle.std.proofs.Common.{eqb, option_map}
 use Rattle.std.proofs.lemmas.Option.{slice_get-map}
 use Rattle.std.proofs.lemmas.Slice.Eq.{starts_is}
 
--- so many numbers of an undecided index are so many undecided statuses
-pub all_undecided : (n : ℕ) → map status_of (replicate n 1) ≡ replicate n Undecided
-all_undecided zero = refl
-all_undecided (suc n) = ap (λ (statuses : List Status). Undecided ∷ statuses) (all_undecided n)
+-- the numbers with which indexes begin are those of their statuses
+pub first_numbered : (x : Start) → status_of (first_number x) ≡ first_status x
+first_numbered NoStart = refl
+first_numbered (Ended Lose) = refl
+first_numbered (Ended Tie) = refl
+first_numbered (Ended Win) = refl
+first_numbered (Inner n) = refl
 
 -- the numbers from one place up to another are those of holes
 abbrev pub AreZeros : List ℕ → ℕ → ℕ → Type 0

@@ -2,10 +2,9 @@
 ghost use Rattle.std.specs.Prelude.{◌≡◌, ◌+◌, ◌<◌, ◌^◌};
 ghost use Rattle.gm_shard.specs.Lower.{phase_of, solved};
 ghost use Rattle.gm_shard.specs.Delivery.{next_status, is_settling, number_of};
-ghost use Rattle.gm_shard.specs.Begin.{first_status, first_left};
+ghost use Rattle.gm_shard.specs.Begin.{first_left};
 ghost use Rattle.gm_shard.specs.declared.status.Status.TheVariants.{Settled};
 
-use gm_game::evaluate::of_end;
 use gm_game::position::{End, Phase, Solved, Value};
 use thiserror::Error;
 
@@ -103,16 +102,6 @@ fn one_above(value: Value, note: Solved) -> Status
         value,
         remoteness: note.remoteness + 1,
     })
-}
-
-pub(crate) fn first_status(start: Start) -> Status
-    ensures { result ≡ first_status start }
-{
-    match start {
-        Start::Hole => Status::Hole,
-        Start::Ended(e) => Status::Settled(of_end(e)),
-        Start::Inner { children: _ } => Status::Undecided,
-    }
 }
 
 /// Returns the counter that an index begins with.

@@ -1,13 +1,15 @@
 //! Statuses of four bytes each.
-ghost use Rattle.std.specs.Prelude.{◌≡◌, ◌<◌, ◌≤◌, ℕ, Some, length, slice_get, set, replicate, IfOk};
+ghost use Rattle.std.specs.Prelude.{◌≡◌, ◌<◌, ◌≤◌, ℕ, Some, length, map, slice_get, set, IfOk};
+ghost use Rattle.gm_shard.specs.Begin.{first_status};
 ghost use Rattle.gm_shard.specs.Good.{IsWithinLimit};
 ghost use Rattle.gm_table.specs.Packed.{unpacked};
 ghost use Rattle.gm_shard.specs.Closing.{record_of};
 ghost use Rattle.gm_shard.specs.declared.status.Status.{Status as StatusSpec};
-ghost use Rattle.gm_shard.specs.declared.status.Status.TheVariants.{Hole, Undecided};
-ghost use Rattle.gm_shard.specs.Statuses.{status_of};
+ghost use Rattle.gm_shard.specs.declared.status.Status.TheVariants.{Hole};
+ghost use Rattle.gm_shard.specs.Statuses.{first_number, status_of};
 
-use crate::status::Status;
+use crate::status::{Start, Status};
+use gm_game::evaluate::of_end;
 use gm_table::packed::{number_of, unpacked};
 use std::alloc::{AllocError, Global};
 use std::marker::Model;
@@ -38,11 +40,15 @@ impl Model for Statuses {
 }
 
 impl Statuses {
-    /// Returns this many statuses, each undecided.
-    pub(crate) fn undecided(alloc: Global, count: usize) -> Result<Statuses, AllocError>
-        ensures { IfOk result (λ statuses. statuses ≡ replicate count Undecided) }
+    /// Returns the statuses with which these indexes begin.
+    #[tactic(auto, using(crate::proofs::NumberLemmas::first_numbered))]
+    pub(crate) fn first(alloc: Global, starts: &[Start]) -> Result<Statuses, AllocError>
+        ensures { IfOk result (λ statuses. statuses ≡ map first_status starts.now) }
     {
-        let numbers = vec![in alloc; UNDECIDED; count]?;
+        let mut numbers = Vec::with_capacity(alloc, starts.len())?;
+        for start in starts {
+            numbers.push(first_number(*start))?;
+        }
         Ok(Statuses { numbers })
     }
 
@@ -98,6 +104,17 @@ impl Statuses {
         ensures { self.new ≡ set self.old k status }
     {
         self.numbers[k] = number_of_status(status);
+    }
+}
+
+// Returns the number of the status with which an index begins.
+fn first_number(start: Start) -> u32
+    ensures { result ≡ first_number start }
+{
+    match start {
+        Start::Hole => HOLE,
+        Start::Ended(end) => number_of(Some(of_end(end))),
+        Start::Inner { children: _ } => UNDECIDED,
     }
 }
 

@@ -1,6 +1,10 @@
 -- Blocks of a tier, one after another.
 use Rattle.gm_solver.proofs.Lower.{◌≡◌, ℕ, zero, suc, ◌+◌, inl, inr, List, [], ◌∷◌, ◌++◌, length, take, drop, slice_get, Some, subst, arith, AllZip}
-use Rattle.gm_solver.proofs.Lower.{range_with_len, Rules, at, Start, IsStart, AreStarts, append_cases}
+use Rattle.gm_solver.proofs.Lower.{◌-◌, ◌≤◌, ◌∙◌, ap, sym, range_with_len, replicate, length-append, length-replicate, take_all, Rules, at, AreHoles, Start, IsStart, AreStarts}
+use Rattle.gm_solver.proofs.Lower.{append_cases, slice_get_within}
+use Rattle.std.proofs.lemmas.List.{get_or-replicate}
+use Rattle.std.proofs.lemmas.Option.{get_or_from_slice_get}
+use Rattle.gm_shard.specs.declared.status.Start.TheVariants.{Hole}
 
 -- the starts of a range, and those of the range that goes on if it ends
 pub starts_more : (r : Rules) (tier lo : ℕ) (xs ys : List Start) → length xs ≡ lo → AreStarts r tier 0 xs → AreStarts r tier lo ys
@@ -9,6 +13,24 @@ starts_more r tier lo xs ys long before more k x e = elim (append_cases xs ys k 
   | inl h ↦ before k x h
   | inr (j, i, q) ↦ (let here : lo + j ≡ 0 + k = omega arith in subst (λ (m : ℕ). IsStart r (at tier m) x) here (more j x q))
 ]
+
+-- the starts of a range that goes on with holes
+pub starts_holes : (r : Rules) (tier lo n len from to : ℕ) (xs ys : List Start) → len ≡ length xs → length xs ≤ n → lo + length xs ≡ from → lo + n ≡ to
+    → ys ≡ take n xs ++ replicate (n - len) Hole → AreHoles r tier from to → AreStarts r tier lo xs → (length ys ≡ n) × AreStarts r tier lo ys
+starts_holes r tier lo n len from to xs ys is few begin end e holes before =
+    let m = n - len in
+    let same : ys ≡ xs ++ replicate m Hole = e ∙ ap (λ (zs : List Start). zs ++ replicate m Hole) (take_all n xs few) in
+    let long = ap length same ∙ length-append xs (replicate m Hole) in
+    let more = length-replicate m Hole in (
+      omega arith,
+      subst (AreStarts r tier lo) (sym same) (λ k x got. elim (append_cases xs (replicate m Hole) k x got) [
+        | inl h ↦ before k x h
+        | inr (j, i, q) ↦
+            let within = slice_get_within (replicate m Hole) j x q in
+            let hole : Hole ≡ x = sym (get_or-replicate m j Hole Hole (omega arith)) ∙ get_or_from_slice_get (replicate m Hole) j x Hole q in
+            subst (IsStart r (at tier (lo + k))) hole (holes (lo + k) (omega arith) (omega arith))
+      ]),
+    )
 
 -- an item of a part of a list is in the list
 take_get : {X : Type 0} (n k : ℕ) (xs : List X) (x : X) → slice_get (take n xs) k ≡ Some x → slice_get xs k ≡ Some x

@@ -1,7 +1,7 @@
 -- A delivery that would settle a position above the limit, and the last level within it.
-use Rattle.gm_solver.proofs.Lower.{◌≡◌, ℕ, ◌+◌, ◌-◌, ◌<◌, ◌≤◌, inl, inr, ⊎_elim, List, [], length, get_or, refl, sym, subst, ◌∙◌, arith, Option, None, Some}
-use Rattle.gm_solver.proofs.Lower.{IsSome, Err, get_or-set_same, Contains, cases_lt, false≢true, slice_get-get_or, REMOTENESS, Position, Solved, Phase, WinLose}
-use Rattle.gm_solver.proofs.Lower.{Ties, Place, Rules, at, IsCanonical, IsInner, IsGame, HasValue, IsTrueValue, IsRecord, IsTrueTable, StandsAt, IsPlaceBefore}
+use Rattle.gm_solver.proofs.Lower.{◌≡◌, ℕ, ◌+◌, ◌-◌, ◌<◌, ◌≤◌, inl, inr, ⊎_elim, List, [], refl, sym, subst, ◌∙◌, arith, Option, None, Some}
+use Rattle.gm_solver.proofs.Lower.{IsSome, Err, get_or-set_same, Contains, cases_lt, false≢true, REMOTENESS, Position, Solved, Phase, WinLose}
+use Rattle.gm_solver.proofs.Lower.{Ties, Place, Rules, at, IsCanonical, IsInner, IsGame, HasValue, IsTrueValue, StandsAt, IsPlaceBefore}
 use Rattle.gm_solver.proofs.Lower.{IsLastLevel, TableData, table_of, AreHeld, AreTables, NoteData, ShardState, delivered_to, IsGood, TooFar, Delivers, IsTooFar}
 use Rattle.gm_solver.proofs.Lower.{IsDeliverable, IsCovered, with_position, IsAtLevel, IsSettled, AreReached, And, has_new, has_old, with_cases, reached_more}
 use Rattle.gm_solver.proofs.Lower.{reached_true, none_from_last, IsNote, phase_of, Settled, IsInRange, with_pair, In, StatusIs, Refused, NotThisLevel, NotMine}

@@ -5,7 +5,7 @@ ghost use Rattle.gm_solver.specs.Lower.{AreStarts, first_state};
 use gm_game::game::Game;
 use gm_game::limits::TIER_SIZE;
 use gm_game::position::Position;
-use gm_shard::begin::start;
+use gm_shard::begin::start_of_canonical;
 use gm_shard::shard::Shard;
 use gm_shard::status::Start;
 use std::alloc::{AllocError, Global};
@@ -17,9 +17,13 @@ pub fn starts<G: Game>(alloc: Global, tier: u64, lo: u64, hi: u64) -> Result<Vec
     ensures starts { IfOk result (λ list. AreStarts G.rules tier lo list.items) }
 {
     let mut list = Vec::with_capacity(alloc, (hi - lo) as usize)?;
-    for index in lo..hi {
-        list.push(start::<G>(Position { tier, index }))?;
+    let mut next = lo;
+    while let Some(index) = G::first_canonical(tier, next, hi) {
+        list.resize((index - lo) as usize, Start::Hole)?;
+        list.push(start_of_canonical::<G>(Position { tier, index }))?;
+        next = index + 1;
     }
+    list.resize((hi - lo) as usize, Start::Hole)?;
     Ok(list)
 }
 

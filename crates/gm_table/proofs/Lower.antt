@@ -22,7 +22,7 @@ pub use Rattle.gm_game.specs.declared.position.Solved.{Solved}
 pub use Rattle.gm_game.specs.declared.position.Value.{Value}
 pub use Rattle.gm_game.specs.declared.position.Value.TheVariants.{Draw, Lose, Tie, Win}
 pub use Rattle.gm_table.specs.Caches.{AreCached, AreRead, AreShorts, CacheData, IsSumOf, cache_of, other_record, other_table}
-pub use Rattle.gm_table.specs.Checks.{AreWrong, FitBetween, FitTables, FitsAt, IsFirstOfBlock, IsFirstWrong, IsFirstWrongIn, RecordFits, look_up}
+pub use Rattle.gm_table.specs.Checks.{AreWrong, FitBetween, FitTables, FitsAt, IsFirstAt, IsFirstWrong, IsFirstWrongIn, RecordFits, look_up}
 pub use Rattle.gm_table.specs.Dealing.{block_in}
 pub use Rattle.gm_table.specs.Levels.{HasLevel, IsGreatest, greatest_of, indexes_at, indexes_from, is_level, later, level_in}
 pub use Rattle.gm_table.specs.Numbers.{listed, wide}
@@ -37,8 +37,6 @@ pub use Rattle.gm_table.specs.declared.checker.CheckError.TheVariants.{OutOfMemo
 pub use Rattle.gm_table.specs.declared.summary.Summary.{Summary}
 pub use Rattle.gm_table.specs.declared.version.Version.{Version}
 pub use Rattle.gm_table.specs.declared.version.Version.TheVariants.{One, Two}
-pub use Rattle.rayon.proofs.Reducing.{Reduces-elim}
-pub use Rattle.rayon.specs.Lists.{Reduces, min_len_base, range_end, range_start}
 pub use Rattle.std.proofs.Common.{drop, Bool, Err, IfSome, IsSome, IsTrue, List, MatchOption, None, Option, Some, Vec, [], ap, arith, below_more, cond, eq-eqb, eqb}
 pub use Rattle.std.proofs.Common.{eqb-true, false, get_or, if◌then◌else◌, inl, inr, length, length-append, map, max, min, ne_eqb, not, option_copied, refl}
 pub use Rattle.std.proofs.Common.{replicate, rules, set, slice_get, slice_index_or, subst, suc, sym, take, true, vec_len, zero, ℕ, ◌%◌, ◌++◌, ◌+◌, ◌-◌, ◌/◌}
@@ -49,10 +47,10 @@ pub use Rattle.std.proofs.lemmas.Bool.Decides.{Decides-eqb, nat_tests}
 pub use Rattle.std.proofs.lemmas.Grind.{get_or_default_zero}
 pub use Rattle.std.proofs.lemmas.List.{get_or-map, get_or-set_other, get_or-set_same, get_or_default, length-drop, length-map, length-set, length-take, map-append, map-set}
 pub use Rattle.std.proofs.lemmas.List.{map_more, take-map, take_all, take_more}
-pub use Rattle.std.proofs.lemmas.List.Elements.{AllZip-get_or, Contains-append_cases, Contains-append_left, Contains-append_right, Contains-get_or}
+pub use Rattle.std.proofs.lemmas.List.Elements.{Contains-get_or}
 pub use Rattle.std.proofs.lemmas.List.Elements.{Contains-push_cases, filter-append}
 pub use Rattle.std.proofs.lemmas.List.Filters.{length-filter_both}
-pub use Rattle.std.proofs.lemmas.List.FromFn.{get_or-range_with_len, length-range_with_len}
+pub use Rattle.std.proofs.lemmas.List.FromFn.{length-range_with_len}
 pub use Rattle.std.proofs.lemmas.Nat.{div-add-mod', div-mul-add, from_le_bytes-to_le_bytes_2, from_le_bytes-to_le_bytes_4, mod-mul-add, mul-add-lt}
 pub use Rattle.std.proofs.lemmas.Option.{none-some, same_Some, slice_get-get_or, slice_get_within}
 pub use Rattle.std.proofs.lemmas.Simd.{map-map}

@@ -4,6 +4,7 @@ use Rattle.gm_table.specs.Lower.{Position, Solved, REMOTENESS, Rules, at, canoni
 use Rattle.gm_table.specs.declared.checker.CheckError.{CheckError}
 use Rattle.gm_table.specs.declared.checker.CheckError.TheVariants.{OutOfMemory, WrongSize, WrongRecord}
 use Rattle.gm_table.specs.Tables.{TableData, value_in}
+use Rattle.gm_table.specs.Dealing.{block_in}
 
 -- the records fit: each follows from the records of the canonical children, which are looked up among these records within the tier, and in the tables for
 -- other tiers
@@ -46,9 +47,9 @@ abbrev pub IsFirstWrongIn : Rules → List TableData → ℕ → List (Option So
 IsFirstWrongIn r entries tier records lo hi first = MatchOption first (FitBetween r entries tier records lo hi)
     (λ w. (lo ≤ w) × (w < hi) × (FitsAt r entries tier records w → ⊥) × FitBetween r entries tier records lo w)
 
--- the records of a block of 512 before this index fit, and the record at the index, if there is one, doesn't
-pub record IsFirstOfBlock (r : Rules) (entries : List TableData) (tier : ℕ) (records : List (Option Solved)) (block first : ℕ) : Type 0 where
-  pub before : (i : ℕ) → i / 512 ≡ block → i < first → FitsAt r entries tier records i
+-- the records before this index fit of the blocks of 512 at the places from lo up to hi, and the record at the index, if there is one, doesn't
+pub record IsFirstAt (r : Rules) (entries : List TableData) (tier : ℕ) (records : List (Option Solved)) (rows lo hi first : ℕ) : Type 0 where
+  pub before : (i place : ℕ) → lo ≤ place → place < hi → block_in rows place ≡ i / 512 → i < first → FitsAt r entries tier records i
   pub wrong : first < length records → FitsAt r entries tier records first → ⊥
 
 -- these records are not the tier's, for this reason

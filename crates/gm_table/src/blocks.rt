@@ -1,8 +1,8 @@
-//! Records checked by as many threads as there are processors.
-ghost use Rattle.std.specs.Prelude.{◌≡◌, ◌↔◌, ◌<◌, ◌≤◌, ℕ, min, length, IsTrue, None, MatchOption};
+//! Records checked by threads.
+ghost use Rattle.std.specs.Prelude.{◌≡◌, ◌↔◌, ◌+◌, ◌*◌, ◌/◌, ◌<◌, ◌≤◌, ℕ, length, IsTrue, None, MatchOption};
 ghost use Rattle.gm_table.specs.Lower.{AreResults, AreHoles, IsCanonical, at, TIER_SIZE};
 ghost use Rattle.gm_table.specs.Caches.{cache_of};
-ghost use Rattle.gm_table.specs.Checks.{FitsAt, IsFirstWrong, IsFirstWrongIn, IsFirstOfBlock};
+ghost use Rattle.gm_table.specs.Checks.{FitsAt, IsFirstWrong, IsFirstWrongIn, IsFirstAt};
 ghost use Rattle.gm_table.specs.Dealing.{block_in};
 
 use crate::cache::TableCache;
@@ -14,11 +14,8 @@ use gm_game::game::Game;
 use gm_game::limits::TIER_SIZE;
 use gm_game::position::{End, Position};
 use rayon::current_num_threads;
-use rayon::prelude::*;
+use std::thread;
 use std::thread::Threads;
-
-/// How few blocks are worth a thread of their own.
-const PIECE: usize = 8;
 
 /// Up to this many records are checked by the caller's thread alone.
 const FEW: usize = 8192;
@@ -115,7 +112,7 @@ impl<'a, G: Game, C: Records> Given<'a, G, C> {
 
     // Returns the least index of the block that belongs to a place whose record doesn't fit, or how many records there are.
     fn first_in(&self, place: u32) -> u64
-        ensures { IsFirstOfBlock G.rules self.now.tables.now self.now.tier (C.listed self.now.records.now) (block_in self.now.dealing.rows place) result }
+        ensures { IsFirstAt G.rules self.now.tables.now self.now.tier (C.listed self.now.records.now) self.now.dealing.rows place (place + 1) result }
     {
         let (lo, hi) = self.dealing.range(place);
         let first = self.first_between(
@@ -129,37 +126,42 @@ impl<'a, G: Game, C: Records> Given<'a, G, C> {
             None => self.dealing.size(),
         }
     }
+
+    // Returns the least index of the blocks of a class whose record doesn't fit, or a number past the last index if each fits.
+    fn first_in_class(&self, class: usize) -> u64
+        requires { class < 32 }
+        ensures { IsFirstAt G.rules self.now.tables.now self.now.tier (C.listed self.now.records.now) self.now.dealing.rows
+            (class * self.now.dealing.rows) ((class + 1) * self.now.dealing.rows) result }
+    {
+        let (lo, hi) = self.dealing.class(class);
+        let mut first = u64::MAX;
+        for place in lo..hi {
+            first = first.min(self.first_in(place));
+        }
+        first
+    }
 }
 
 impl<'a, G: Game + Send + Sync, C: Records + Sync> Given<'a, G, C> {
-    // Returns the least index whose record doesn't fit, or a number past the last index if each fits. A parallel chain is cut into two pieces for each processor
-    // unless they are too short, so the least length makes one for each. With two, the thread of the file's digest would get too little time.
-    fn first_of_all<R: Threads + Sync>(&self, rt: &R) -> u64
-        ensures wrong { result < length (C.listed self.now.records.now)
-            → IsFirstWrong G.rules self.now.tables.now self.now.tier (C.listed self.now.records.now) result }
-        ensures fit { length (C.listed self.now.records.now) ≤ result
-            → (i : ℕ) → FitsAt G.rules self.now.tables.now self.now.tier (C.listed self.now.records.now) i }
+    // Returns the least index whose record doesn't fit, or a number past the last index if each fits. At most this many threads have some classes each.
+    fn first_of_all<R: Threads + Sync>(&self, rt: &R, threads: usize) -> u64
+        requires { 0 < threads }
+        ensures { IsFirstAt G.rules self.now.tables.now self.now.tier (C.listed self.now.records.now) self.now.dealing.rows 0 (32 * self.now.dealing.rows) result }
     {
-        let blocks = self.dealing.blocks();
-        let piece = blocks as usize / current_num_threads(rt) / 2 + 1;
-        (0..blocks)
-            .into_par_iter()
-            .with_min_len(piece.max(PIECE))
-            .map(
-                |place: u32| -> u64
-                    ensures { IsFirstOfBlock G.rules self.entry.now.tables.now self.entry.now.tier (C.listed self.entry.now.records.now)
-                        (block_in self.entry.now.dealing.rows place) result }
-                { self.first_in(place) },
-            )
-            .reduce(
-                rt,
-                || -> u64
-                    ensures { result ≡ 18446744073709551615 }
-                { u64::MAX },
-                |a: u64, b: u64| -> u64
-                    ensures { result ≡ min a b }
-                { a.min(b) },
-            )
+        let mut found = [0u64; 32];
+        thread::for_each_mut(
+            rt,
+            &mut found,
+            threads,
+            &|class, first| {
+                *first = self.first_in_class(class);
+            },
+        );
+        let mut least = u64::MAX;
+        for class in 0..32 {
+            least = least.min(found[class]);
+        }
+        least
     }
 }
 
@@ -187,7 +189,20 @@ pub(crate) fn first_wrong<'a, G: Game, C: Records>(
     )
 }
 
-/// Returns the least index whose record doesn't fit, found by as many threads as there are processors.
+// Returns how many threads check records on this many processors: of several, one is left to the thread that takes the file's digest meanwhile. With as many
+// threads as processors that one would share its processor with another, and both would end last.
+fn threads_beside(processors: usize) -> usize
+    ensures { 0 < result }
+{
+    if processors > 2 {
+        processors - 1
+    } else {
+        processors.max(1)
+    }
+}
+
+/// Returns the least index whose record doesn't fit, found by threads.
+#[tactic(auto, using(crate::proofs::BlockLemmas::first_is, crate::proofs::BlockLemmas::none_is))]
 pub(crate) fn first_wrong_by<G: Game + Send + Sync, C: Records + Sync, R: Threads + Sync>(
     rt: &R,
     tier: u64,
@@ -207,7 +222,7 @@ pub(crate) fn first_wrong_by<G: Game + Send + Sync, C: Records + Sync, R: Thread
         tables,
         dealing: Dealing::of(records.count() as u64),
     };
-    let first = given.first_of_all(rt);
+    let first = given.first_of_all(rt, threads_beside(current_num_threads(rt)));
     if first < records.count() as u64 {
         Some(first)
     } else {

@@ -78,7 +78,7 @@ pub fn check<G: Game>(
     table_unless(alloc, tier, records, tables, fault)
 }
 
-/// Works as `check`, with as many threads as there are processors.
+/// Works as `check`, by threads: at most as many as there are processors.
 pub fn check_by<G: Game + Send + Sync, R: Threads + Sync>(
     rt: &R,
     alloc: Global,
@@ -211,7 +211,7 @@ fn fault<G: Game, C: Records>(tier: u64, records: &C, tables: &Tables<G>) -> Opt
     fault_of(tier, records, tables, first)
 }
 
-// Works as `fault`, with as many threads as there are processors.
+// Works as `fault`, by threads.
 fn fault_by<G: Game + Send + Sync, C: Records + Sync, R: Threads + Sync>(
     rt: &R,
     tier: u64,

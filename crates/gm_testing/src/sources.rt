@@ -116,7 +116,8 @@ pub enum Kind {
     Seat,
 }
 
-/// A gate of a kind. It counts its calls before and after deliveries, and the workers that gave up waiting after a million turns.
+/// A gate of a kind. It counts its calls before and after deliveries, and the workers that gave up waiting after a hundred million turns. That takes seconds:
+/// a busy system may not run the other thread sooner.
 /// `EACH` is that of the trait.
 #[derive(Drop)]
 pub struct TestGate<const EACH: bool> {
@@ -168,7 +169,7 @@ impl<const EACH: bool> TestGate<EACH> {
 
     // Waits until a worker may go on.
     fn wait<R: Wait>(&self, rt: &R) {
-        for _ in 0..1_000_000 {
+        for _ in 0..100_000_000 {
             if self.opens(rt) {
                 return;
             }

@@ -1,4 +1,4 @@
-use Rattle.gm_table.proofs.Lower.{◌<◌, length, slice_get, arith, inl, inr, cases_lt}
+use Rattle.gm_table.proofs.Lower.{arith, inl, inr, cases_lt}
 use Rattle.gm_table.proofs.HoleLemmas.{eight_holes}
 use Rattle.gm_table.proofs.numbers.skip_eights.Goals as goal
 
