@@ -1,5 +1,5 @@
 -- What an error of a tier says of the build.
-use Rattle.gm_build.proofs.Lower.{◌≡◌, ℕ, ◌+◌, inl, inr, Result, Ok, Err, IfErr, refl, sym, ap, subst, ◌∙◌, arith, IsErrOf, Rules, TIERS, IsReachedFrom, Texts}
+use Rattle.gm_build.proofs.Lower.{◌≡◌, ℕ, ◌+◌, inl, inr, Result, Err, refl, sym, subst, arith, IsErrOf, Rules, TIERS, IsReachedFrom, Texts}
 use Rattle.gm_build.proofs.Lower.{of_tier_error, IsBuildError, StopsAt, IsStopped, TierError, HasTooMany, AreMoreThan, IsTooLarge, IsTooFar, BuildError}
 use Rattle.gm_build.proofs.Lower.{OutOfMemory, TooFar, StoreFailed, TooManyTiers, TierTooLarge, failures_in, IsTierError}
 use Rattle.gm_tiers.specs.declared.tier_error.TierError.TheVariants.{OutOfMemory as NoMemory, TooManyTiers as TooMany, TierTooLarge as TooLarge}

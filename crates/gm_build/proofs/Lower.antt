@@ -1,6 +1,6 @@
 -- Words that proofs here use.
 pub use Rattle.gm_build.specs.Findings.{IsFound, IsFoundIn, IsOfTier}
-pub use Rattle.gm_build.specs.Inspections.{IsChecked, IsInspected, IsInspectedIn}
+pub use Rattle.gm_build.specs.Inspections.{IsInspected, IsInspectedIn}
 pub use Rattle.gm_build.specs.Outcomes.{IsBuildError, IsStopped, IsTierError, MayHaveText, StopsAt, failures_in, of_tier_error}
 pub use Rattle.gm_build.specs.Steps.{Fits64, IsAhead, IsDoneBy, IsStep, IsStepWork, no_work, with_tier}
 pub use Rattle.gm_build.specs.TrueTexts.{HasOldText, HasText, HaveTexts, IsOldText, IsTrueText, KeepsOthers}

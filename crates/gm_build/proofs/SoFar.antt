@@ -1,7 +1,7 @@
 -- What a build has done with the first tiers of the order.
 use Rattle.gm_build.proofs.Lower.{◌≡◌, ℕ, ◌+◌, ◌≤◌, ◌↔◌, List, [], ◌∷◌, ◌++◌, length, take, refl, subst, ◌∙◌, arith, length-append, Contains, MOVES, TIERS}
 use Rattle.gm_build.proofs.Lower.{TIER_SIZE, Rules, IsGame, contains_none, TableData, Texts, AreSameBut, HasText, HasOldText, HaveTexts, KeepsOthers, IsWorkOn}
-use Rattle.gm_build.proofs.Lower.{IsSomeWork, HoldsExactly, HoldsToo, IsDoneBy, IsStep, IsStepWork, no_work, with_tier, TierOutcome, Reused, Migrated, Solved}
+use Rattle.gm_build.proofs.Lower.{IsSomeWork, HoldsExactly, HoldsToo, IsStep, IsStepWork, no_work, with_tier, TierOutcome, Reused, Migrated, Solved}
 use Rattle.gm_build.proofs.Lower.{Work, take_all, Fits64}
 use Rattle.std.proofs.Common.{◌*◌}
 use Rattle.gm_build.proofs.StoreLemmas.{text_as_before, old_as_before, texts_more, others_more, holds_more}

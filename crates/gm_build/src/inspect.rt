@@ -2,7 +2,7 @@
 ghost use Rattle.std.specs.Prelude.{◌≡◌, ◌+◌, ◌<◌, ◌≤◌, ◌↔◌, IsTrue, IfOk, IfErr, option_map};
 ghost use Rattle.gm_build.specs.Lower.{AreHeld, Texts, AreSame};
 ghost use Rattle.gm_tierdb.specs.Seals.{IsSealed};
-ghost use Rattle.gm_build.specs.Inspections.{IsInspected, IsInspectedIn, IsRead};
+ghost use Rattle.gm_build.specs.Inspections.{IsInspected, IsInspectedIn};
 ghost use Rattle.gm_build.specs.Outcomes.{failures_in, IsTierError, IsReadError};
 
 use crate::build_error::BuildError;
@@ -17,10 +17,7 @@ use gm_tierdb::store::Store;
 use gm_tierdb::store_error::StoreError;
 use std::alloc::{AllocError, Global};
 use std::fs::Files;
-use std::thread::{Threads, join};
-
-// So few bytes are read by the thread that takes their digest: to start another takes longer.
-const FEW: usize = 65_536;
+use std::thread::Threads;
 
 /// What a tier's entry is found to be.
 #[derive(Drop)]
@@ -100,12 +97,20 @@ pub fn inspect_text<G: Game + Send + Sync, R: Threads + Sync>(
     requires small { G.rules.tier_size tier ≤ TIER_SIZE }
     ensures exact { IfOk result (IsInspected G.rules tables.now tier bytes.now) }
 {
-    let (sealed, read) = read_both(rt, alloc, tier, bytes, tables);
-    let checked = match read {
-        Ok(checked) => checked,
+    let records = match decode_unsealed::<G, R>(rt, alloc, tier, bytes) {
+        Ok(records) => records,
         Err(FileError::OutOfMemory) => return Err(AllocError),
         Err(why) => return Ok(Inspected::NoFile(why)),
     };
+    let (checked, sealed) = check_packed_by(
+        rt,
+        tier,
+        records,
+        tables,
+        move || -> bool
+            ensures { IsTrue result ↔ IsSealed bytes.entry.now }
+        { is_sealed(bytes) },
+    );
     if !sealed {
         return Ok(Inspected::NoFile(FileError::BadDigest));
     }
@@ -113,48 +118,4 @@ pub fn inspect_text<G: Game + Send + Sync, R: Threads + Sync>(
         Ok(table) => Ok(Inspected::Right(table)),
         Err(why) => Ok(Inspected::NoTable(why)),
     }
-}
-
-// Returns whether an entry ends with its digest, and what its records are: of a long one by a thread each.
-fn read_both<G: Game + Send + Sync, R: Threads + Sync>(
-    rt: &R,
-    alloc: Global,
-    tier: u64,
-    bytes: &[u8],
-    tables: &Tables<G>,
-) -> (bool, Result<Result<Table<G>, CheckError>, FileError>)
-    requires held { AreHeld G.rules tables.now tier }
-    requires small { G.rules.tier_size tier ≤ TIER_SIZE }
-    ensures sealed { IsTrue result.0 ↔ IsSealed bytes.now }
-    ensures read { IsRead G.rules tables.now tier bytes.now result.1 }
-{
-    if bytes.len() <= FEW {
-        return (is_sealed(bytes), read_table(rt, alloc, tier, bytes, tables));
-    }
-    join(
-        rt,
-        || -> bool
-            ensures { IsTrue result ↔ IsSealed bytes.entry.now }
-        { is_sealed(bytes) },
-        || -> Result<Result<Table<G>, CheckError>, FileError>
-            requires { AreHeld G.rules tables.now tier × (G.rules.tier_size tier ≤ TIER_SIZE) }
-            ensures { IsRead G.rules tables.entry.now tier bytes.entry.now result }
-        { read_table(rt, alloc, tier, bytes, tables) },
-    )
-}
-
-// Returns the table of the records of an entry, or why they are not the tier's; the digest is not tested.
-fn read_table<G: Game + Send + Sync, R: Threads + Sync>(
-    rt: &R,
-    alloc: Global,
-    tier: u64,
-    bytes: &[u8],
-    tables: &Tables<G>,
-) -> Result<Result<Table<G>, CheckError>, FileError>
-    requires held { AreHeld G.rules tables.now tier }
-    requires small { G.rules.tier_size tier ≤ TIER_SIZE }
-    ensures { IsRead G.rules tables.now tier bytes.now result }
-{
-    let records = decode_unsealed::<G, R>(rt, alloc, tier, bytes)?;
-    Ok(check_packed_by(rt, tier, records, tables))
 }

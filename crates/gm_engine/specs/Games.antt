@@ -1,5 +1,5 @@
 -- The games of the module by their numbers: a line for each.
-use Rattle.std.specs.Prelude.{◌≡◌, ℕ, true, false, List}
+use Rattle.std.specs.Prelude.{ℕ, true, false, List, [], ◌∷◌, slice_get, IfSome}
 use Rattle.gm_game.specs.declared.position.Position.{Position}
 use Rattle.gm_game.specs.Rules.{Rules}
 use Rattle.gm_ways.specs.Ways.{way_rules}
@@ -36,33 +36,37 @@ pub record PlayedGame : Type 0 where
 abbrev pub played : Width → Rules → (Position → List ℕ) → (Position → ℕ → List ℕ) → PlayedGame
 played width rules shown move_shown = record { width = width; rules = rules; shown = shown; move_shown = move_shown }
 
--- the property holds for the game with this number, if there is one. (13 is Mu Torere by its ways, which
--- gm_mutorere proves equal to that by its board.)
+-- the games by their numbers, from 0 on. (Mu Torere, the fourteenth, is given by its ways, which gm_mutorere proves equal to that by its board.)
+abbrev pub games : List PlayedGame
+games =
+    played Byte (countdown 10) number_text step_text
+    ∷ played Byte wheel number_text target_text
+    ∷ played Byte (tactix_rules 1 false) (tactix_text 1) (tactix_move_text 1)
+    ∷ played Byte (tactix_rules 2 false) (tactix_text 2) (tactix_move_text 2)
+    ∷ played Byte (tactix_rules 3 false) (tactix_text 3) (tactix_move_text 3)
+    ∷ played Byte (tactix_rules 4 false) (tactix_text 4) (tactix_move_text 4)
+    ∷ played Byte (tactix_rules 1 true) (tactix_text 1) (tactix_move_text 1)
+    ∷ played Byte (tactix_rules 2 true) (tactix_text 2) (tactix_move_text 2)
+    ∷ played Byte (tactix_rules 3 true) (tactix_text 3) (tactix_move_text 3)
+    ∷ played Byte (tactix_rules 4 true) (tactix_text 4) (tactix_move_text 4)
+    ∷ played Byte (morris_rules 9) nine_text (nine_move_text 9)
+    ∷ played Byte (morris_rules 6) nine_text (nine_move_text 6)
+    ∷ played Byte (morris_rules 8) nine_text (nine_move_text 8)
+    ∷ played Byte (way_rules 9 ring_game) (way_text 9 ring_game) (way_move_text ring_game)
+    ∷ played Byte dao_rules dao_text dao_move_text
+    ∷ played Byte hare_rules hare_text hare_move_text
+    ∷ played Byte pong_rules (way_text 5 pong) (way_move_text pong)
+    ∷ played Byte shisima_rules (way_text 9 shisima) (way_move_text shisima)
+    ∷ played Byte takeaway number_text step_text
+    ∷ played Byte tapatan_rules (way_text 9 tapatan) (way_move_text tapatan)
+    ∷ played Byte dodgem_rules dodgem_text dodgem_move
+    ∷ played Word (chess_rules false) (position_text (ending false) (board_text false)) (move_text (λ t m. man_move false m))
+    ∷ played Byte (chess_rules true) (position_text (ending true) (board_text true)) (move_text (λ t m. man_move true m))
+    ∷ []
+
+-- the property holds for the game with this number, if there is one
 abbrev pub IsFor : ℕ → (PlayedGame → Type 0) → Type 0
-IsFor number fact =
-    (number ≡ 0 → fact (played Byte (countdown 10) number_text step_text))
-    × (number ≡ 1 → fact (played Byte wheel number_text target_text))
-    × (number ≡ 2 → fact (played Byte (tactix_rules 1 false) (tactix_text 1) (tactix_move_text 1)))
-    × (number ≡ 3 → fact (played Byte (tactix_rules 2 false) (tactix_text 2) (tactix_move_text 2)))
-    × (number ≡ 4 → fact (played Byte (tactix_rules 3 false) (tactix_text 3) (tactix_move_text 3)))
-    × (number ≡ 5 → fact (played Byte (tactix_rules 4 false) (tactix_text 4) (tactix_move_text 4)))
-    × (number ≡ 6 → fact (played Byte (tactix_rules 1 true) (tactix_text 1) (tactix_move_text 1)))
-    × (number ≡ 7 → fact (played Byte (tactix_rules 2 true) (tactix_text 2) (tactix_move_text 2)))
-    × (number ≡ 8 → fact (played Byte (tactix_rules 3 true) (tactix_text 3) (tactix_move_text 3)))
-    × (number ≡ 9 → fact (played Byte (tactix_rules 4 true) (tactix_text 4) (tactix_move_text 4)))
-    × (number ≡ 10 → fact (played Byte (morris_rules 9) nine_text (nine_move_text 9)))
-    × (number ≡ 11 → fact (played Byte (morris_rules 6) nine_text (nine_move_text 6)))
-    × (number ≡ 12 → fact (played Byte (morris_rules 8) nine_text (nine_move_text 8)))
-    × (number ≡ 13 → fact (played Byte (way_rules 9 ring_game) (way_text 9 ring_game) (way_move_text ring_game)))
-    × (number ≡ 14 → fact (played Byte dao_rules dao_text dao_move_text))
-    × (number ≡ 15 → fact (played Byte hare_rules hare_text hare_move_text))
-    × (number ≡ 16 → fact (played Byte pong_rules (way_text 5 pong) (way_move_text pong)))
-    × (number ≡ 17 → fact (played Byte shisima_rules (way_text 9 shisima) (way_move_text shisima)))
-    × (number ≡ 18 → fact (played Byte takeaway number_text step_text))
-    × (number ≡ 19 → fact (played Byte tapatan_rules (way_text 9 tapatan) (way_move_text tapatan)))
-    × (number ≡ 20 → fact (played Byte dodgem_rules dodgem_text dodgem_move))
-    × (number ≡ 21 → fact (played Word (chess_rules false) (position_text (ending false) (board_text false)) (move_text (λ t m. man_move false m))))
-    × (number ≡ 22 → fact (played Byte (chess_rules true) (position_text (ending true) (board_text true)) (move_text (λ t m. man_move true m))))
+IsFor number fact = IfSome (slice_get games number) fact
 
 -- no game has this number
 abbrev pub IsNoGame : ℕ → Type 0

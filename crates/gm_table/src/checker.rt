@@ -107,56 +107,84 @@ pub fn check_by<G: Game + Send + Sync, R: Threads + Sync>(
     table_unless(alloc, tier, records, tables, fault)
 }
 
-/// Checks as `check_by` does, but records that are packed already and become the table's. `OutOfMemory` never comes. If there are many, another thread lays out
-/// their indexes by place, which `Tables::insert` then need not do; if memory runs out there, the table comes without them.
-pub fn check_packed_by<G: Game + Send + Sync, R: Threads + Sync>(
+/// Checks as `check_by` does, but records that are packed already and become the table's. `OutOfMemory` never comes. Also returns what `beside` returns. If there
+/// are many records, another thread calls `beside` and then lays out their indexes by place, which `Tables::insert` then need not do; if memory runs out there,
+/// the table comes without them.
+pub fn check_packed_by<
+    G: Game + Send + Sync,
+    R: Threads + Sync,
+    X: Send + Drop,
+    B: FnOnce() -> X + Send + Drop,
+>(
     rt: &R,
     tier: u64,
     records: Packed,
     tables: &Tables<G>,
-) -> Result<Table<G>, CheckError>
+    beside: B,
+) -> (Result<Table<G>, CheckError>, X)
     requires children { AreHeld G.rules tables.now tier }
     requires is_small { G.rules.tier_size tier ≤ TIER_SIZE }
-    ensures tier { IfOk result (λ t. t.tier ≡ tier) }
-    ensures records { IfOk result (λ t. t.records ≡ records) }
-    ensures table { IfOk result (IsTable G.rules) }
-    ensures are_true { IsOk result ↔ IsTrueTable G.rules REMOTENESS tier records }
-    ensures wrong { IfErr result (AreWrong G.rules tables.now tier records) }
+    requires beside { B.pre beside }
+    ensures tier { IfOk result.0 (λ t. t.tier ≡ tier) }
+    ensures records { IfOk result.0 (λ t. t.records ≡ records) }
+    ensures table { IfOk result.0 (IsTable G.rules) }
+    ensures are_true { IsOk result.0 ↔ IsTrueTable G.rules REMOTENESS tier records }
+    ensures wrong { IfErr result.0 (AreWrong G.rules tables.now tier records) }
+    ensures beside { B.post beside result.1 }
 {
-    let (outline, fault) = outline_beside(rt, tier, &records, tables);
+    let (outline, made, fault) = outline_beside(rt, tier, &records, tables, beside);
     match fault {
-        Some(why) => Err(why),
-        None => Ok(Table::outlined(tier, records, outline)),
+        Some(why) => (Err(why), made),
+        None => (Ok(Table::outlined(tier, records, outline)), made),
     }
 }
 
-// Returns the outline of records, and why they aren't those of a tier, if they aren't: of many by a thread each.
-fn outline_beside<G: Game + Send + Sync, R: Threads + Sync>(
+// Returns the outline of records, what `beside` returns, and why the records aren't those of a tier, if they aren't. Of many, another thread makes the first two.
+fn outline_beside<
+    G: Game + Send + Sync,
+    R: Threads + Sync,
+    X: Send + Drop,
+    B: FnOnce() -> X + Send + Drop,
+>(
     rt: &R,
     tier: u64,
     records: &Packed,
     tables: &Tables<G>,
-) -> (Outline, Option<CheckError>)
+    beside: B,
+) -> (Outline, X, Option<CheckError>)
     requires children { AreHeld G.rules tables.now tier }
     requires is_small { G.rules.tier_size tier ≤ TIER_SIZE }
+    requires beside { B.pre beside }
     ensures outline { IsOutlineOf records.now result.0 }
-    ensures none { result.1 ≡ None ↔ IsTrueTable G.rules REMOTENESS tier records.now }
-    ensures wrong { IfSome result.1 (AreWrong G.rules tables.now tier records.now) }
+    ensures beside { B.post beside result.1 }
+    ensures none { result.2 ≡ None ↔ IsTrueTable G.rules REMOTENESS tier records.now }
+    ensures wrong { IfSome result.2 (AreWrong G.rules tables.now tier records.now) }
 {
     if records.len() <= FEW {
-        return (Outline::of(records), fault_by(rt, tier, records, tables));
+        let made = beside();
+        return (
+            Outline::of(records),
+            made,
+            fault_by(rt, tier, records, tables),
+        );
     }
-    join(
+    let ((outline, made), fault) = join(
         rt,
-        || -> Outline
-            ensures { IsOutlineOf records.entry.now result }
-        { Outline::with_runs(records) },
+        move || -> (Outline, X)
+            requires { B.pre beside }
+            ensures outline { IsOutlineOf records.entry.now result.0 }
+            ensures beside { B.post beside result.1 }
+        {
+            let made = beside();
+            (Outline::with_runs(records), made)
+        },
         || -> Option<CheckError>
             requires { AreHeld G.rules tables.now tier × (G.rules.tier_size tier ≤ TIER_SIZE) }
             ensures none { result ≡ None ↔ IsTrueTable G.rules REMOTENESS tier records.entry.now }
             ensures wrong { IfSome result (AreWrong G.rules tables.entry.now tier records.entry.now) }
         { fault_by(rt, tier, records, tables) },
-    )
+    );
+    (outline, made, fault)
 }
 
 // Returns the table of these records, or the reason for which they aren't those of the tier.

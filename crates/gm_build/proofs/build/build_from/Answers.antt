@@ -1,6 +1,6 @@
-use Rattle.gm_build.proofs.Lower.{IfOk-from_err, take_more, TIERS, TableData, IsOrderFrom, ComeChildrenFirst, IsReachedFrom, HasText, HasOldText, HaveTexts}
-use Rattle.gm_build.proofs.Lower.{KeepsOthers, no_work, with_tier, of_tier_error, IsBuildError, IsStopped, IsWorkOn, IsSomeWork, HoldsExactly, ◌≡◌, ◌≤◌, ◌+◌}
-use Rattle.gm_build.proofs.Lower.{◌++◌, ◌∷◌, ℕ, List, IsTrue, [], take, length, get_or, refl, sym, subst, ◌∙◌, arith, length-take, Contains-get_or}
+use Rattle.gm_build.proofs.Lower.{take_more, TIERS, IsOrderFrom, ComeChildrenFirst, IsReachedFrom}
+use Rattle.gm_build.proofs.Lower.{with_tier, IsBuildError, IsStopped, ◌≤◌, ◌+◌}
+use Rattle.gm_build.proofs.Lower.{ℕ, List, IsTrue, take, length, get_or, refl, sym, subst, arith, length-take, Contains-get_or}
 use Rattle.gm_build.proofs.OrderLemmas.{fresh_tier, children_held, stops_here}
 use Rattle.gm_build.proofs.ErrorLemmas.{build_error, order_count, order_error, order_stopped, stopped_by}
 use Rattle.gm_build.proofs.SoFar.{IsSoFar, so_far_none, so_far_fits, so_far_more, so_far_all}
