@@ -83,6 +83,22 @@ fn finish_tile<G: Game, L: PieceLedger>(
     Ok(taken.into_whole())
 }
 
+// Delivers the missing pairs to two shards.
+fn finish_two<G: Game, A: PieceLedger, B: PieceLedger>(
+    alloc: Global,
+    job: &LevelJob<G>,
+    one: Taken<G, A>,
+    two: Taken<G, B>,
+) -> Result<(OrderedShard<G>, OrderedShard<G>), SolveError>
+    requires one { IsLevelAt job.now.level.now A.spot A.notes × (A.size ≡ job.now.notes) × (A.spot.level ≤ REMOTENESS) }
+    requires two { IsLevelAt job.now.level.now B.spot B.notes × (B.size ≡ job.now.notes) × (B.spot.level ≤ REMOTENESS) }
+    ensures one { IfOk result (λ shards. (spot_of shards.0 ≡ A.spot) × IsWhole G.rules shards.0) }
+    ensures two { IfOk result (λ shards. (spot_of shards.1 ≡ B.spot) × IsWhole G.rules shards.1) }
+    ensures error { IfErr result (IsError G.rules job.now.level.now.place.tier) }
+{
+    Ok((finish_tile(alloc, job, one)?, finish_tile(alloc, job, two)?))
+}
+
 // Runs a level on a board with these ledgers' names.
 fn run_on_board<
     G: Game + Send + Sync,
@@ -126,10 +142,8 @@ fn run_on_board<
     )?;
     let by_workers = run_crew(context, &board, job, workers, &mut rest)?;
     let (a, b, c, d) = board.into_pieces(rest);
-    let a = finish_tile(alloc, job, a)?;
-    let b = finish_tile(alloc, job, b)?;
-    let c = finish_tile(alloc, job, c)?;
-    let d = finish_tile(alloc, job, d)?;
+    let (a, b) = finish_two(alloc, job, a, b)?;
+    let (c, d) = finish_two(alloc, job, c, d)?;
     Ok((Four { a, b, c, d }, by_workers))
 }
 

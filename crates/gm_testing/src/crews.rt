@@ -3,7 +3,7 @@ ghost use Rattle.std.specs.Prelude.{◌≡◌, ◌≤◌, IfOk, OnOk};
 ghost use Rattle.gm_table.specs.Tables.{TableData, AreHeld, IsTable, Inserts};
 ghost use Rattle.gm_table.specs.Solving.{AreDeliveries};
 
-use crate::hosts::{Host, Shared};
+use crate::hosts::{Crew, Shared};
 use gm_game::game::Game;
 use gm_game::limits::TIER_SIZE;
 use gm_solver::alone::solve_alone;
@@ -25,7 +25,7 @@ pub enum Way {
 }
 
 /// Solves a tier in a way. One thread needs no plan, gate and source.
-pub fn solve_by<G: Shared, R: Host, T: Gate, S: Source>(
+pub fn solve_by<G: Shared, R: Crew, T: Gate, S: Source>(
     rt: &R,
     tier: u64,
     tables: &Tables<G>,

@@ -5,10 +5,15 @@ use std::sync::Wait;
 use std::thread::Threads;
 use std::time::Clock;
 
-/// A runtime with threads, files, a clock and memory.
-pub trait Host: Threads + Wait + Files + Clock + Sync + AllocGlobal {}
+/// A runtime with threads and memory.
+pub trait Crew: Threads + Wait + Sync + AllocGlobal {}
 
-impl<R: Threads + Wait + Files + Clock + Sync + AllocGlobal> Host for R {}
+impl<R: Threads + Wait + Sync + AllocGlobal> Crew for R {}
+
+/// A runtime with threads, memory, files and a clock.
+pub trait Host: Crew + Files + Clock {}
+
+impl<R: Crew + Files + Clock> Host for R {}
 
 /// A game that threads share.
 pub trait Shared: Game + Send + Sync {}

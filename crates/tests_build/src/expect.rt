@@ -1,14 +1,20 @@
 //! Expectations of tests. A call is far cheaper to prove than `assert!` or `assert_eq!` written out.
 ghost use Rattle.std.specs.Prelude.{◌≡◌, Ok, IsTrue};
 
-use gm_testing::hosts::Host;
+use gm_testing::hosts::Crew;
 use std::fmt::Debug;
+use std::fs::Files;
 use std::process::Abort;
 
-/// A runtime of a test that starts threads or uses a store.
-pub(crate) trait Runtime: Host + Abort {}
+/// A runtime of a test that starts threads.
+pub(crate) trait Runtime: Crew + Abort {}
 
-impl<R: Host + Abort> Runtime for R {}
+impl<R: Crew + Abort> Runtime for R {}
+
+/// A runtime of a test that also uses a store.
+pub(crate) trait Disk: Runtime + Files {}
+
+impl<R: Runtime + Files> Disk for R {}
 
 /// Fails if a value is not the wanted one.
 pub(crate) fn expect_eq<T: Debug + PartialEq + Drop>(rt: &impl Abort, found: T, wanted: T) {

@@ -1,5 +1,5 @@
 //! Builds with two workers, two shards and pieces of one note, over a store in memory that may fail at one of its calls.
-use crate::expect::{Runtime, expect_eq, must};
+use crate::expect::{Disk, expect_eq, must};
 use gm_build::build::{Built, build_from};
 use gm_build::build_error::BuildError;
 use gm_build::work::Work;
@@ -36,7 +36,7 @@ fn work(solved: usize, reused: usize, deliveries: u64) -> Took {
 }
 
 // Builds the tiers of a game that one tier reaches, with this gate and source.
-fn built_by<G: Shared, R: Runtime, S: Store>(
+fn built_by<G: Shared, R: Disk, S: Store>(
     rt: &R,
     first: u64,
     store: &mut S,
@@ -53,13 +53,13 @@ fn built_by<G: Shared, R: Runtime, S: Store>(
 }
 
 // Builds such tiers with a gate that does nothing and a source that hands out each piece once.
-fn built<G: Shared, R: Runtime, S: Store>(rt: &R, first: u64, store: &mut S) -> Took {
+fn built<G: Shared, R: Disk, S: Store>(rt: &R, first: u64, store: &mut S) -> Took {
     let (gate, source) = (TestGate::of(Kind::Open), TestSource::counter());
     built_by::<G, R, S>(rt, first, store, Plan::new(2, 2, 1), &gate, &source)
 }
 
 // Builds a game once for each of these results, over an empty store that fails at one call.
-fn builds<G: Shared, R: Runtime>(rt: &R, call: u64, results: &[Took]) -> Flaky<MemStore> {
+fn builds<G: Shared, R: Disk>(rt: &R, call: u64, results: &[Took]) -> Flaky<MemStore> {
     let mut store = Flaky::new(MemStore::new(rt.alloc()), call, call);
     for result in results {
         let took = built::<G, R, _>(rt, G::initial().tier, &mut store);
@@ -69,7 +69,7 @@ fn builds<G: Shared, R: Runtime>(rt: &R, call: u64, results: &[Took]) -> Flaky<M
 }
 
 // Checks that a tier has this text in a store, or no text.
-fn check_text<R: Runtime, S: Store>(rt: &R, store: &mut S, tier: u64, text: Option<&[u8]>) {
+fn check_text<R: Disk, S: Store>(rt: &R, store: &mut S, tier: u64, text: Option<&[u8]>) {
     assert!(rt; store.failures() < u64::MAX);
     let found = must(rt, store.read(rt, rt.alloc(), tier));
     expect_eq(rt, found.as_ref().map(|found| found.as_slice()), text);
@@ -93,28 +93,38 @@ const OLD_FILE: &[u8] = b"GMTIER01countdown\0\0\0\0\0\0\0\0\0\0\0\0\0\0\0\x0b\0\
     \xb9\xdf\x1f\xd1\x0f\x8b\x71\x5f\xfd\xae\xaf\xac\xde\x68\x86\xf7\
     \x91\xd7\x0c\xb2\xb7\xc0\x03\x1d\x4f\xcd\xeb\x40\xa4\x4c\xa2\xae";
 
+// Builds a game as `builds` does, and checks that tier 0 then has this text, or no text.
+fn ends_with<G: Shared, R: Disk>(rt: &R, call: u64, results: &[Took], text: Option<&[u8]>) {
+    let mut store = builds::<G, R>(rt, call, results);
+    check_text(rt, &mut store, 0, text);
+    drop(store);
+}
+
 // Checks that Countdown is built after the store fails to read or to write.
 #[test]
 fn a_failing_store_is_built_later(rt: HostRuntime) {
     for call in [1, 2] {
-        let mut store = builds::<Ten, _>(&rt, call, &[FAILED, work(1, 0, 19)]);
-        check_text(&rt, &mut store, 0, Some(FILE));
-        drop(store);
+        ends_with::<Ten, _>(&rt, call, &[FAILED, work(1, 0, 19)], Some(FILE));
     }
+}
+
+// Builds a game over a store in memory with an old text of its tier, and checks that this is migrated to today's text.
+fn is_migrated<G: Shared, R: Disk>(rt: &R, old: &[u8], text: &[u8]) {
+    let mut store = MemStore::new(rt.alloc());
+    assert!(rt; store.failures() < u64::MAX);
+    must(rt, store.write(rt, 0, old));
+    let took = must(rt, built::<G, R, _>(rt, 0, &mut store));
+    let migrated = (took.migrated, took.solved, took.reused, took.deliveries);
+    expect_eq(rt, (migrated, took.by_hand), ((1, 0, 0, 0), 0));
+    check_text(rt, &mut store, 0, Some(text));
+    drop(store);
 }
 
 // Checks that a file of version 1 in a store in memory is migrated without solving a tier, and that the store then has the file of
 // today.
 #[test]
 fn an_old_file_in_memory_is_migrated(rt: HostRuntime) {
-    let mut store = MemStore::new(rt.alloc());
-    assert!(rt; store.failures() < u64::MAX);
-    must(&rt, store.write(&rt, 0, OLD_FILE));
-    let took = must(&rt, built::<Ten, _, _>(&rt, 0, &mut store));
-    let migrated = (took.migrated, took.solved, took.reused, took.deliveries);
-    expect_eq(&rt, (migrated, took.by_hand), ((1, 0, 0, 0), 0));
-    check_text(&rt, &mut store, 0, Some(FILE));
-    drop(store);
+    is_migrated::<Ten, _>(&rt, OLD_FILE, FILE);
 }
 
 // The numbers of calls of a build of five tiers that fails at one of these, and of the deliveries that remain: each tier is read and
@@ -139,7 +149,7 @@ fn a_build_goes_on_where_the_store_failed(rt: HostRuntime) {
 }
 
 // Checks that two stores in memory have the same texts of the five tiers.
-fn have_same_texts<R: Runtime>(rt: &R, one: &mut MemStore, other: &mut MemStore) {
+fn have_same_texts<R: Disk>(rt: &R, one: &mut MemStore, other: &mut MemStore) {
     for tier in 0..5 {
         assert!(rt; other.failures() < u64::MAX);
         let text = must(rt, other.read(rt, rt.alloc(), tier)).expect(rt, "it has a text");
@@ -148,41 +158,55 @@ fn have_same_texts<R: Runtime>(rt: &R, one: &mut MemStore, other: &mut MemStore)
     }
 }
 
+// Fails a build of five tiers at each of its calls, completes it in the inner store, and compares the texts with those of a build
+// without failures.
+fn goes_on_inside<G: Shared, R: Disk>(rt: &R) {
+    let mut right = MemStore::new(rt.alloc());
+    let solved = built::<G, R, _>(rt, 4, &mut right);
+    expect_eq(rt, solved, work(5, 0, 9));
+    for call in 1..11 {
+        let [failed, later] = around_failure(call);
+        let mut inner = builds::<G, R>(rt, call as u64, &[failed]).into_inner();
+        expect_eq(rt, built::<G, R, _>(rt, 4, &mut inner), later);
+        have_same_texts(rt, &mut inner, &mut right);
+        drop(inner);
+    }
+    drop(right);
+}
+
 // Checks that a failed build can be completed in the inner store, without the failing store round it: finished tiers are reused,
 // and the texts are those of a build without failures.
 #[test]
 fn a_build_goes_on_over_the_inner_store(rt: HostRuntime) {
-    let mut right = MemStore::new(rt.alloc());
-    let solved = built::<Square, _, _>(&rt, 4, &mut right);
-    expect_eq(&rt, solved, work(5, 0, 9));
-    for call in 1..11 {
-        let [failed, later] = around_failure(call);
-        let mut inner = builds::<Square, _>(&rt, call as u64, &[failed]).into_inner();
-        expect_eq(&rt, built::<Square, _, _>(&rt, 4, &mut inner), later);
-        have_same_texts(&rt, &mut inner, &mut right);
-        drop(inner);
-    }
-    drop(right);
+    goes_on_inside::<Square, _>(&rt);
 }
 
 // Checks that a build makes ten calls, and a second build over its texts five, since reused texts are read and not written.
 #[test]
 fn a_build_reads_and_writes_each_tier_once(rt: HostRuntime) {
     let (solved, reused) = (work(5, 0, 9), work(0, 5, 0));
-    drop(builds::<Square, _>(&rt, 11, &[solved, FAILED, reused]));
-    drop(builds::<Square, _>(&rt, 16, &[solved, reused, FAILED]));
+    for (call, results) in [
+        (11, [solved, FAILED, reused]),
+        (16, [solved, reused, FAILED]),
+    ] {
+        drop(builds::<Square, _>(&rt, call, &results));
+    }
 }
 
-// Builds the stairs from tier 1, and then all of them. Each step but the first takes one delivery.
+// Builds a game of four tiers from tier 1, and then all of it. Each tier but the first takes one delivery.
+fn is_built_from_below<G: Shared, R: Disk>(rt: &R) {
+    let mut store = Flaky::new(MemStore::new(rt.alloc()), NEVER, NEVER);
+    let low = built::<G, R, _>(rt, 1, &mut store);
+    expect_eq(rt, low, work(2, 0, 1));
+    check_text(rt, &mut store, 2, None);
+    let all = built::<G, R, _>(rt, 3, &mut store);
+    expect_eq(rt, all, work(2, 2, 2));
+    drop(store);
+}
+
 #[test]
 fn what_a_tier_rests_on_is_built(rt: HostRuntime) {
-    let mut store = Flaky::new(MemStore::new(rt.alloc()), NEVER, NEVER);
-    let low = built::<Stairs<3>, _, _>(&rt, 1, &mut store);
-    expect_eq(&rt, low, work(2, 0, 1));
-    check_text(&rt, &mut store, 2, None);
-    let all = built::<Stairs<3>, _, _>(&rt, 3, &mut store);
-    expect_eq(&rt, all, work(2, 2, 2));
-    drop(store);
+    is_built_from_below::<Stairs<3>, _>(&rt);
 }
 
 #[test]
@@ -197,14 +221,12 @@ fn games_without_an_order_are_not_built(rt: HostRuntime) {
 #[test]
 fn a_game_that_is_too_far_is_not_built(rt: HostRuntime) {
     let far = Err(BuildError::TooFar { tier: 0 });
-    let mut store = builds::<Chain<1048576>, _>(&rt, NEVER, &[far]);
-    check_text(&rt, &mut store, 0, None);
-    drop(store);
+    ends_with::<Chain<1048576>, _>(&rt, NEVER, &[far], None);
 }
 
 // Builds a game by a plan over an empty store, and checks the work, whether the source was asked at some level, and the number of
 // passes through the gate.
-fn check_asked<G: Shared, R: Runtime>(
+fn check_asked<G: Shared, R: Disk>(
     rt: &R,
     plan: Option<Plan>,
     wanted: Took,
@@ -225,8 +247,10 @@ fn check_asked<G: Shared, R: Runtime>(
 #[test]
 fn gate_and_source_are_asked_where_workers_deliver(rt: HostRuntime) {
     let (numbers, fastest) = (Plan::new(2, 2, 1), Plan::fastest(2, 2, 1));
-    check_asked::<Square, _>(&rt, numbers, work(5, 0, 9), true, 9);
-    check_asked::<Square, _>(&rt, fastest, work(5, 0, 9), false, 0);
-    check_asked::<Ten, _>(&rt, Plan::new(1, 1, 64), work(1, 0, 19), true, 19);
-    check_asked::<Ten, _>(&rt, fastest, work(1, 0, 19), true, 19);
+    for (plan, is_asked, passed) in [(numbers, true, 9), (fastest, false, 0)] {
+        check_asked::<Square, _>(&rt, plan, work(5, 0, 9), is_asked, passed);
+    }
+    for plan in [Plan::new(1, 1, 64), fastest] {
+        check_asked::<Ten, _>(&rt, plan, work(1, 0, 19), true, 19);
+    }
 }

@@ -88,15 +88,20 @@ const FIRST: Wanted = Wanted {
     counts: (2, 0),
 };
 
-#[test]
-fn tally_of_a_piece(rt: HostRuntime) {
+// Checks the first level of Countdown.
+fn check_first(rt: &impl Runtime) {
     let tables: Tables<Ten> = Tables::new(rt.alloc());
-    let shard = must(&rt, begin_whole::<Ten>(rt.alloc(), 0));
-    let runs = must(&rt, fresh_run(rt.alloc(), &shard));
-    let level = level_here(&rt, &shard, runs.as_slice(), &tables);
-    check_level(&rt, &level, &tables, &FIRST);
+    let shard = must(rt, begin_whole::<Ten>(rt.alloc(), 0));
+    let runs = must(rt, fresh_run(rt.alloc(), &shard));
+    let level = level_here(rt, &shard, runs.as_slice(), &tables);
+    check_level(rt, &level, &tables, &FIRST);
     drop(level);
     drop((runs, shard, tables));
+}
+
+#[test]
+fn tally_of_a_piece(rt: HostRuntime) {
+    check_first(&rt);
 }
 
 // Delivers the pairs of a shard's current level, adds them to its count, and closes it.
@@ -124,27 +129,31 @@ const OF_CHILD_TIER: Wanted = Wanted {
 };
 
 // Checks that the tier of 3 has the levels 0 to 3 of wins and losses, each at its place, and that the phase ends with the next one.
-#[test]
-fn levels_of_the_last_stair(rt: HostRuntime) {
-    let tables = below_the_last_stair(&rt);
-    let mut shard = must(&rt, begin_whole::<Stairs<3>>(rt.alloc(), 3));
+fn check_levels(rt: &impl Runtime) {
+    let tables = below_the_last_stair(rt);
+    let mut shard = must(rt, begin_whole::<Stairs<3>>(rt.alloc(), 3));
     let mut expected = Expected::start(3, 0, 1);
     for number in 0..5 {
-        let runs = must(&rt, fresh_run(rt.alloc(), &shard));
-        let level = level_here(&rt, &shard, runs.as_slice(), &tables);
-        expect_eq(&rt, level.place(), level_of(3, number));
-        expect_eq(&rt, level.last(&tables).is_some(), number == 4);
+        let runs = must(rt, fresh_run(rt.alloc(), &shard));
+        let level = level_here(rt, &shard, runs.as_slice(), &tables);
+        expect_eq(rt, level.place(), level_of(3, number));
+        expect_eq(rt, level.last(&tables).is_some(), number == 4);
         if number == 2 {
-            check_level(&rt, &level, &tables, &OF_CHILD_TIER);
+            check_level(rt, &level, &tables, &OF_CHILD_TIER);
         }
         if number < 4 {
-            close_level(&rt, &mut shard, &level, &mut expected);
+            close_level(rt, &mut shard, &level, &mut expected);
         }
         drop(level);
         drop(runs);
     }
-    expect_eq(&rt, expected.number(), 1);
+    expect_eq(rt, expected.number(), 1);
     drop((shard, expected, tables));
+}
+
+#[test]
+fn levels_of_the_last_stair(rt: HostRuntime) {
+    check_levels(&rt);
 }
 
 // Checks the level of a tier without positions.

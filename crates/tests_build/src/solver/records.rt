@@ -144,14 +144,23 @@ const RUNS: &[Run] = &[
     (1, Phase::WinLose, 3, &[]),
 ];
 
+// Checks the table of a game's tier 0, and once more after it was inserted again, which changes nothing.
+fn check_twice<G: Game>(
+    rt: &impl Runtime,
+    known: &[Known],
+    greatest: (Option<u32>, Option<u32>),
+    runs: &[Run],
+) {
+    let mut tables = held::<G>(rt, known);
+    check_held(rt, &tables, greatest, runs);
+    hold(rt, &mut tables, 0, known);
+    check_held(rt, &tables, greatest, runs);
+    drop(tables);
+}
+
 #[test]
 fn runs_of_tables(rt: HostRuntime) {
-    let mut tables = held::<Ten>(&rt, &COUNTDOWN);
-    check_held(&rt, &tables, (Some(7), None), RUNS);
-    // The result is the same after the table was inserted again.
-    hold(&rt, &mut tables, 0, &COUNTDOWN);
-    check_held(&rt, &tables, (Some(7), None), RUNS);
-    drop(tables);
+    check_twice::<Ten>(&rt, &COUNTDOWN, (Some(7), None), RUNS);
 }
 
 const RUNS_OF_WHEEL: &[Run] = &[
@@ -162,7 +171,5 @@ const RUNS_OF_WHEEL: &[Run] = &[
 
 #[test]
 fn runs_of_wheel(rt: HostRuntime) {
-    let tables = held::<Wheel>(&rt, &WHEEL);
-    check_held(&rt, &tables, (Some(3), Some(2)), RUNS_OF_WHEEL);
-    drop(tables);
+    check_twice::<Wheel>(&rt, &WHEEL, (Some(3), Some(2)), RUNS_OF_WHEEL);
 }
