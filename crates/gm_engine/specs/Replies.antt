@@ -1,14 +1,16 @@
 -- The answers of the exports: a number, or a refusal with its reason.
-use Rattle.std.specs.Prelude.{◌≡◌, ℕ, ◌<◌, ◌+◌, ◌⊎◌, List, length, take}
+use Rattle.std.specs.Prelude.{◌≡◌, ⊤, ℕ, ◌<◌, ◌+◌, ◌⊎◌, List, length, take}
 use Rattle.gm_game.specs.declared.position.Position.{Position}
 use Rattle.gm_table.specs.Solving.{AreDeliveries}
 use Rattle.gm_tiers.specs.Orders.{IsTierOrder}
 use Rattle.gm_play.specs.Places.{IsAt}
 use Rattle.gm_json.specs.Asking.{AreAnswers, lines_of}
 use Rattle.gm_engine.specs.Games.{PlayedGame}
-use Rattle.gm_engine.specs.Records.{IsTrueTier, AreTrue}
+use Rattle.gm_engine.specs.Records.{IsTrueTier, AreTrue, bytes_of}
 use Rattle.gm_engine.specs.Saying.{Says}
 use Rattle.gm_engine.specs.Refusing.{IsUnlisted, IsUnchecked, IsUnsolved, IsUnsolvedGame, IsUnanswered, IsUnshown}
+use Rattle.gm_engine.specs.declared.request.Request.{Request}
+use Rattle.gm_engine.specs.declared.request.Request.TheVariants.{Width, Size, Order as Tiers, Game, Tier, Check, Lines, Text}
 use Rattle.gm_engine.specs.declared.refusal.Refusal.{Refusal}
 use Rattle.gm_engine.specs.declared.refusal.Refusal.TheVariants.{Memory, Order, Records, TooFar, Room, Position as NoPosition, NotSolved}
 
@@ -57,3 +59,25 @@ IsAnswered g bits tiers lines before after = Replies (λ n. AreAnswers (Says g.r
 abbrev pub IsText : PlayedGame → ℕ → ℕ → List ℕ → List ℕ → ℕ → Type 0
 IsText g tier index before after = Replies (λ n. (p : Position) × IsAt g.rules tier index p × (take n after ≡ g.shown p))
     (IsUnshown g.rules g.shown tier index (length before))
+
+-- the records that the host gives with a request are those of the tiers that it names
+abbrev pub AreGiven : PlayedGame → Request → Type 0
+AreGiven g Width = ⊤
+AreGiven g (Size tier) = ⊤
+AreGiven g (Tiers alloc) = ⊤
+AreGiven g (Game alloc) = ⊤
+AreGiven g (Tier alloc solved records tier) = AreTrue g.rules g.width solved.now records.now
+AreGiven g (Check alloc tiers records) = ⊤
+AreGiven g (Lines alloc solved records asked lines) = AreTrue g.rules g.width solved.now records.now
+AreGiven g (Text tier index) = ⊤
+
+-- this is the reply to a request, with the tiers and the bytes before and after
+abbrev pub IsReply : PlayedGame → Request → List ℕ → List ℕ → List ℕ → List ℕ → ℕ → Type 0
+IsReply g Width places order room out result = result ≡ bytes_of g.width
+IsReply g (Size tier) places order room out result = result ≡ g.rules.tier_size tier
+IsReply g (Tiers alloc) places order room out result = IsOrder g places order result
+IsReply g (Game alloc) places order room out result = IsSolvedGame g places room order out result
+IsReply g (Tier alloc solved records tier) places order room out result = IsSolved g solved.now tier room out result
+IsReply g (Check alloc tiers records) places order room out result = IsChecked g tiers.now records.now result
+IsReply g (Lines alloc solved records asked lines) places order room out result = IsAnswered g asked solved.now lines.now room out result
+IsReply g (Text tier index) places order room out result = IsText g tier index room out result

@@ -10,4 +10,5 @@ pub mod engine;
 pub mod games;
 pub mod refusal;
 pub mod replies;
+pub mod request;
 pub mod width;

@@ -1,11 +1,12 @@
 //! The answers of the exports, for any game: a number, or a refusal with its reason.
 ghost use Rattle.std.specs.Prelude.{◌≡◌, ◌+◌, ◌<◌, ◌^◌, IfOk, IfErr, OnOk};
 ghost use Rattle.gm_engine.specs.Games.{played};
-ghost use Rattle.gm_engine.specs.Records.{AreTrue, bytes_of};
-ghost use Rattle.gm_engine.specs.Replies.{IsOrder, IsSolvedGame, IsSolved, IsChecked, IsAnswered, IsText, number_of, refused};
+ghost use Rattle.gm_engine.specs.Records.{AreTrue};
+ghost use Rattle.gm_engine.specs.Replies.{AreGiven, IsReply, IsAnswered, number_of, refused};
 
 use crate::engine::{ask_lines, check_tiers, put_order, put_text, solve_game, solve_next};
 use crate::refusal::Refusal;
+use crate::request::Request;
 use crate::width::Width;
 use gm_game::game::Game;
 use gm_game::shown::Shown;
@@ -47,58 +48,8 @@ fn status_of(done: Result<(), Refusal>) -> u64
     }
 }
 
-/// Returns the number of bytes of a record.
-pub fn width_reply<G: Shown>(width: Width) -> u64
-    ensures { result ≡ bytes_of width }
-{
-    width.bytes()
-}
-
-/// Returns the number of indexes of a tier.
-pub fn size_reply<G: Shown>(_width: Width, tier: u64) -> u64
-    ensures { result ≡ G.Game.rules.tier_size tier }
-{
-    G::tier_size(tier)
-}
-
-/// Writes the tiers of a game.
-pub fn order_reply<G: Shown>(width: Width, alloc: Global, out: &mut [u64]) -> u64
-    ensures { IsOrder (played width G.Game.rules G.shown G.move_shown) out.old out.new result }
-{
-    count_or(put_order::<G>(alloc, out))
-}
-
-/// Solves a whole game.
-pub fn game_reply<G: Shown>(width: Width, alloc: Global, order: &mut [u64], out: &mut [u8]) -> u64
-    ensures { IsSolvedGame (played width G.Game.rules G.shown G.move_shown) order.old out.old order.new out.new result }
-{
-    count_or(solve_game::<G>(alloc, width, order, out))
-}
-
-/// Solves a tier.
-pub fn tier_reply<G: Shown>(
-    width: Width,
-    alloc: Global,
-    solved: &[u64],
-    records: &[u8],
-    tier: u64,
-    out: &mut [u8],
-) -> u64
-    requires { AreTrue G.Game.rules width solved.now records.now }
-    ensures { IsSolved (played width G.Game.rules G.shown G.move_shown) solved.now tier out.old out.new result }
-{
-    number_or(solve_next::<G>(alloc, width, solved, records, tier, out))
-}
-
-/// Checks records.
-pub fn check_reply<G: Shown>(width: Width, alloc: Global, tiers: &[u64], records: &[u8]) -> u64
-    ensures { IsChecked (played width G.Game.rules G.shown G.move_shown) tiers.now records.now result }
-{
-    status_of(check_tiers::<G>(alloc, width, tiers, records))
-}
-
-/// Answers lines.
-pub fn lines_reply<G: Shown>(
+// Answers lines.
+fn lines_reply<G: Shown>(
     width: Width,
     alloc: Global,
     solved: &[u64],
@@ -113,9 +64,34 @@ pub fn lines_reply<G: Shown>(
     count_or(ask_lines::<G>(alloc, width, solved, records, asked, lines, out))
 }
 
-/// Writes the text of a position.
-pub fn text_reply<G: Shown>(width: Width, tier: u64, index: u64, out: &mut [u8]) -> u64
-    ensures { IsText (played width G.Game.rules G.shown G.move_shown) tier index out.old out.new result }
+/// Returns the reply to a request about a game whose records are kept so. Writes tiers to `order`, and records and texts to `out`.
+pub fn reply<G: Shown>(width: Width, request: Request<'_>, order: &mut [u64], out: &mut [u8]) -> u64
+    requires { AreGiven (played width G.Game.rules G.shown G.move_shown) request }
+    ensures { IsReply (played width G.Game.rules G.shown G.move_shown) request.entry order.old order.new out.old out.new result }
 {
-    count_or(put_text::<G>(tier, index, out))
+    match request {
+        Request::Width => width.bytes(),
+        Request::Size { tier } => G::tier_size(tier),
+        Request::Order { alloc } => count_or(put_order::<G>(alloc, order)),
+        Request::Game { alloc } => count_or(solve_game::<G>(alloc, width, order, out)),
+        Request::Tier {
+            alloc,
+            solved,
+            records,
+            tier,
+        } => number_or(solve_next::<G>(alloc, width, solved, records, tier, out)),
+        Request::Check {
+            alloc,
+            tiers,
+            records,
+        } => status_of(check_tiers::<G>(alloc, width, tiers, records)),
+        Request::Lines {
+            alloc,
+            solved,
+            records,
+            asked,
+            lines,
+        } => lines_reply::<G>(width, alloc, solved, records, asked, lines, out),
+        Request::Text { tier, index } => count_or(put_text::<G>(tier, index, out)),
+    }
 }

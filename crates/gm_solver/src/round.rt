@@ -84,7 +84,7 @@ fn finish_tile<G: Game, L: PieceLedger>(
 }
 
 // Delivers the missing pairs to two shards.
-fn finish_two<G: Game, A: PieceLedger, B: PieceLedger>(
+fn finish_two_tiles<G: Game, A: PieceLedger, B: PieceLedger>(
     alloc: Global,
     job: &LevelJob<G>,
     one: Taken<G, A>,
@@ -142,8 +142,8 @@ fn run_on_board<
     )?;
     let by_workers = run_crew(context, &board, job, workers, &mut rest)?;
     let (a, b, c, d) = board.into_pieces(rest);
-    let (a, b) = finish_two(alloc, job, a, b)?;
-    let (c, d) = finish_two(alloc, job, c, d)?;
+    let (a, b) = finish_two_tiles(alloc, job, a, b)?;
+    let (c, d) = finish_two_tiles(alloc, job, c, d)?;
     Ok((Four { a, b, c, d }, by_workers))
 }
 

@@ -1,4 +1,3 @@
-pub mod BlockLemmas
 pub mod CacheLemmas
 pub mod CheckLemmas
 pub mod Dealt
@@ -10,6 +9,7 @@ pub mod TableLemmas
 pub mod ValueLemmas
 pub mod NumberLemmas
 pub mod PackedLemmas
+pub mod PartLemmas
 pub mod ReadLemmas
 pub mod VerdictLemmas
 pub mod Lower

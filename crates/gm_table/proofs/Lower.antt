@@ -22,7 +22,7 @@ pub use Rattle.gm_game.specs.declared.position.Solved.{Solved}
 pub use Rattle.gm_game.specs.declared.position.Value.{Value}
 pub use Rattle.gm_game.specs.declared.position.Value.TheVariants.{Draw, Lose, Tie, Win}
 pub use Rattle.gm_table.specs.Caches.{AreCached, AreRead, AreShorts, CacheData, IsSumOf, cache_of, other_record, other_table}
-pub use Rattle.gm_table.specs.Checks.{AreWrong, FitBetween, FitTables, FitsAt, IsFirstAt, IsFirstWrong, IsFirstWrongIn, RecordFits, look_up}
+pub use Rattle.gm_table.specs.Checks.{AreFirstWrongOf, AreWrong, FitBetween, FitTables, FitsAt, IsFirstWrong, IsFirstWrongIn, IsFirstWrongOf, RecordFits, look_up}
 pub use Rattle.gm_table.specs.Dealing.{block_in}
 pub use Rattle.gm_table.specs.Levels.{HasLevel, IsGreatest, greatest_of, indexes_at, indexes_from, is_level, later, level_in}
 pub use Rattle.gm_table.specs.Numbers.{listed, wide}

@@ -1,10 +1,9 @@
 -- Records that are checked one by one.
-use Rattle.std.specs.Prelude.{◌≡◌, ◌≢◌, ℕ, ◌<◌, ◌≤◌, ◌/◌, List, Option, Some, MatchOption, length, map, slice_get}
+use Rattle.std.specs.Prelude.{◌≡◌, ◌≢◌, ℕ, ◌+◌, ◌*◌, ◌/◌, ◌<◌, ◌≤◌, List, Option, None, Some, IfSome, MatchOption, length, map, get_or, slice_get}
 use Rattle.gm_table.specs.Lower.{Position, Solved, REMOTENESS, Rules, at, canonical_children_of, IsRecord, settled_by, look_in, Fits}
 use Rattle.gm_table.specs.declared.checker.CheckError.{CheckError}
 use Rattle.gm_table.specs.declared.checker.CheckError.TheVariants.{OutOfMemory, WrongSize, WrongRecord}
 use Rattle.gm_table.specs.Tables.{TableData, value_in}
-use Rattle.gm_table.specs.Dealing.{block_in}
 
 -- the records fit: each follows from the records of the canonical children, which are looked up among these records within the tier, and in the tables for
 -- other tiers
@@ -47,10 +46,13 @@ abbrev pub IsFirstWrongIn : Rules → List TableData → ℕ → List (Option So
 IsFirstWrongIn r entries tier records lo hi first = MatchOption first (FitBetween r entries tier records lo hi)
     (λ w. (lo ≤ w) × (w < hi) × (FitsAt r entries tier records w → ⊥) × FitBetween r entries tier records lo w)
 
--- the records before this index fit of the blocks of 512 at the places from lo up to hi, and the record at the index, if there is one, doesn't
-pub record IsFirstAt (r : Rules) (entries : List TableData) (tier : ℕ) (records : List (Option Solved)) (rows lo hi first : ℕ) : Type 0 where
-  pub before : (i place : ℕ) → lo ≤ place → place < hi → block_in rows place ≡ i / 512 → i < first → FitsAt r entries tier records i
-  pub wrong : first < length records → FitsAt r entries tier records first → ⊥
+-- this is the first index of a part, of 128, whose record doesn't fit, or there is none
+abbrev pub IsFirstWrongOf : Rules → List TableData → ℕ → List (Option Solved) → ℕ → Option ℕ → Type 0
+IsFirstWrongOf r entries tier records part first = IsFirstWrongIn r entries tier records (part * length records / 128) ((part + 1) * length records / 128) first
+
+-- these are such indexes of some parts
+abbrev pub AreFirstWrongOf : Rules → List TableData → ℕ → List (Option Solved) → List (Option (Option ℕ)) → Type 0
+AreFirstWrongOf r entries tier records found = (part : ℕ) → IfSome (get_or found part None) (IsFirstWrongOf r entries tier records part)
 
 -- these records are not the tier's, for this reason
 abbrev pub AreWrong : Rules → List TableData → ℕ → List (Option Solved) → CheckError → Type 0

@@ -1,12 +1,10 @@
 //! Records checked by threads.
-ghost use Rattle.std.specs.Prelude.{◌≡◌, ◌↔◌, ◌+◌, ◌*◌, ◌/◌, ◌<◌, ◌≤◌, ℕ, length, IsTrue, None, MatchOption};
+ghost use Rattle.std.specs.Prelude.{◌≡◌, ◌↔◌, ◌+◌, ◌*◌, ◌/◌, ◌<◌, ◌≤◌, ℕ, length, All, IsTrue, None, MatchOption};
 ghost use Rattle.gm_table.specs.Lower.{AreResults, AreHoles, IsCanonical, at, TIER_SIZE};
 ghost use Rattle.gm_table.specs.Caches.{cache_of};
-ghost use Rattle.gm_table.specs.Checks.{FitsAt, IsFirstWrong, IsFirstWrongIn, IsFirstAt};
-ghost use Rattle.gm_table.specs.Dealing.{block_in};
+ghost use Rattle.gm_table.specs.Checks.{FitsAt, IsFirstWrong, IsFirstWrongIn, IsFirstWrongOf, AreFirstWrongOf};
 
 use crate::cache::TableCache;
-use crate::dealing::Dealing;
 use crate::fits::{Lists, fits};
 use crate::records::Records;
 use crate::tables::Tables;
@@ -14,11 +12,23 @@ use gm_game::game::Game;
 use gm_game::limits::TIER_SIZE;
 use gm_game::position::{End, Position};
 use rayon::current_num_threads;
-use std::thread;
-use std::thread::Threads;
+use std::sync::atomic::{AtomicUsize, Ordering};
+use std::thread::{Threads, for_each_mut, join};
 
 /// Up to this many records are checked by the caller's thread alone.
 const FEW: usize = 8192;
+
+/// The number of parts of the records. Each thread takes the next part until none is left, so that all end at about the same time.
+const PARTS: usize = 128;
+
+/// The greatest number of threads that check records, besides the one that calls another function first.
+const THREADS: usize = 32;
+
+// What a thread found in each part that it took: the least index whose record doesn't fit, if there is one.
+#[derive(Clone, Copy, Drop)]
+struct Firsts {
+    by_part: [Option<Option<u64>>; PARTS],
+}
 
 // Records of a tier that are to be checked, with the tables that they are checked against.
 #[derive(Drop)]
@@ -26,8 +36,7 @@ struct Given<'a, G: Game, C: Records> {
     tier: u64,
     records: &'a C,
     tables: &'a Tables<G>,
-    dealing: Dealing,
-    ghost size_is: { dealing.size ≡ length (C.listed records.now) },
+    ghost few: { length (C.listed records.now) ≤ TIER_SIZE },
 }
 
 impl<'a, G: Game, C: Records> Given<'a, G, C> {
@@ -110,59 +119,148 @@ impl<'a, G: Game, C: Records> Given<'a, G, C> {
         self.first_filled(next, hi)
     }
 
-    // Returns the least index of the block that belongs to a place whose record doesn't fit, or how many records there are.
-    fn first_in(&self, place: u32) -> u64
-        ensures { IsFirstAt G.rules self.now.tables.now self.now.tier (C.listed self.now.records.now) self.now.dealing.rows place (place + 1) result }
+    // Returns the least index of a part whose record doesn't fit.
+    fn first_in_part(&self, part: usize) -> Option<u64>
+        requires { part < 128 }
+        ensures { IsFirstWrongOf G.rules self.now.tables.now self.now.tier (C.listed self.now.records.now) part result }
     {
-        let (lo, hi) = self.dealing.range(place);
-        let first = self.first_between(
+        let count = self.records.count();
+        self.first_between(
             &mut TableCache::new(self.tables, self.tier),
             &mut Lists::new(),
-            lo as usize,
-            hi as usize,
-        );
-        match first {
-            Some(index) => index,
-            None => self.dealing.size(),
-        }
+            part * count / PARTS,
+            (part + 1) * count / PARTS,
+        )
     }
 
-    // Returns the least index of the blocks of a class whose record doesn't fit, or a number past the last index if each fits.
-    fn first_in_class(&self, class: usize) -> u64
-        requires { class < 32 }
-        ensures { IsFirstAt G.rules self.now.tables.now self.now.tier (C.listed self.now.records.now) self.now.dealing.rows
-            (class * self.now.dealing.rows) ((class + 1) * self.now.dealing.rows) result }
+    // Goes through parts that no other thread has taken, until all are taken, and returns what it found.
+    fn take_parts(&self, next: &AtomicUsize) -> Firsts
+        ensures { AreFirstWrongOf G.rules self.now.tables.now self.now.tier (C.listed self.now.records.now) result.by_part }
     {
-        let (lo, hi) = self.dealing.class(class);
-        let mut first = u64::MAX;
-        for place in lo..hi {
-            first = first.min(self.first_in(place));
+        let mut by_part = [None; PARTS];
+        for _ in 0..PARTS {
+            let part = next.fetch_add(1, Ordering::Relaxed);
+            if part >= PARTS {
+                break;
+            }
+            by_part[part] = Some(self.first_in_part(part));
         }
-        first
+        Firsts { by_part }
+    }
+
+    // Returns what threads found in a part. A part that none of them took is gone through now.
+    fn found_in_part(&self, part: usize, mine: &Firsts, others: &[Firsts]) -> Option<u64>
+        requires part { part < 128 }
+        requires mine { AreFirstWrongOf G.rules self.now.tables.now self.now.tier (C.listed self.now.records.now) mine.now.by_part }
+        requires others { All (λ f. AreFirstWrongOf G.rules self.now.tables.now self.now.tier (C.listed self.now.records.now) f.by_part) others.now }
+        ensures { IsFirstWrongOf G.rules self.now.tables.now self.now.tier (C.listed self.now.records.now) part result }
+    {
+        if let Some(first) = mine.by_part[part] {
+            return first;
+        }
+        for found in others {
+            if let Some(first) = found.by_part[part] {
+                return first;
+            }
+        }
+        self.first_in_part(part)
+    }
+
+    // Returns the least index whose record doesn't fit, by what threads found.
+    fn first_of_parts(&self, mine: &Firsts, others: &[Firsts]) -> Option<u64>
+        requires mine { AreFirstWrongOf G.rules self.now.tables.now self.now.tier (C.listed self.now.records.now) mine.now.by_part }
+        requires others { All (λ f. AreFirstWrongOf G.rules self.now.tables.now self.now.tier (C.listed self.now.records.now) f.by_part) others.now }
+        ensures { IsFirstWrongIn G.rules self.now.tables.now self.now.tier (C.listed self.now.records.now) 0 (length (C.listed self.now.records.now)) result }
+    {
+        for part in 0..PARTS {
+            let first = self.found_in_part(part, mine, others);
+            if first.is_some() {
+                return first;
+            }
+        }
+        None
     }
 }
 
-impl<'a, G: Game + Send + Sync, C: Records + Sync> Given<'a, G, C> {
-    // Returns the least index whose record doesn't fit, or a number past the last index if each fits. At most this many threads have some classes each.
-    fn first_of_all<R: Threads + Sync>(&self, rt: &R, threads: usize) -> u64
-        requires { 0 < threads }
-        ensures { IsFirstAt G.rules self.now.tables.now self.now.tier (C.listed self.now.records.now) self.now.dealing.rows 0 (32 * self.now.dealing.rows) result }
-    {
-        let mut found = [0u64; 32];
-        thread::for_each_mut(
-            rt,
-            &mut found,
-            threads,
-            &|class, first| {
-                *first = self.first_in_class(class);
-            },
-        );
-        let mut least = u64::MAX;
-        for class in 0..32 {
-            least = least.min(found[class]);
-        }
-        least
-    }
+// Goes through parts as `take_parts` does, by one thread less than there are processors.
+fn take_parts_by<G: Game + Send + Sync, C: Records + Sync, R: Threads + Sync>(
+    rt: &R,
+    tier: u64,
+    records: &C,
+    tables: &Tables<G>,
+    next: &AtomicUsize,
+) -> [Firsts; THREADS]
+    requires { length (C.listed records.now) ≤ TIER_SIZE }
+    ensures { All (λ f. AreFirstWrongOf G.rules tables.now tier (C.listed records.now) f.by_part) result }
+{
+    let given = Given {
+        tier,
+        records,
+        tables,
+    };
+    let none = Firsts {
+        by_part: [None; PARTS],
+    };
+    let mut found = [none; THREADS];
+    for_each_mut(
+        rt,
+        &mut found,
+        current_num_threads(rt).max(2) - 1,
+        &|_thread, theirs| {
+            *theirs = given.take_parts(next);
+        },
+    );
+    found
+}
+
+// Returns what `meanwhile` returns, and the least index whose record doesn't fit. There are as many threads as processors. One of them calls `meanwhile` first, and
+// each takes parts until all are taken.
+fn first_of_all<
+    G: Game + Send + Sync,
+    C: Records + Sync,
+    R: Threads + Sync,
+    X: Send + Drop,
+    B: FnOnce() -> X + Send + Drop,
+>(
+    rt: &R,
+    tier: u64,
+    records: &C,
+    tables: &Tables<G>,
+    next: &AtomicUsize,
+    meanwhile: B,
+) -> (X, Option<u64>)
+    requires few { length (C.listed records.now) ≤ TIER_SIZE }
+    requires meanwhile { B.pre meanwhile }
+    ensures meanwhile { B.post meanwhile result.0 }
+    ensures first { IsFirstWrongIn G.rules tables.now tier (C.listed records.now) 0 (length (C.listed records.now)) result.1 }
+{
+    let (first, others) = join(
+        rt,
+        move || -> (X, Firsts)
+            requires { B.pre meanwhile × (length (C.listed records.now) ≤ TIER_SIZE) }
+            ensures meanwhile { B.post meanwhile result.0 }
+            ensures found { AreFirstWrongOf G.rules tables.entry.now tier (C.listed records.entry.now) result.1.by_part }
+        {
+            let made = meanwhile();
+            let given = Given {
+                tier,
+                records,
+                tables,
+            };
+            (made, given.take_parts(next))
+        },
+        || -> [Firsts; THREADS]
+            requires { length (C.listed records.now) ≤ TIER_SIZE }
+            ensures { All (λ f. AreFirstWrongOf G.rules tables.entry.now tier (C.listed records.entry.now) f.by_part) result }
+        { take_parts_by(rt, tier, records, tables, next) },
+    );
+    let (made, mine) = first;
+    let given = Given {
+        tier,
+        records,
+        tables,
+    };
+    (made, given.first_of_parts(&mine, &others))
 }
 
 /// Returns the least index whose record doesn't fit.
@@ -179,7 +277,6 @@ pub(crate) fn first_wrong<'a, G: Game, C: Records>(
         tier,
         records,
         tables,
-        dealing: Dealing::of(records.count() as u64),
     };
     given.first_between(
         &mut TableCache::new(tables, tier),
@@ -189,43 +286,24 @@ pub(crate) fn first_wrong<'a, G: Game, C: Records>(
     )
 }
 
-// Returns how many threads check records on this many processors: of several, one is left to the thread that takes the file's digest meanwhile. With as many
-// threads as processors that one would share its processor with another, and both would end last.
-fn threads_beside(processors: usize) -> usize
-    ensures { 0 < result }
-{
-    if processors > 2 {
-        processors - 1
-    } else {
-        processors.max(1)
-    }
-}
-
-/// Returns the least index whose record doesn't fit, found by threads.
-#[tactic(auto, using(crate::proofs::BlockLemmas::first_is, crate::proofs::BlockLemmas::none_is))]
-pub(crate) fn first_wrong_by<G: Game + Send + Sync, C: Records + Sync, R: Threads + Sync>(
-    rt: &R,
-    tier: u64,
-    records: &C,
-    tables: &Tables<G>,
-) -> Option<u64>
-    requires { length (C.listed records.now) ≤ TIER_SIZE }
-    ensures { MatchOption result ((i : ℕ) → FitsAt G.rules tables.now tier (C.listed records.now) i)
+/// Returns what `meanwhile` returns, and the least index whose record doesn't fit, found by threads, one of which calls `meanwhile` first.
+#[tactic(auto, using(crate::proofs::CheckLemmas::first_of_all))]
+pub(crate) fn first_wrong_by<
+    G: Game + Send + Sync,
+    C: Records + Sync,
+    R: Threads + Sync,
+    X: Send + Drop,
+    B: FnOnce() -> X + Send + Drop,
+>(rt: &R, tier: u64, records: &C, tables: &Tables<G>, meanwhile: B) -> (X, Option<u64>)
+    requires few { length (C.listed records.now) ≤ TIER_SIZE }
+    requires meanwhile { B.pre meanwhile }
+    ensures meanwhile { B.post meanwhile result.0 }
+    ensures first { MatchOption result.1 ((i : ℕ) → FitsAt G.rules tables.now tier (C.listed records.now) i)
         (IsFirstWrong G.rules tables.now tier (C.listed records.now)) }
 {
     if records.count() <= FEW {
-        return first_wrong::<G, C>(tier, records, tables);
+        let made = meanwhile();
+        return (made, first_wrong::<G, C>(tier, records, tables));
     }
-    let given = Given {
-        tier,
-        records,
-        tables,
-        dealing: Dealing::of(records.count() as u64),
-    };
-    let first = given.first_of_all(rt, threads_beside(current_num_threads(rt)));
-    if first < records.count() as u64 {
-        Some(first)
-    } else {
-        None
-    }
+    first_of_all(rt, tier, records, tables, &AtomicUsize::new(0), meanwhile)
 }

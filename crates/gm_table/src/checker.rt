@@ -15,11 +15,8 @@ use gm_game::game::Game;
 use gm_game::limits::{REMOTENESS, TIER_SIZE};
 use gm_game::position::Solved;
 use std::alloc::Global;
-use std::thread::{Threads, join};
+use std::thread::Threads;
 use thiserror::Error;
-
-// The outline of so few records is made by the thread that checks them: to start another takes longer.
-const FEW: usize = 65_536;
 
 /// Why records aren't the table of a tier.
 #[derive(Clone, Copy, Debug, PartialEq, Eq, Error)]
@@ -103,13 +100,13 @@ pub fn check_by<G: Game + Send + Sync, R: Threads + Sync>(
     ensures wrong_record { (i : ℕ) → IsErrOf result (CheckError.WrongRecord i)
         ↔ ((length records.now ≡ G.rules.tier_size tier) × IsFirstWrong G.rules tables.now tier records.now i) }
 {
-    let fault = fault_by(rt, tier, &Listed { records }, tables);
+    let (_, fault) = fault_by(rt, tier, &Listed { records }, tables, || {});
     table_unless(alloc, tier, records, tables, fault)
 }
 
-/// Checks as `check_by` does, but records that are packed already and become the table's. `OutOfMemory` never comes. Also returns what `beside` returns. If there
-/// are many records, another thread calls `beside` and then lays out their indexes by place, which `Tables::insert` then need not do; if memory runs out there,
-/// the table comes without them.
+/// Checks as `check_by` does, but records that are packed already and become the table's. `OutOfMemory` never comes. Also returns what `meanwhile` returns. One
+/// of the threads calls `meanwhile`, and then lays out the indexes of more than 65,536 records by place, which `Tables::insert` then need not do. If memory runs
+/// out there, the table comes without them.
 pub fn check_packed_by<
     G: Game + Send + Sync,
     R: Threads + Sync,
@@ -120,71 +117,37 @@ pub fn check_packed_by<
     tier: u64,
     records: Packed,
     tables: &Tables<G>,
-    beside: B,
+    meanwhile: B,
 ) -> (Result<Table<G>, CheckError>, X)
     requires children { AreHeld G.rules tables.now tier }
     requires is_small { G.rules.tier_size tier ≤ TIER_SIZE }
-    requires beside { B.pre beside }
+    requires meanwhile { B.pre meanwhile }
     ensures tier { IfOk result.0 (λ t. t.tier ≡ tier) }
     ensures records { IfOk result.0 (λ t. t.records ≡ records) }
     ensures table { IfOk result.0 (IsTable G.rules) }
     ensures are_true { IsOk result.0 ↔ IsTrueTable G.rules REMOTENESS tier records }
     ensures wrong { IfErr result.0 (AreWrong G.rules tables.now tier records) }
-    ensures beside { B.post beside result.1 }
+    ensures meanwhile { B.post meanwhile result.1 }
 {
-    let (outline, made, fault) = outline_beside(rt, tier, &records, tables, beside);
+    let all = &records;
+    let ((outline, made), fault) = fault_by(
+        rt,
+        tier,
+        all,
+        tables,
+        move || -> (Outline, X)
+            requires { B.pre meanwhile }
+            ensures outline { IsOutlineOf all.entry.now result.0 }
+            ensures meanwhile { B.post meanwhile result.1 }
+        {
+            let made = meanwhile();
+            (Outline::with_runs(all), made)
+        },
+    );
     match fault {
         Some(why) => (Err(why), made),
         None => (Ok(Table::outlined(tier, records, outline)), made),
     }
-}
-
-// Returns the outline of records, what `beside` returns, and why the records aren't those of a tier, if they aren't. Of many, another thread makes the first two.
-fn outline_beside<
-    G: Game + Send + Sync,
-    R: Threads + Sync,
-    X: Send + Drop,
-    B: FnOnce() -> X + Send + Drop,
->(
-    rt: &R,
-    tier: u64,
-    records: &Packed,
-    tables: &Tables<G>,
-    beside: B,
-) -> (Outline, X, Option<CheckError>)
-    requires children { AreHeld G.rules tables.now tier }
-    requires is_small { G.rules.tier_size tier ≤ TIER_SIZE }
-    requires beside { B.pre beside }
-    ensures outline { IsOutlineOf records.now result.0 }
-    ensures beside { B.post beside result.1 }
-    ensures none { result.2 ≡ None ↔ IsTrueTable G.rules REMOTENESS tier records.now }
-    ensures wrong { IfSome result.2 (AreWrong G.rules tables.now tier records.now) }
-{
-    if records.len() <= FEW {
-        let made = beside();
-        return (
-            Outline::of(records),
-            made,
-            fault_by(rt, tier, records, tables),
-        );
-    }
-    let ((outline, made), fault) = join(
-        rt,
-        move || -> (Outline, X)
-            requires { B.pre beside }
-            ensures outline { IsOutlineOf records.entry.now result.0 }
-            ensures beside { B.post beside result.1 }
-        {
-            let made = beside();
-            (Outline::with_runs(records), made)
-        },
-        || -> Option<CheckError>
-            requires { AreHeld G.rules tables.now tier × (G.rules.tier_size tier ≤ TIER_SIZE) }
-            ensures none { result ≡ None ↔ IsTrueTable G.rules REMOTENESS tier records.entry.now }
-            ensures wrong { IfSome result (AreWrong G.rules tables.entry.now tier records.entry.now) }
-        { fault_by(rt, tier, records, tables) },
-    );
-    (outline, made, fault)
 }
 
 // Returns the table of these records, or the reason for which they aren't those of the tier.
@@ -239,24 +202,27 @@ fn fault<G: Game, C: Records>(tier: u64, records: &C, tables: &Tables<G>) -> Opt
     fault_of(tier, records, tables, first)
 }
 
-// Works as `fault`, by threads.
-fn fault_by<G: Game + Send + Sync, C: Records + Sync, R: Threads + Sync>(
-    rt: &R,
-    tier: u64,
-    records: &C,
-    tables: &Tables<G>,
-) -> Option<CheckError>
+// Works as `fault`, by threads, one of which calls `meanwhile` first. Also returns what that returns.
+fn fault_by<
+    G: Game + Send + Sync,
+    C: Records + Sync,
+    R: Threads + Sync,
+    X: Send + Drop,
+    B: FnOnce() -> X + Send + Drop,
+>(rt: &R, tier: u64, records: &C, tables: &Tables<G>, meanwhile: B) -> (X, Option<CheckError>)
     requires children { AreHeld G.rules tables.now tier }
     requires is_small { G.rules.tier_size tier ≤ TIER_SIZE }
-    ensures none { result ≡ None ↔ IsTrueTable G.rules REMOTENESS tier (C.listed records.now) }
-    ensures wrong { IfSome result (AreWrong G.rules tables.now tier (C.listed records.now)) }
+    requires meanwhile { B.pre meanwhile }
+    ensures meanwhile { B.post meanwhile result.0 }
+    ensures none { result.1 ≡ None ↔ IsTrueTable G.rules REMOTENESS tier (C.listed records.now) }
+    ensures wrong { IfSome result.1 (AreWrong G.rules tables.now tier (C.listed records.now)) }
 {
-    let first = if records.count() as u64 == G::tier_size(tier) {
-        first_wrong_by::<G, C, R>(rt, tier, records, tables)
+    let (made, first) = if records.count() as u64 == G::tier_size(tier) {
+        first_wrong_by::<G, C, R, X, B>(rt, tier, records, tables, meanwhile)
     } else {
-        None
+        (meanwhile(), None)
     };
-    fault_of(tier, records, tables, first)
+    (made, fault_of(tier, records, tables, first))
 }
 
 // Returns why records aren't those of a tier, if this is the first wrong one when there are as many as the tier has indexes.

@@ -54,16 +54,6 @@ impl Dealing {
         (self.rows * CLASSES) as u32
     }
 
-    /// Returns the places of a class, of which there are 32: the first one, and the first one past it.
-    pub fn class(&self, class: usize) -> (u32, u32)
-        requires { class < 32 }
-        ensures lo { result.0 ≡ class * self.now.rows }
-        ensures hi { result.1 ≡ (class + 1) * self.now.rows }
-    {
-        let lo = class as u32 * self.rows as u32;
-        (lo, lo + self.rows as u32)
-    }
-
     /// Returns the first index of the block at a place, and the first one past it.
     pub fn range(&self, place: u32) -> (u64, u64)
         ensures lo { result.0 ≡ min (block_in self.now.rows place * 512) self.now.size }

@@ -1,5 +1,5 @@
 //! What records are found to have by going over them.
-ghost use Rattle.std.specs.Prelude.{◌≡◌, ◌↔◌, ◌≤◌, None, IsTrue, IsSome, IfSome};
+ghost use Rattle.std.specs.Prelude.{◌≡◌, ◌↔◌, ◌≤◌, length, None, IsTrue, IsSome, IfSome};
 ghost use Rattle.gm_table.specs.Outlines.{IsOutlineOf};
 ghost use Rattle.gm_table.specs.Runs.{AreRunsOf};
 
@@ -7,6 +7,9 @@ use crate::levels::greatest_levels;
 use crate::packed::Packed;
 use crate::runs::Runs;
 use gm_game::limits::TIER_SIZE;
+
+/// Runs of so few records are not laid out ahead of a check, so that `Tables::insert` reports memory that is refused for them.
+const FEW: usize = 65_536;
 
 /// Up to this level runs are laid out ahead of a check, since each level takes memory for itself, even if records that are not true name it.
 const NEAR: u32 = 1024;
@@ -33,9 +36,10 @@ impl Outline {
         }
     }
 
-    /// Returns the outline of these records, with runs if there are as many records as a tier may have, their levels are near, and there is memory for them.
+    /// Returns the outline of these records, with runs if they are many, but not more than a tier may have, their levels are near, and there is memory for them.
     pub(crate) fn with_runs(records: &Packed) -> Outline
         ensures outline { IsOutlineOf records.now result }
+        ensures few { length records.now ≤ FEW → result.runs ≡ None }
         ensures near { IsSome result.runs → IfSome result.greatest_win_lose (λ n. n ≤ NEAR) × IfSome result.greatest_tie (λ n. n ≤ NEAR) }
     {
         let Outline {
@@ -66,11 +70,12 @@ fn is_near(level: Option<u32>) -> bool
     }
 }
 
-// Returns the runs of as many records as a tier may have, if there is memory for them.
+// Returns the runs of many records, but not of more than a tier may have, if there is memory for them.
 fn runs_of(records: &Packed) -> Option<Runs>
-    ensures { IfSome result (AreRunsOf records.now) }
+    ensures few { length records.now ≤ FEW → result ≡ None }
+    ensures runs { IfSome result (AreRunsOf records.now) }
 {
-    if records.len() as u64 > TIER_SIZE {
+    if records.len() <= FEW || records.len() as u64 > TIER_SIZE {
         return None;
     }
     Runs::of(records.allocator(), records).ok()
