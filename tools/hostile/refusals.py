@@ -161,7 +161,7 @@ def refuse_in_line(room, line, kind, on):
     """Each call of a kind in a line refused in turn, or from there on."""
     figures = Figures(kind)
     free, _ = line.once(room, kind=kind)
-    if free.status not in (0, 1, 2):
+    if free.status not in (0, 1, 2) or FAULTS["malloc"] in free.err:
         figures.add(0, f"{line} undisturbed: {free}")
         return figures
     at = 1

@@ -8,4 +8,5 @@ pub mod Finds
 pub mod Filtering
 pub mod Lined
 pub mod Paged
+pub mod Said
 pub mod Lower

@@ -15,4 +15,5 @@ pub mod Listing
 pub mod Plays
 pub mod Engines
 pub mod Answers
+pub mod LineRuns
 pub mod Lower

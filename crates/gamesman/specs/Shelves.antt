@@ -1,8 +1,7 @@
 -- The store that the program builds over.
 use Rattle.std.specs.Prelude.{◌≡◌, ℕ, ◌+◌, List, Option, Some, None, Bool, true, false, Result, IsOk, IsErrOf, string_bytes}
 use Rattle.gamesman.specs.Lower.{StoreError, OutOfMemory, Failed}
-use Rattle.gm_command.specs.declared.requests.TableLocation.{TableLocation}
-use Rattle.gm_command.specs.declared.requests.TableLocation.TheVariants.{Memory as AtMemory, Folder as AtFolder, ReadOnly as AtReadOnly}
+pub use Rattle.gm_command.specs.Contents.{kept_at}
 use Rattle.gamesman.specs.declared.shelf.Shelf.{Shelf}
 use Rattle.gamesman.specs.declared.shelf.Shelf.TheVariants.{Folder, ReadOnly, Nowhere}
 
@@ -17,12 +16,6 @@ abbrev pub kept_in : Shelf → Option (List ℕ × Bool)
 kept_in (Folder s) = Some (string_bytes s.folder, false)
 kept_in (ReadOnly s) = Some (string_bytes s.inner.folder, true)
 kept_in Nowhere = None
-
--- the same for a place of tables
-abbrev pub kept_at : TableLocation → Option (List ℕ × Bool)
-kept_at AtMemory = None
-kept_at (AtFolder folder) = Some (folder.now, false)
-kept_at (AtReadOnly folder) = Some (folder.now, true)
 
 -- a write: a folder that is only read is not written, and the write fails. For another folder nothing is promised
 abbrev pub IsShelfWrite : {T : Type 0} → Shelf → Shelf → Result T StoreError → Type 0

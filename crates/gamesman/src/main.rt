@@ -2,6 +2,10 @@
 //! command lines are described in docs/PROGRAM.md.
 #![tactic(auto)]
 
+ghost use Rattle.std.specs.Prelude.{◌≡◌, map, IfOk, IfErr, string_bytes};
+ghost use Rattle.std.specs.Vec.Iter.{into_iter_items};
+ghost use Rattle.gamesman.specs.LineRuns.{IsOutputOf};
+
 mod analyse;
 mod check;
 mod engine;
@@ -29,7 +33,7 @@ mod teller;
 use crate::fault::Fault;
 use crate::host::Host;
 use crate::run::{BAD_LINE, bad_line, explain, refused, run_words};
-use std::alloc::AllocError;
+use std::alloc::{AllocError, Global};
 use std::env::{self, Args};
 use std::io::{ErrorKind, IsTerminal, Read, Write};
 use std::process::ExitCode;
@@ -37,10 +41,7 @@ use std::process::ExitCode;
 fn main(rt: HostRuntime) -> ExitCode {
     let mut errors = rt.stderr();
     let status = match env::args(&rt) {
-        Ok(args) => match run_args(&rt, args, &mut rt.reader(), &mut rt.stdout(), &mut errors) {
-            Ok(status) => status,
-            Err(error) => refused(&Fault::OutOfMemory(error), &mut errors),
-        },
+        Ok(args) => run_line(&rt, args, &mut rt.reader(), &mut rt.stdout(), &mut errors),
         Err(error) if error.kind() == ErrorKind::OutOfMemory => {
             refused(&Fault::OutOfMemory(AllocError), &mut errors)
         }
@@ -50,26 +51,61 @@ fn main(rt: HostRuntime) -> ExitCode {
     ExitCode::from(status)
 }
 
-// Runs the line of these words. If standard error is a terminal, a bad line is also explained.
+// Returns the words of the line.
+fn words_owned(alloc: Global, args: Args) -> Result<Vec<String>, AllocError>
+    ensures { IfOk result (λ words. words.items ≡ into_iter_items args) }
+{
+    let mut words = Vec::new(alloc);
+    for arg in args {
+        words.push(arg)?;
+    }
+    Ok(words)
+}
+
+// Returns references to words.
+fn words_lent<'a>(alloc: Global, owned: &'a [String]) -> Result<Vec<&'a str>, AllocError>
+    ensures { IfOk result (λ words. map (λ t. t.now) words.items ≡ map string_bytes owned.now) }
+{
+    let mut words = Vec::new(alloc);
+    for word in owned {
+        words.push(word.as_str())?;
+    }
+    Ok(words)
+}
+
+// Runs the line of these words, unless memory runs out before it is read. If standard error is a terminal, a bad line is also explained.
 fn run_args<R: Host, I: Read, O: Write, E: Write + IsTerminal + Send>(
     rt: &R,
     args: Args,
     input: &mut I,
     output: &mut O,
     errors: &mut E,
-) -> Result<u8, AllocError> {
-    let mut owned = Vec::new(rt.alloc());
-    for arg in args {
-        owned.push(arg)?;
-    }
-    let mut words: Vec<&str> = Vec::new(rt.alloc());
-    for arg in &owned {
-        words.push(arg.as_str())?;
-    }
+) -> Result<u8, AllocError>
+    ensures run { IfOk result (IsOutputOf (map string_bytes (into_iter_items args)) (I.remaining input.old) (O.contents output.old) (O.contents output.new)) }
+    ensures kept { IfErr result (λ _. O.contents output.new ≡ O.contents output.old) }
+{
+    let owned = words_owned(rt.alloc(), args)?;
+    let words = words_lent(rt.alloc(), owned.as_slice())?;
     let terminal = errors.is_terminal();
     let status = run_words(rt, words.as_slice(), terminal, input, output, errors);
     if status == BAD_LINE && terminal {
         explain(rt.alloc(), words.as_slice(), errors);
     }
     Ok(status)
+}
+
+// Runs the line of these words, and returns the exit status.
+fn run_line<R: Host, I: Read, O: Write, E: Write + IsTerminal + Send>(
+    rt: &R,
+    args: Args,
+    input: &mut I,
+    output: &mut O,
+    errors: &mut E,
+) -> u8
+    ensures { IsOutputOf (map string_bytes (into_iter_items args)) (I.remaining input.old) (O.contents output.old) (O.contents output.new) result }
+{
+    match run_args(rt, args, input, output, errors) {
+        Ok(status) => status,
+        Err(error) => refused(&Fault::OutOfMemory(error), errors),
+    }
 }

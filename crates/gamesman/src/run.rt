@@ -1,8 +1,10 @@
 //! Running a line of words, from the program's name to the exit status.
-ghost use Rattle.std.specs.Prelude.{◌≡◌};
+ghost use Rattle.std.specs.Prelude.{◌≡◌, map, IfOk};
+ghost use Rattle.gamesman.specs.Lower.{AppendsPart};
 ghost use Rattle.gamesman.specs.Told.{IsPut};
 ghost use Rattle.gamesman.specs.Listing.{listed};
 ghost use Rattle.gamesman.specs.Answers.{IsDone, IsRun};
+ghost use Rattle.gamesman.specs.LineRuns.{IsLineRun, bad_line};
 
 use crate::engine::page_of_games;
 use crate::fault::Fault;
@@ -45,7 +47,9 @@ fn write_manual<O: Write>(alloc: Global, manual: Manual, output: &mut O) -> Resu
     Ok(DONE)
 }
 
-fn write_help<O: Write>(text: Help, output: &mut O) -> Result<u8, Fault> {
+fn write_help<O: Write>(text: Help, output: &mut O) -> Result<u8, Fault>
+    ensures { IfOk result (λ status. status ≡ DONE) }
+{
     write!(output, "{text}")?;
     Ok(DONE)
 }
@@ -86,9 +90,12 @@ pub fn refused<E: Write>(fault: &Fault, errors: &mut E) -> u8
     REFUSED
 }
 
-/// Reports on standard error that the program doesn't know the line.
-pub fn bad_line<E: Write>(errors: &mut E) -> u8 {
-    let _ = errors.write_all(b"gamesman: bad line\n");
+/// Reports on standard error that the program doesn't know the line. If the write fails, a first part of the report may be written.
+pub fn bad_line<E: Write>(errors: &mut E) -> u8
+    ensures status { result ≡ BAD_LINE }
+    ensures said { AppendsPart (E.contents errors.old) (E.contents errors.new) bad_line }
+{
+    let _ = put(errors, b"gamesman: bad line\n");
     BAD_LINE
 }
 
@@ -131,7 +138,10 @@ pub fn run_words<R: Host, I: Read, O: Write, E: Write + Send>(
     input: &mut I,
     output: &mut O,
     errors: &mut E,
-) -> u8 {
+) -> u8
+    ensures { IsLineRun (AppendsPart (E.contents errors.old) (E.contents errors.new)) (map (λ t. t.now) words.now) (I.remaining input.old)
+        (O.contents output.old) (O.contents output.new) result }
+{
     match read_words(rt.alloc(), words) {
         Ok(Reading::Request(request)) => run_request(rt, request, terminal, input, output, errors),
         Ok(Reading::Help(text)) => match write_help(text, output) {

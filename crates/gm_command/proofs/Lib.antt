@@ -1,1 +1,10 @@
-mod Naming
+mod Bools
+mod Zips
+mod Givens
+mod Figures
+mod Cuts
+mod Rules
+mod Added
+mod Simple
+mod Answers
+mod Examples

@@ -1,2 +1,9 @@
 pub mod Names
-pub mod Commands
+pub mod Lines
+pub mod Parsers
+pub mod Given
+pub mod Relations
+pub mod Contents
+pub mod Searching
+pub mod Reading
+pub mod Readings

@@ -1,7 +1,12 @@
 //! The program's command line, made with clap.
+ghost use Rattle.std.specs.Prelude.{◌≡◌, [], Some, false, IfOk, OnOk, map};
+ghost use Rattle.std.specs.List.{AllZip};
+ghost use Rattle.clap.specs.Words.{app_of, rule_of};
+ghost use Rattle.gm_command.specs.Lines.{word_of, line_of, command_lines};
+ghost use Rattle.gm_command.specs.Parsers.{numbers, defaults_after, rule_of_word, IsArgFor, IsCommandFor, command_line};
 
 use crate::lines::lines;
-use crate::relations::{barred_by, needed_by, values_of};
+use crate::relations::{barred_by, has_word, needed_by, values_of};
 use crate::words::{ArgKind, ArgSpec, CommandSpec};
 use clap::{Arg, ArgAction, Command, value_parser};
 use std::alloc::{AllocError, Global};
@@ -9,12 +14,12 @@ use std::alloc::{AllocError, Global};
 const VERSION: &str = "1.1.0";
 
 // Gives an option a number within a range as its value.
-fn with_number<'a>(
-    option: Arg<'a>,
-    least: i64,
-    most: i64,
-    default: Option<&'static str>,
-) -> Arg<'a> {
+fn with_number<'a>(option: Arg<'a>, least: i64, most: i64, default: Option<&'static str>) -> Arg<'a>
+    ensures { rule_of result ≡ record (rule_of option.entry) {
+      parser = Some (numbers least most);
+      defaults = defaults_after (rule_of option.entry).defaults default.entry;
+    } }
+{
     let option = option.value_parser(value_parser!(u32).range(least..=most));
     match default {
         Some(default) => option.default_value(default),
@@ -22,29 +27,14 @@ fn with_number<'a>(
     }
 }
 
-// Adds to an argument its possible values and its relations to other arguments of its command. The text of the help already lists
-// the values. An option needs another one only in commands that have both.
-fn related<'a>(arg: Arg<'a>, name: &str, words: &'static [ArgSpec]) -> Result<Arg<'a>, AllocError> {
-    let named = match values_of(name) {
-        Some(values) => arg.value_parser(values).hide_possible_values(true),
-        None => arg,
-    };
-    let needing = match needed_by(name) {
-        Some(needed) if words.iter().any(|word| word.name == needed) => {
-            named.requires_arg(needed)?
-        }
-        _ => named,
-    };
-    needing.conflicts_with_all(barred_by(name))
-}
-
-// Makes the argument for a word of a command, without its relations.
-fn arg_of<'a>(alloc: Global, word: &'static ArgSpec) -> Result<Arg<'a>, AllocError> {
+// Makes the argument for a word of a command, without its values and its relations.
+fn plain<'a>(alloc: Global, word: &'static ArgSpec) -> Arg<'a>
+    ensures { rule_of result ≡ rule_of_word (word_of word.now) }
+{
     let arg = Arg::new(alloc, word.name).help(word.help);
-    let made = match word.kind {
+    match word.kind {
         ArgKind::Word => arg.required(true).action(ArgAction::Set),
-        ArgKind::Unless { option } => arg.required_unless_present(option)?,
-        ArgKind::Optional => arg,
+        ArgKind::Unless { .. } | ArgKind::Optional => arg,
         ArgKind::Flag => arg.long(word.name).action(ArgAction::SetTrue),
         ArgKind::Text { shown, required } => arg
             .long(word.name)
@@ -57,26 +47,77 @@ fn arg_of<'a>(alloc: Global, word: &'static ArgSpec) -> Result<Arg<'a>, AllocErr
             default,
         } => with_number(arg.long(word.name).value_name(shown), least, most, default),
         ArgKind::Tier => arg.long(word.name).value_parser(value_parser!(u64)),
+    }
+}
+
+// Adds to an argument its possible values. The text of the help already lists them.
+fn valued<'a>(arg: Arg<'a>, name: &str) -> Arg<'a> {
+    match values_of(name) {
+        Some(values) => arg.value_parser(values).hide_possible_values(true),
+        None => arg,
+    }
+}
+
+// Adds to an argument its relations to other arguments of its command. An option needs another one only in commands that have both.
+fn related<'a>(
+    arg: Arg<'a>,
+    word: &'static ArgSpec,
+    words: &'static [ArgSpec],
+) -> Result<Arg<'a>, AllocError> {
+    let arg = match word.kind {
+        ArgKind::Unless { option } => arg.required_unless_present(option)?,
+        _ => arg,
     };
-    Ok(made)
+    let needing = match needed_by(word.name) {
+        Some(needed) if has_word(words, needed) => arg.requires_arg(needed)?,
+        _ => arg,
+    };
+    needing.conflicts_with_all(barred_by(word.name))
+}
+
+// Makes the argument for a word of a command. Only an explanation needs its values and its relations.
+fn arg_of<'a>(
+    alloc: Global,
+    word: &'static ArgSpec,
+    words: &'static [ArgSpec],
+    explained: bool,
+) -> Result<Arg<'a>, AllocError>
+    ensures { IfOk result (λ a. explained ≡ false → IsArgFor (word_of word.now) a) }
+{
+    let arg = plain(alloc, word);
+    if explained {
+        related(valued(arg, word.name), word, words)
+    } else {
+        Ok(arg)
+    }
 }
 
 // Adds the words of a command.
 fn add_words<'a>(
     alloc: Global,
     words: &'static [ArgSpec],
+    explained: bool,
     all: &mut Vec<Arg<'a>>,
-) -> Result<(), AllocError> {
+) -> Result<(), AllocError>
+    requires { all.old.items ≡ [] }
+    ensures { OnOk result (explained ≡ false → AllZip IsArgFor (map word_of words.now) all.new.items) }
+{
     for word in words {
-        all.push(related(arg_of(alloc, word)?, word.name, words)?)?;
+        all.push(arg_of(alloc, word, words, explained)?)?;
     }
     Ok(())
 }
 
 // Makes a command of the program.
-fn command_of<'a>(alloc: Global, line: &'static CommandSpec) -> Result<Command<'a>, AllocError> {
+fn command_of<'a>(
+    alloc: Global,
+    line: &'static CommandSpec,
+    explained: bool,
+) -> Result<Command<'a>, AllocError>
+    ensures { IfOk result (λ c. explained ≡ false → IsCommandFor (line_of line.now) c) }
+{
     let mut words = Vec::new(alloc);
-    add_words(alloc, line.words, &mut words)?;
+    add_words(alloc, line.words, explained, &mut words)?;
     let command = Command::new(alloc, line.name)
         .about(line.about)
         .after_help(line.examples)
@@ -88,17 +129,28 @@ fn command_of<'a>(alloc: Global, line: &'static CommandSpec) -> Result<Command<'
 }
 
 // Adds all commands.
-fn add_commands<'a>(alloc: Global, all: &mut Vec<Command<'a>>) -> Result<(), AllocError> {
-    for line in &lines() {
-        all.push(command_of(alloc, *line)?)?;
+fn add_commands<'a>(
+    alloc: Global,
+    explained: bool,
+    all: &mut Vec<Command<'a>>,
+) -> Result<(), AllocError>
+    requires { all.old.items ≡ [] }
+    ensures { OnOk result (explained ≡ false → AllZip IsCommandFor command_lines all.new.items) }
+{
+    let lines = lines();
+    for line in &lines {
+        all.push(command_of(alloc, *line, explained)?)?;
     }
     Ok(())
 }
 
-/// Makes the program's command line.
-pub fn gamesman<'a>(alloc: Global) -> Result<Command<'a>, AllocError> {
+/// Makes the program's command line, with the values and relations of its options only if a refusal is to be explained. A line is
+/// read without them, and the program tests them itself, so that it is known which lines are refused.
+pub fn gamesman<'a>(alloc: Global, explained: bool) -> Result<Command<'a>, AllocError>
+    ensures { IfOk result (λ c. explained ≡ false → app_of c ≡ command_line) }
+{
     let mut all = Vec::new(alloc);
-    add_commands(alloc, &mut all)?;
+    add_commands(alloc, explained, &mut all)?;
     Command::new(alloc, "gamesman")
         .about("Solves two-player games")
         .version(VERSION)

@@ -1,24 +1,28 @@
 //! Reading the commands about one game.
-ghost use Rattle.std.specs.Prelude.{◌≡◌, ◌⊎◌, codes, IfSome, IsSome};
-ghost use Rattle.clap.specs.Words.{first_value, found_of};
-ghost use Rattle.gm_command.specs.Commands.{IsNamed, IsAbout, IsAboutEach, IsOfPosition};
+ghost use Rattle.std.specs.Prelude.{◌≡◌, codes, option_and_then, option_map};
+ghost use Rattle.std.specs.Result.{result_ok};
+ghost use Rattle.gm_command.specs.Contents.{command_content};
+ghost use Rattle.gm_command.specs.Given.{rows_in, text_in, number_in};
+ghost use Rattle.gm_command.specs.Reading.{written, asking, asking_each, drawing_in, page_with, place_in, playing_in, command_in};
 
+use crate::given::{has, number_in, text_in};
 use crate::requests::{EnginePageRequest, GameCommand, PlayRequest, Question};
 use crate::searches::{ask_of, counts_of, limit_of, search_of};
+use crate::words::GameCommandName;
 use clap::ArgMatches;
 use gm_game::text::read_decimal;
 use gm_play::sides::Side;
 
 // Returns how a board is shown. Only a diagram can leave out the value.
 fn show_of(inner: &ArgMatches<'_>) -> Option<Question>
-    ensures { IfSome result (IsAbout (codes "show")) }
+    ensures { result ≡ drawing_in (rows_in inner.now) }
 {
-    let valued = !inner.get_flag("no-value");
-    if inner.get_flag("svg") {
+    let valued = !has(inner, "no-value");
+    if has(inner, "svg") {
         Some(Question::Diagram { valued })
     } else if valued {
         Some(Question::Show {
-            explained: inner.get_str("POSITION").is_none(),
+            explained: text_in(inner, "POSITION").is_none(),
         })
     } else {
         None
@@ -27,21 +31,19 @@ fn show_of(inner: &ArgMatches<'_>) -> Option<Question>
 
 // Returns the command for a question about a position.
 fn explore<'a>(inner: &ArgMatches<'a>, question: Question) -> GameCommand<'a>
-    ensures question { (name : _) → IsAbout name question → IsNamed name result }
-    ensures position { IsOfPosition (first_value (found_of inner.now) (codes "POSITION")) result }
+    ensures { command_content result ≡ asking (rows_in inner.now) question }
 {
     GameCommand::Explore {
-        position: inner.get_str("POSITION"),
+        position: text_in(inner, "POSITION"),
         question,
     }
 }
 
 // Returns the command for a question about a position, or for `-` about each position of the input.
 fn explore_each<'a>(inner: &ArgMatches<'a>, question: Question) -> GameCommand<'a>
-    ensures question { (name : _) → IsAboutEach name question → IsNamed name result }
-    ensures position { IsOfPosition (first_value (found_of inner.now) (codes "POSITION")) result }
+    ensures { command_content result ≡ asking_each (rows_in inner.now) question }
 {
-    match inner.get_str("POSITION") {
+    match text_in(inner, "POSITION") {
         Some("-") => GameCommand::Filter { question },
         _ => explore(inner, question),
     }
@@ -49,86 +51,102 @@ fn explore_each<'a>(inner: &ArgMatches<'a>, question: Question) -> GameCommand<'
 
 // Reads a line of `page`. With an engine the page is another one.
 fn page_of<'a>(inner: &ArgMatches<'a>) -> Option<GameCommand<'a>>
-    ensures named { IfSome result (IsNamed (codes "page")) }
-    ensures position { IfSome result (IsOfPosition (first_value (found_of inner.now) (codes "POSITION"))) }
+    ensures { option_map command_content result ≡
+        option_map (page_with (rows_in inner.now) (text_in (rows_in inner.now) (codes "engine"))) (number_in (rows_in inner.now) (codes "limit")) }
 {
-    let limit = inner.get_one::<u32>("limit")? as usize;
-    match inner.get_str("engine") {
+    let limit = number_in(inner, "limit")? as usize;
+    match text_in(inner, "engine") {
         None => Some(explore(inner, Question::Page { limit })),
         Some(engine) => Some(GameCommand::EnginePage(EnginePageRequest {
-            position: inner.get_str("POSITION"),
+            position: text_in(inner, "POSITION"),
             limit,
             engine,
         })),
     }
 }
 
-// Reads a line of `at`. A tier and an index are numbers without a sign and without leading zeros.
-fn at_of<'a>(inner: &ArgMatches<'a>) -> Option<GameCommand<'a>>
-    ensures { IfSome result (IsNamed (codes "at")) }
+// Returns the number that is written in full as the word with this name.
+fn written(inner: &ArgMatches<'_>, name: &str) -> Option<u64>
+    ensures { result ≡ option_and_then written (text_in (rows_in inner.now) name.now) }
 {
-    Some(GameCommand::At {
-        tier: read_decimal(inner.get_str("TIER")?.as_bytes())?,
-        index: read_decimal(inner.get_str("INDEX")?.as_bytes())?,
-    })
+    read_decimal(text_in(inner, name)?.as_bytes())
 }
 
-fn play_of<'a>(inner: &ArgMatches<'a>) -> PlayRequest<'a> {
-    let first = if inner.get_flag("second") {
+/// Reads a line of `at`, or returns the reason for a refusal: a tier and an index are numbers without a sign and without leading zeros.
+pub(crate) fn place_of<'a>(inner: &ArgMatches<'a>) -> Result<GameCommand<'a>, &'static str>
+    ensures { option_map command_content (result_ok result) ≡ place_in (rows_in inner.now) }
+{
+    let Some(tier) = written(inner, "TIER") else {
+        return Err(
+            "a tier is a number from 0 to 18446744073709551615, without a sign and without zeros before it",
+        );
+    };
+    let Some(index) = written(inner, "INDEX") else {
+        return Err(
+            "an index is a number from 0 to 18446744073709551615, without a sign and without zeros before it",
+        );
+    };
+    Ok(GameCommand::At { tier, index })
+}
+
+// Reads a line of `play`.
+fn play_of<'a>(inner: &ArgMatches<'a>) -> PlayRequest<'a>
+    ensures { command_content (GameCommand.Play result) ≡ playing_in (rows_in inner.now) }
+{
+    let first = if has(inner, "second") {
         Side::Computer
     } else {
         Side::You
     };
     PlayRequest {
-        position: inner.get_str("from"),
+        position: text_in(inner, "from"),
         first,
-        drawn: inner.get_flag("show"),
+        drawn: has(inner, "show"),
     }
 }
 
-/// Reads a line with the command of this name.
-pub fn command_of<'a>(name: &str, inner: &ArgMatches<'a>) -> Option<GameCommand<'a>>
-    ensures named { IfSome result (IsNamed name.now) }
-    ensures position { IfSome result (IsOfPosition (first_value (found_of inner.now) (codes "POSITION"))) }
-    ensures read { (name.now ≡ codes "moves") ⊎ ((name.now ≡ codes "why") ⊎ ((name.now ≡ codes "line") ⊎ ((name.now ≡ codes "counts")
-        ⊎ (name.now ≡ codes "longest")))) → IsSome result }
+/// Reads a line with this command.
+pub(crate) fn command_of<'a>(
+    command: GameCommandName,
+    inner: &ArgMatches<'a>,
+) -> Option<GameCommand<'a>>
+    ensures { option_map command_content result ≡ command_in (rows_in inner.now) command }
 {
-    match name {
-        "solve" => Some(GameCommand::Solve),
-        "query" => Some(explore_each(inner, Question::Value)),
-        "moves" => Some(explore_each(
+    match command {
+        GameCommandName::Solve => Some(GameCommand::Solve),
+        GameCommandName::Query => Some(explore_each(inner, Question::Value)),
+        GameCommandName::Moves => Some(explore_each(
             inner,
             Question::Moves {
-                distinct: inner.get_flag("distinct"),
-                json: inner.get_flag("json"),
+                distinct: has(inner, "distinct"),
+                json: has(inner, "json"),
             },
         )),
-        "why" => Some(explore(inner, Question::Why)),
-        "line" => Some(explore(
+        GameCommandName::Why => Some(explore(inner, Question::Why)),
+        GameCommandName::Line => Some(explore(
             inner,
             Question::Line {
                 limit: limit_of(inner),
-                json: inner.get_flag("json"),
+                json: has(inner, "json"),
             },
         )),
-        "show" => Some(explore(inner, show_of(inner)?)),
-        "page" => page_of(inner),
-        "at" => at_of(inner),
-        "locate" => Some(GameCommand::Locate {
-            position: inner.get_str("POSITION")?,
+        GameCommandName::Show => Some(explore(inner, show_of(inner)?)),
+        GameCommandName::Page => page_of(inner),
+        GameCommandName::At => place_of(inner).ok(),
+        GameCommandName::Locate => Some(GameCommand::Locate {
+            position: text_in(inner, "POSITION")?,
         }),
-        "find" => Some(GameCommand::Find(search_of(inner)?)),
-        "counts" => Some(GameCommand::Counts(counts_of(inner))),
-        "longest" => Some(GameCommand::Longest {
-            reached: inner.get_flag("reached"),
+        GameCommandName::Find => Some(GameCommand::Find(search_of(inner)?)),
+        GameCommandName::Counts => Some(GameCommand::Counts(counts_of(inner))),
+        GameCommandName::Longest => Some(GameCommand::Longest {
+            reached: has(inner, "reached"),
             limit: limit_of(inner),
         }),
-        "ask" => Some(GameCommand::Ask(ask_of(inner)?)),
-        "analyse" => Some(GameCommand::Analyse),
-        "check" => Some(GameCommand::Check {
-            folder: inner.get_str("FOLDER")?,
+        GameCommandName::Ask => Some(GameCommand::Ask(ask_of(inner)?)),
+        GameCommandName::Analyse => Some(GameCommand::Analyse),
+        GameCommandName::Check => Some(GameCommand::Check {
+            folder: text_in(inner, "FOLDER")?,
         }),
-        "play" => Some(GameCommand::Play(play_of(inner))),
-        _ => None,
+        GameCommandName::Play => Some(GameCommand::Play(play_of(inner))),
     }
 }

@@ -5,6 +5,7 @@
 pub mod commands;
 pub mod defaults;
 mod game_commands;
+mod given;
 mod lines;
 pub mod manual;
 pub mod names;

@@ -1,12 +1,15 @@
 //! The commands of the program and the words of each, with their texts in `--help`.
+ghost use Rattle.std.specs.Prelude.{◌≡◌, map, option_map};
+ghost use Rattle.gm_command.specs.Lines.{line_of, line_named, command_lines};
 
 use crate::defaults::{PIECE_WORD, SHARDS_WORD, WORKERS_WORD};
 use crate::words::{
-    CommandSpec, DISTINCT, FOLDER, GAME, GAME_OR_ALL, JSON, MOST, QUIET, REACHED, READ_ONLY, START,
-    word,
+    CommandName, CommandSpec, DISTINCT, FOLDER, GAME, GAME_OR_ALL, GameCommandName, JSON, MOST,
+    QUIET, REACHED, READ_ONLY, START, word,
 };
 
 static LIST: CommandSpec = CommandSpec {
+    command: CommandName::List,
     name: "list",
     alias: None,
     about: "Lists the games",
@@ -15,6 +18,7 @@ static LIST: CommandSpec = CommandSpec {
 };
 
 static SOLVE: CommandSpec = CommandSpec {
+    command: CommandName::Game(GameCommandName::Solve),
     name: "solve",
     alias: None,
     about: "Solves a game into an existing folder; correct tables in it are reused",
@@ -31,6 +35,7 @@ static SOLVE: CommandSpec = CommandSpec {
 };
 
 static QUERY: CommandSpec = CommandSpec {
+    command: CommandName::Game(GameCommandName::Query),
     name: "query",
     alias: None,
     about: "Prints the value and remoteness of a position",
@@ -45,6 +50,7 @@ static QUERY: CommandSpec = CommandSpec {
 };
 
 static MOVES: CommandSpec = CommandSpec {
+    command: CommandName::Game(GameCommandName::Moves),
     name: "moves",
     alias: None,
     about: "Lists the moves of a position, best first, with what each is worth and its result",
@@ -61,6 +67,7 @@ static MOVES: CommandSpec = CommandSpec {
 };
 
 static WHY: CommandSpec = CommandSpec {
+    command: CommandName::Game(GameCommandName::Why),
     name: "why",
     alias: None,
     about: "Lists the moves of a position, best first, with what each is worth, the best answer to it and the position after that",
@@ -69,6 +76,7 @@ static WHY: CommandSpec = CommandSpec {
 };
 
 static LINE: CommandSpec = CommandSpec {
+    command: CommandName::Game(GameCommandName::Line),
     name: "line",
     alias: None,
     about: "Plays the best moves of both sides from a position to the end",
@@ -85,6 +93,7 @@ static LINE: CommandSpec = CommandSpec {
 };
 
 static SHOW: CommandSpec = CommandSpec {
+    command: CommandName::Game(GameCommandName::Show),
     name: "show",
     alias: None,
     about: "Draws a position with the side to move and its value; for the start it also explains the notation",
@@ -101,6 +110,7 @@ static SHOW: CommandSpec = CommandSpec {
 };
 
 static PAGE: CommandSpec = CommandSpec {
+    command: CommandName::Game(GameCommandName::Page),
     name: "page",
     alias: None,
     about: "Writes an HTML page for exploring the positions that can be reached from a position, with boards, moves and values",
@@ -118,6 +128,7 @@ static PAGE: CommandSpec = CommandSpec {
 };
 
 static AT: CommandSpec = CommandSpec {
+    command: CommandName::Game(GameCommandName::At),
     name: "at",
     alias: None,
     about: "Prints the canonical position at an index of a tier, with its value",
@@ -133,6 +144,7 @@ static AT: CommandSpec = CommandSpec {
 };
 
 static LOCATE: CommandSpec = CommandSpec {
+    command: CommandName::Game(GameCommandName::Locate),
     name: "locate",
     alias: None,
     about: "Prints the tier and index of a position, whether it is canonical, and the index and text of its canonical position",
@@ -141,6 +153,7 @@ static LOCATE: CommandSpec = CommandSpec {
 };
 
 static FIND: CommandSpec = CommandSpec {
+    command: CommandName::Game(GameCommandName::Find),
     name: "find",
     alias: None,
     about: "Lists the positions with a given value, one per symmetry class, each with its best move and number of moves",
@@ -169,6 +182,7 @@ static FIND: CommandSpec = CommandSpec {
 };
 
 static COUNTS: CommandSpec = CommandSpec {
+    command: CommandName::Game(GameCommandName::Counts),
     name: "counts",
     alias: None,
     about: "Counts the positions of a game by value and remoteness, with bars",
@@ -187,6 +201,7 @@ static COUNTS: CommandSpec = CommandSpec {
 };
 
 static LONGEST: CommandSpec = CommandSpec {
+    command: CommandName::Game(GameCommandName::Longest),
     name: "longest",
     alias: None,
     about: "Lists the longest wins and then the longest losses of a game, in the form of `find`",
@@ -202,6 +217,7 @@ static LONGEST: CommandSpec = CommandSpec {
 };
 
 static ASK: CommandSpec = CommandSpec {
+    command: CommandName::Game(GameCommandName::Ask),
     name: "ask",
     alias: None,
     about: "Reads one position per line and answers each with one line of JSON: its value and what its moves are worth",
@@ -219,6 +235,7 @@ static ASK: CommandSpec = CommandSpec {
 };
 
 static ANALYSE: CommandSpec = CommandSpec {
+    command: CommandName::Game(GameCommandName::Analyse),
     name: "analyse",
     alias: Some("analyze"),
     about: "Counts the positions of a game by value and remoteness, one line of JSON for each tier",
@@ -227,6 +244,7 @@ static ANALYSE: CommandSpec = CommandSpec {
 };
 
 static CHECK: CommandSpec = CommandSpec {
+    command: CommandName::Game(GameCommandName::Check),
     name: "check",
     alias: None,
     about: "Checks the tables of a game in a folder, tier by tier",
@@ -239,6 +257,7 @@ static CHECK: CommandSpec = CommandSpec {
 };
 
 static PLAY: CommandSpec = CommandSpec {
+    command: CommandName::Game(GameCommandName::Play),
     name: "play",
     alias: None,
     about: "Plays a game against you from its start; type a move, as `1` in countdown or `a1` in tictactoe, or `quit`",
@@ -255,6 +274,7 @@ static PLAY: CommandSpec = CommandSpec {
 };
 
 static COMPLETIONS: CommandSpec = CommandSpec {
+    command: CommandName::Completions,
     name: "completions",
     alias: None,
     about: "Prints a shell completion script",
@@ -263,6 +283,7 @@ static COMPLETIONS: CommandSpec = CommandSpec {
 };
 
 static MAN: CommandSpec = CommandSpec {
+    command: CommandName::Man,
     name: "man",
     alias: None,
     about: "Prints the manual page",
@@ -271,7 +292,10 @@ static MAN: CommandSpec = CommandSpec {
 };
 
 /// Returns all commands, in the order of the help.
-pub(crate) fn lines() -> [&'static CommandSpec; 19] {
+#[tactic(auto, unfolding(crate::specs::Lines::command_lines))]
+pub(crate) fn lines() -> [&'static CommandSpec; 19]
+    ensures { map (λ line. line_of line.now) result ≡ command_lines }
+{
     [
         &LIST,
         &SOLVE,
@@ -293,4 +317,11 @@ pub(crate) fn lines() -> [&'static CommandSpec; 19] {
         &COMPLETIONS,
         &MAN,
     ]
+}
+
+/// Returns the command of this name.
+pub(crate) fn line_named(name: &str) -> Option<&'static CommandSpec>
+    ensures { option_map (λ line. line_of line.now) result ≡ line_named name.now }
+{
+    lines().iter().find(|line| line.name == name).copied()
 }

@@ -1,7 +1,9 @@
 //! Texts about the program, made from the table of its commands: completions for shells, and a man page.
-ghost use Rattle.std.specs.Prelude.{◌≡◌, ◌↔◌, codes, Some};
-ghost use Rattle.clap.specs.Words.{first_value, found_of};
+ghost use Rattle.std.specs.Prelude.{◌≡◌, codes, option_and_then};
+ghost use Rattle.gm_command.specs.Given.{rows_in, text_in};
+ghost use Rattle.gm_command.specs.Reading.{manual_named};
 
+use crate::given::text_in;
 use crate::lines::lines;
 use crate::names::{GAMES, LATER_GAMES, LISTED, LISTED_LATER};
 use crate::words::{ArgKind, ArgSpec, CommandSpec};
@@ -19,12 +21,9 @@ pub enum Manual {
 
 /// Returns the completions for the shell that a line of `completions` names.
 pub fn manual_of(inner: &ArgMatches<'_>) -> Option<Manual>
-    ensures bash { (result ≡ Some Manual.Bash) ↔ (first_value (found_of inner.now) (codes "SHELL") ≡ Some (codes "bash")) }
-    ensures zsh { (result ≡ Some Manual.Zsh) ↔ (first_value (found_of inner.now) (codes "SHELL") ≡ Some (codes "zsh")) }
-    ensures fish { (result ≡ Some Manual.Fish) ↔ (first_value (found_of inner.now) (codes "SHELL") ≡ Some (codes "fish")) }
-    ensures man { result ≡ Some Manual.Man → ⊥ }
+    ensures { result ≡ option_and_then manual_named (text_in (rows_in inner.now) (codes "SHELL")) }
 {
-    match inner.get_str("SHELL")? {
+    match text_in(inner, "SHELL")? {
         "bash" => Some(Manual::Bash),
         "zsh" => Some(Manual::Zsh),
         "fish" => Some(Manual::Fish),

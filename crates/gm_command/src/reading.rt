@@ -1,12 +1,24 @@
 //! Reading a line of words.
+ghost use Rattle.std.specs.Prelude.{◌≡◌, false, codes, MatchResult, map, option_map};
+ghost use Rattle.std.specs.Option.{option_or};
+ghost use Rattle.clap.specs.Words.{kind_of, subcommand_rows_of};
+ghost use Rattle.gm_command.specs.Contents.{content_of, game_content, kept_at, plan_of as numbers_of};
+ghost use Rattle.gm_command.specs.Given.{rows_in, text_in};
+ghost use Rattle.gm_command.specs.Lines.{line_of};
+ghost use Rattle.gm_command.specs.Reading.{kept_in, plan_in, progress_in, only_reads, game_in, request_in, request_with, request_of as content_in};
+ghost use Rattle.gm_command.specs.Readings.{IsOutcome, IsReadingOf, why_not};
 
 use crate::commands::gamesman;
 use crate::defaults::{PIECE, SHARDS, WORKERS};
-use crate::game_commands::command_of;
+use crate::game_commands::{command_of, place_of};
+use crate::given::{command_in, has, number_or, text_in};
+use crate::lines::line_named;
 use crate::manual::{Manual, manual_of};
 use crate::numbers::are_plain;
+use crate::relations::are_related;
 use crate::requests::{GameRequest, Reading, Request, TableLocation, Telling};
 use crate::searches::{json_of, sought_of};
+use crate::words::{CommandName, CommandSpec, GameCommandName};
 use clap::error::ErrorKind;
 use clap::{ArgMatches, Error};
 use gm_solver::plan::Plan;
@@ -31,11 +43,30 @@ pub enum ReadError {
     OutOfMemory,
 }
 
+// Returns the folder of the tables, if a line has one.
+fn folder_of<'a>(inner: &ArgMatches<'a>) -> Option<&'a str>
+    ensures { option_map (λ t. t.now) result ≡ option_or (text_in (rows_in inner.now) (codes "FOLDER")) (text_in (rows_in inner.now) (codes "folder")) }
+{
+    match text_in(inner, "FOLDER") {
+        Some(folder) => Some(folder),
+        None => text_in(inner, "folder"),
+    }
+}
+
+// Tests whether a command only reads its folder.
+fn only_reads(command: GameCommandName) -> bool
+    ensures { result ≡ only_reads command }
+{
+    matches!(command, GameCommandName::Check)
+}
+
 // Returns the place of the tables that a command needs. `check` only reads its folder.
-fn tables_of<'a>(name: &str, inner: &ArgMatches<'a>) -> TableLocation<'a> {
-    match inner.get_str("FOLDER").or(inner.get_str("folder")) {
+fn tables_of<'a>(command: GameCommandName, inner: &ArgMatches<'a>) -> TableLocation<'a>
+    ensures { kept_at result ≡ kept_in (rows_in inner.now) command }
+{
+    match folder_of(inner) {
         None => TableLocation::Memory,
-        Some(folder) if name == "check" || inner.get_flag("read-only") => {
+        Some(folder) if only_reads(command) || has(inner, "read-only") => {
             TableLocation::ReadOnly(folder)
         }
         Some(folder) => TableLocation::Folder(folder),
@@ -43,76 +74,107 @@ fn tables_of<'a>(name: &str, inner: &ArgMatches<'a>) -> TableLocation<'a> {
 }
 
 // Returns the plan of a line. Only `solve` has options for it.
-fn plan_of(inner: &ArgMatches<'_>) -> Option<Plan> {
-    let workers = inner
-        .get_one::<u32>("workers")
-        .map_or(WORKERS, |workers| workers as usize);
-    let shards = inner
-        .get_one::<u32>("shards")
-        .map_or(SHARDS, |shards| shards as usize);
-    let piece = inner
-        .get_one::<u32>("piece")
-        .map_or(PIECE, |piece| piece as usize);
-    Plan::fastest(workers, shards, piece)
+fn plan_of(inner: &ArgMatches<'_>) -> Option<Plan>
+    ensures { option_map numbers_of result ≡ plan_in (rows_in inner.now) }
+{
+    Plan::fastest(
+        number_or(inner, "workers", WORKERS),
+        number_or(inner, "shards", SHARDS),
+        number_or(inner, "piece", PIECE),
+    )
 }
 
 // Returns how the progress of a build is reported on standard error.
-fn progress_of(inner: &ArgMatches<'_>) -> Telling {
-    if inner.get_flag("quiet") {
+fn progress_of(inner: &ArgMatches<'_>) -> Telling
+    ensures { result ≡ progress_in (rows_in inner.now) }
+{
+    if has(inner, "quiet") {
         Telling::Quiet
-    } else if inner.get_flag("progress") {
+    } else if has(inner, "progress") {
         Telling::Lines
     } else {
         Telling::Terminal
     }
 }
 
-fn game_request_of<'a>(name: &str, inner: &ArgMatches<'a>) -> Option<GameRequest<'a>> {
+// Reads a line with a command about a game.
+fn game_request_of<'a>(command: GameCommandName, inner: &ArgMatches<'a>) -> Option<GameRequest<'a>>
+    ensures { option_map game_content result ≡ game_in (rows_in inner.now) command }
+{
     Some(GameRequest {
-        game: inner.get_str("GAME")?,
-        command: command_of(name, inner)?,
-        tables: tables_of(name, inner),
+        game: text_in(inner, "GAME")?,
+        command: command_of(command, inner)?,
+        tables: tables_of(command, inner),
         plan: plan_of(inner)?,
         progress: progress_of(inner),
     })
 }
 
-fn request_of<'a>(matches: &ArgMatches<'a>) -> Option<Request<'a>> {
-    match matches.subcommand() {
-        Some((name, inner)) if !are_plain(name, inner) => None,
-        Some(("list", inner)) => Some(Request::List {
-            all: inner.get_flag("all"),
+// Reads a line with this command. With `--all`, `page` makes the page of all games.
+fn command_request_of<'a>(command: CommandName, inner: &ArgMatches<'a>) -> Option<Request<'a>>
+    ensures { option_map content_of result ≡ request_in (rows_in inner.now) command }
+{
+    match command {
+        CommandName::List => Some(Request::List {
+            all: has(inner, "all"),
         }),
-        Some(("completions", inner)) => Some(Request::Manual(manual_of(inner)?)),
-        Some(("man", _)) => Some(Request::Manual(Manual::Man)),
-        Some(("page", inner)) if inner.get_flag("all") => Some(Request::AllGames {
-            engine: inner.get_str("engine")?,
+        CommandName::Game(_) if has(inner, "all") => Some(Request::AllGames {
+            engine: text_in(inner, "engine")?,
         }),
-        Some((name, inner)) => Some(Request::Game(game_request_of(name, inner)?)),
-        None => None,
+        CommandName::Game(command) => Some(Request::Game(game_request_of(command, inner)?)),
+        CommandName::Completions => Some(Request::Manual(manual_of(inner)?)),
+        CommandName::Man => Some(Request::Manual(Manual::Man)),
     }
 }
 
-fn matched<'a>(alloc: Global, words: &'a [&'a str]) -> Result<ArgMatches<'a>, Error> {
-    gamesman(alloc)?.try_get_matches_from(words)
+// Reads a line with this command, whose words are to go with each other, and whose numbers are to be written plainly.
+fn line_request_of<'a>(line: &CommandSpec, inner: &ArgMatches<'a>) -> Option<Request<'a>>
+    ensures { option_map content_of result ≡ request_with (rows_in inner.now) (line_of line.now) }
+{
+    if are_related(line.words, inner) && are_plain(line.words, inner) {
+        command_request_of(line.command, inner)
+    } else {
+        None
+    }
+}
+
+// Reads a line.
+fn request_of<'a>(matches: &ArgMatches<'a>) -> Option<Request<'a>>
+    ensures { option_map content_of result ≡ content_in (subcommand_rows_of matches.now) }
+{
+    let (name, inner) = command_in(matches)?;
+    line_request_of(line_named(name)?, inner)
+}
+
+// Returns clap's answer to words. If a refusal is explained, clap knows the values and relations of options too.
+fn matched<'a>(
+    alloc: Global,
+    words: &'a [&'a str],
+    explained: bool,
+) -> Result<ArgMatches<'a>, Error>
+    ensures { explained ≡ false → IsOutcome (map (λ t. t.now) words.now) result }
+{
+    gamesman(alloc, explained)?.try_get_matches_from(words)
 }
 
 // Returns the reason why a line is refused although its words are those of a command.
 fn misfit(matches: &ArgMatches<'_>) -> Option<&'static str> {
     let (name, inner) = matches.subcommand()?;
-    if !are_plain(name, inner) {
+    let line = line_named(name)?;
+    if !are_plain(line.words, inner) {
         return Some("a number has no sign and no zero before it");
     }
-    match name {
-        "find" => sought_of(inner).err(),
-        "ask" => json_of(inner).err(),
+    match line.command {
+        CommandName::Game(GameCommandName::At) => place_of(inner).err(),
+        CommandName::Game(GameCommandName::Find) => sought_of(inner).err(),
+        CommandName::Game(GameCommandName::Ask) => json_of(inner).err(),
         _ => None,
     }
 }
 
 // Makes the message for such a line.
 fn told(alloc: Global, why: &'static str) -> Option<Help> {
-    let mut command = gamesman(alloc).ok()?;
+    let mut command = gamesman(alloc, true).ok()?;
     let error = command.error(ErrorKind::ValueValidation, why).ok();
     drop(command);
     Some(Help(error?))
@@ -120,7 +182,7 @@ fn told(alloc: Global, why: &'static str) -> Option<Help> {
 
 /// Returns the message of the command line about a bad line. `None` means that the line is good or that memory ran out.
 pub fn what_is_wrong(alloc: Global, words: &[&str]) -> Option<Help> {
-    match matched(alloc, words) {
+    match matched(alloc, words, true) {
         Ok(matches) => {
             let why = misfit(&matches);
             drop(matches);
@@ -131,7 +193,9 @@ pub fn what_is_wrong(alloc: Global, words: &[&str]) -> Option<Help> {
 }
 
 // Returns the text that the command line itself makes, if the line asks for one.
-fn help_of(error: Error) -> Result<Help, ReadError> {
+fn help_of(error: Error) -> Result<Help, ReadError>
+    ensures { MatchResult result (λ help. why_not (kind_of error) ≡ None) (λ why. why_not (kind_of error) ≡ Some why) }
+{
     let why = match error.kind() {
         ErrorKind::DisplayHelp | ErrorKind::DisplayVersion => return Ok(Help(error)),
         ErrorKind::OutOfMemory => ReadError::OutOfMemory,
@@ -142,8 +206,10 @@ fn help_of(error: Error) -> Result<Help, ReadError> {
 }
 
 /// Reads a line of words. The first word is the program's name.
-pub fn read_words<'a>(alloc: Global, words: &'a [&'a str]) -> Result<Reading<'a>, ReadError> {
-    match matched(alloc, words) {
+pub fn read_words<'a>(alloc: Global, words: &'a [&'a str]) -> Result<Reading<'a>, ReadError>
+    ensures { IsReadingOf (map (λ t. t.now) words.now) result }
+{
+    match matched(alloc, words, false) {
         Ok(matches) => {
             let request = request_of(&matches);
             drop(matches);

@@ -1,5 +1,11 @@
 //! Reading the options of `find`, `counts` and `ask`.
+ghost use Rattle.std.specs.Prelude.{◌≡◌, codes, is_none, option_and_then};
+ghost use Rattle.std.specs.Result.{result_ok};
+ghost use Rattle.gm_command.specs.Given.{rows_in, text_in};
+ghost use Rattle.gm_command.specs.Reading.{limit_in, counts_form_in, counts_in};
+ghost use Rattle.gm_command.specs.Searching.{value_named, is_possible, remoteness_in, sought_in, choice_in, form_in, search_in, with_word, with_words, with_nothing, split_at_commas, answer_in, ask_in};
 
+use crate::given::{has, number_in, number_or, text_in, tier_in};
 use crate::numbers::span_of;
 use crate::requests::{AskRequest, CountsRequest, Form, PositionSearch};
 use clap::ArgMatches;
@@ -10,14 +16,15 @@ use gm_game::position::Value;
 use gm_json::asked::{Asked, With};
 
 /// Returns the limit that a line gives. Without one it returns the greatest `usize`.
-pub(crate) fn limit_of(inner: &ArgMatches<'_>) -> usize {
-    match inner.get_one::<u32>("limit") {
-        Some(limit) => limit as usize,
-        None => usize::MAX,
-    }
+pub(crate) fn limit_of(inner: &ArgMatches<'_>) -> usize
+    ensures { result ≡ limit_in (rows_in inner.now) }
+{
+    number_or(inner, "limit", usize::MAX)
 }
 
-fn value_of(word: &str) -> Option<Value> {
+fn value_of(word: &str) -> Option<Value>
+    ensures { result ≡ value_named word.now }
+{
     match word {
         "win" => Some(Value::Win),
         "tie" => Some(Value::Tie),
@@ -28,7 +35,9 @@ fn value_of(word: &str) -> Option<Value> {
 }
 
 // Returns the reason why no position can have these properties, if there is one.
-fn misfit(sought: Sought) -> Option<&'static str> {
+fn misfit(sought: Sought) -> Option<&'static str>
+    ensures { is_none result ≡ is_possible sought }
+{
     let counted = sought.only_move || sought.only_fastest || sought.whole_line;
     if sought.value == Value::Draw && sought.remoteness.is_some() {
         Some("a draw has no remoteness")
@@ -48,8 +57,10 @@ fn misfit(sought: Sought) -> Option<&'static str> {
 }
 
 // Reads the span of remoteness, if the line has one.
-fn remoteness_of(inner: &ArgMatches<'_>) -> Result<Option<Span>, &'static str> {
-    let Some(text) = inner.get_str("remoteness") else {
+fn remoteness_of(inner: &ArgMatches<'_>) -> Result<Option<Span>, &'static str>
+    ensures { result_ok result ≡ remoteness_in (rows_in inner.now) }
+{
+    let Some(text) = text_in(inner, "remoteness") else {
         return Ok(None);
     };
     match span_of(text) {
@@ -63,19 +74,21 @@ fn remoteness_of(inner: &ArgMatches<'_>) -> Result<Option<Span>, &'static str> {
 /// Reads the properties that are searched for, or returns the reason why no position can have them. A draw has no remoteness. An
 /// only move goes only with win and tie, a fastest move and a whole line only with win. Moves can be distinguished by symmetry only
 /// if they are counted.
-pub(crate) fn sought_of(inner: &ArgMatches<'_>) -> Result<Sought, &'static str> {
+pub(crate) fn sought_of(inner: &ArgMatches<'_>) -> Result<Sought, &'static str>
+    ensures { result_ok result ≡ sought_in (rows_in inner.now) }
+{
     let remoteness = remoteness_of(inner)?;
-    let Some(value) = inner.get_str("value").and_then(value_of) else {
+    let Some(value) = value_in(inner) else {
         return Err("a value is win, tie, draw or lose");
     };
     let sought = Sought {
         value,
         remoteness,
-        only_move: inner.get_flag("only-move"),
-        only_fastest: inner.get_flag("only-fastest"),
-        whole_line: inner.get_flag("whole-line"),
-        distinct: inner.get_flag("distinct"),
-        min_moves: inner.get_one::<u32>("min-moves").unwrap_or(0) as usize,
+        only_move: has(inner, "only-move"),
+        only_fastest: has(inner, "only-fastest"),
+        whole_line: has(inner, "whole-line"),
+        distinct: has(inner, "distinct"),
+        min_moves: number_or(inner, "min-moves", 0),
     };
     match misfit(sought) {
         Some(why) => Err(why),
@@ -83,24 +96,35 @@ pub(crate) fn sought_of(inner: &ArgMatches<'_>) -> Result<Sought, &'static str> 
     }
 }
 
+// Returns the value that is searched for.
+fn value_in(inner: &ArgMatches<'_>) -> Option<Value>
+    ensures { result ≡ option_and_then value_named (text_in (rows_in inner.now) (codes "value")) }
+{
+    value_of(text_in(inner, "value")?)
+}
+
 // Returns which of the positions are returned: a number of them by chance, or the first up to a limit.
-fn choice_of(inner: &ArgMatches<'_>) -> Choice {
-    match inner.get_one::<u32>("random") {
+fn choice_of(inner: &ArgMatches<'_>) -> Choice
+    ensures { result ≡ choice_in (rows_in inner.now) }
+{
+    match number_in(inner, "random") {
         Some(number) => Choice::Random {
             number: number as usize,
-            seed: u64::from(inner.get_one::<u32>("seed").unwrap_or(0)),
+            seed: number_or(inner, "seed", 0) as u64,
         },
         None => Choice::First(limit_of(inner)),
     }
 }
 
 // Returns the form in which positions are written. The command line accepts at most one of these words.
-fn form_of(inner: &ArgMatches<'_>) -> Form {
-    if inner.get_flag("json") {
+fn form_of(inner: &ArgMatches<'_>) -> Form
+    ensures { result ≡ form_in (rows_in inner.now) }
+{
+    if has(inner, "json") {
         Form::Json
-    } else if inner.get_flag("page") {
+    } else if has(inner, "page") {
         Form::Sheet
-    } else if inner.get_flag("show") {
+    } else if has(inner, "show") {
         Form::Boards
     } else {
         Form::Rows
@@ -108,21 +132,25 @@ fn form_of(inner: &ArgMatches<'_>) -> Form {
 }
 
 /// Reads a line of `find`.
-pub(crate) fn search_of(inner: &ArgMatches<'_>) -> Option<PositionSearch> {
+pub(crate) fn search_of(inner: &ArgMatches<'_>) -> Option<PositionSearch>
+    ensures { result ≡ search_in (rows_in inner.now) }
+{
     Some(PositionSearch {
         sought: sought_of(inner).ok()?,
-        tier: inner.get_one::<u64>("tier"),
-        reached: inner.get_flag("reached"),
+        tier: tier_in(inner, "tier"),
+        reached: has(inner, "reached"),
         choice: choice_of(inner),
         form: form_of(inner),
     })
 }
 
 // Returns the form in which counts are written. The command line accepts at most one of these words.
-fn counts_form_of(inner: &ArgMatches<'_>) -> CountsForm {
-    if inner.get_flag("csv") {
+fn counts_form_of(inner: &ArgMatches<'_>) -> CountsForm
+    ensures { result ≡ counts_form_in (rows_in inner.now) }
+{
+    if has(inner, "csv") {
         CountsForm::Csv
-    } else if inner.get_flag("json") {
+    } else if has(inner, "json") {
         CountsForm::Json
     } else {
         CountsForm::Bars
@@ -130,22 +158,26 @@ fn counts_form_of(inner: &ArgMatches<'_>) -> CountsForm {
 }
 
 /// Reads a line of `counts`.
-pub(crate) fn counts_of(inner: &ArgMatches<'_>) -> CountsRequest {
-    let among = if inner.get_flag("legal") {
+pub(crate) fn counts_of(inner: &ArgMatches<'_>) -> CountsRequest
+    ensures { result ≡ counts_in (rows_in inner.now) }
+{
+    let among = if has(inner, "legal") {
         Among::Legal
     } else {
         Among::Canonical
     };
     CountsRequest {
         among,
-        by_tier: inner.get_flag("by-tier"),
-        reached: inner.get_flag("reached"),
+        by_tier: has(inner, "by-tier"),
+        reached: has(inner, "reached"),
         form: counts_form_of(inner),
     }
 }
 
 // Adds a word to the parts that an answer has besides a position's value and moves. Refuses an unknown word and a repeated one.
-fn with_word(with: With, word: &str) -> Option<With> {
+fn with_word(with: With, word: &str) -> Option<With>
+    ensures { result ≡ with_word «with» word.now }
+{
     match word {
         "canonical" if !with.canonical => Some(With {
             canonical: true,
@@ -165,33 +197,41 @@ fn with_word(with: With, word: &str) -> Option<With> {
 }
 
 // Reads the parts that an answer has besides a position's value and moves: words separated by commas, each once.
-fn with_of(text: &str) -> Option<With> {
+fn with_of(text: &str) -> Option<With>
+    ensures { result ≡ with_words with_nothing (split_at_commas text.now) }
+{
     let mut with = Asked::PLAIN.with;
-    for word in text.split(',') {
+    let mut rest = text;
+    while let Some((word, after)) = rest.split_once(',') {
         with = with_word(with, word)?;
+        rest = after;
     }
-    Some(with)
+    with_word(with, rest)
 }
 
 /// Reads the answer that each position gets, or returns the reason for a refusal: the words of `--with` are known ones, each once.
-pub(crate) fn json_of(inner: &ArgMatches<'_>) -> Result<Asked, &'static str> {
-    let with = match inner.get_str("with") {
+pub(crate) fn json_of(inner: &ArgMatches<'_>) -> Result<Asked, &'static str>
+    ensures { result_ok result ≡ answer_in (rows_in inner.now) }
+{
+    let with = match text_in(inner, "with") {
         Some(text) => with_of(text).ok_or(
             "the words of '--with' are canonical, parents, symmetric and best, each once, with commas between them",
         )?,
         None => Asked::PLAIN.with,
     };
     Ok(Asked {
-        values: inner.get_flag("values"),
-        distinct: inner.get_flag("distinct"),
+        values: has(inner, "values"),
+        distinct: has(inner, "distinct"),
         with,
     })
 }
 
 /// Reads a line of `ask`.
-pub(crate) fn ask_of(inner: &ArgMatches<'_>) -> Option<AskRequest> {
+pub(crate) fn ask_of(inner: &ArgMatches<'_>) -> Option<AskRequest>
+    ensures { result ≡ ask_in (rows_in inner.now) }
+{
     Some(AskRequest {
         answer: json_of(inner).ok()?,
-        ready: inner.get_flag("ready"),
+        ready: has(inner, "ready"),
     })
 }

@@ -37,9 +37,40 @@ pub(crate) struct ArgSpec {
     pub help: &'static str,
 }
 
-/// A command: its purpose, examples of it, and its words in their order.
+/// A command about one game.
+#[derive(Clone, Copy)]
+pub(crate) enum GameCommandName {
+    Solve,
+    Query,
+    Moves,
+    Why,
+    Line,
+    Show,
+    Page,
+    At,
+    Locate,
+    Find,
+    Counts,
+    Longest,
+    Ask,
+    Analyse,
+    Check,
+    Play,
+}
+
+/// A command of the program.
+#[derive(Clone, Copy)]
+pub(crate) enum CommandName {
+    List,
+    Game(GameCommandName),
+    Completions,
+    Man,
+}
+
+/// A command: its name as a type and as a word, its purpose, examples of it, and its words in their order.
 #[derive(Clone, Copy)]
 pub(crate) struct CommandSpec {
+    pub command: CommandName,
     pub name: &'static str,
     pub alias: Option<&'static str>,
     pub about: &'static str,

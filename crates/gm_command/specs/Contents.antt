@@ -1,0 +1,91 @@
+-- What a request says, as plain data.
+use Rattle.std.specs.Prelude.{ℕ, Bool, true, false, List, Option, Some, None, option_map}
+use Rattle.gm_play.specs.declared.sides.Side.{Side}
+use Rattle.gm_solver.specs.declared.plan.Plan.{Plan}
+use Rattle.gm_command.specs.declared.manual.Manual.{Manual}
+use Rattle.gm_command.specs.declared.requests.Question.{Question}
+use Rattle.gm_command.specs.declared.requests.PositionSearch.{PositionSearch}
+use Rattle.gm_command.specs.declared.requests.CountsRequest.{CountsRequest}
+use Rattle.gm_command.specs.declared.requests.AskRequest.{AskRequest}
+use Rattle.gm_command.specs.declared.requests.Telling.{Telling}
+use Rattle.gm_command.specs.declared.requests.TableLocation.{TableLocation}
+use Rattle.gm_command.specs.declared.requests.TableLocation.TheVariants.{Memory, Folder, ReadOnly}
+use Rattle.gm_command.specs.declared.requests.GameCommand.{GameCommand}
+use Rattle.gm_command.specs.declared.requests.GameCommand.TheVariants as command
+use Rattle.gm_command.specs.declared.requests.GameRequest.{GameRequest}
+use Rattle.gm_command.specs.declared.requests.Request.{Request}
+use Rattle.gm_command.specs.declared.requests.Request.TheVariants as request
+
+-- what a command about a game says
+pub data CommandContent : Type 0 where
+  solving : CommandContent
+  exploring : Option (List ℕ) → Question → CommandContent
+  filtering : Question → CommandContent
+  engine_page : Option (List ℕ) → ℕ → List ℕ → CommandContent
+  placed : ℕ → ℕ → CommandContent
+  locating : List ℕ → CommandContent
+  finding : PositionSearch → CommandContent
+  counting : CountsRequest → CommandContent
+  seeking_longest : Bool → ℕ → CommandContent
+  answering : AskRequest → CommandContent
+  analysing : CommandContent
+  checking : List ℕ → CommandContent
+  playing : Option (List ℕ) → Side → Bool → CommandContent
+  naming : CommandContent
+
+-- the numbers of a plan
+pub record PlanNumbers : Type 0 where
+  pub workers : ℕ
+  pub shards : ℕ
+  pub piece : ℕ
+  pub fastest : Bool
+
+-- what a request about a game says: the game's name, the command, the folder of the tables with whether it is only read (none: memory), the plan, and how
+-- progress is reported
+pub record GameContent : Type 0 where
+  pub game : List ℕ
+  pub command : CommandContent
+  pub kept : Option (List ℕ × Bool)
+  pub plan : PlanNumbers
+  pub progress : Telling
+
+-- what a request says
+pub data Content : Type 0 where
+  list_of_games : Bool → Content
+  about_game : GameContent → Content
+  page_of_games : List ℕ → Content
+  about_program : Manual → Content
+
+-- the same of the code's types, which have references
+abbrev pub kept_at : TableLocation → Option (List ℕ × Bool)
+kept_at Memory = None
+kept_at (Folder folder) = Some (folder.now, false)
+kept_at (ReadOnly folder) = Some (folder.now, true)
+
+abbrev pub plan_of : Plan → PlanNumbers
+plan_of plan = record { workers = plan.workers; shards = plan.shards; piece = plan.piece; fastest = plan.fastest }
+
+abbrev pub command_content : GameCommand → CommandContent
+command_content command.Solve = solving
+command_content (command.Explore position question) = exploring (option_map (λ t. t.now) position) question
+command_content (command.Filter question) = filtering question
+command_content (command.EnginePage page) = engine_page (option_map (λ t. t.now) page.position) page.limit page.engine.now
+command_content (command.At tier index) = placed tier index
+command_content (command.Locate position) = locating position.now
+command_content (command.Find search) = finding search
+command_content (command.Counts request) = counting request
+command_content (command.Longest reached limit) = seeking_longest reached limit
+command_content (command.Ask request) = answering request
+command_content command.Analyse = analysing
+command_content (command.Check folder) = checking folder.now
+command_content (command.Play play) = playing (option_map (λ t. t.now) play.position) play.first play.drawn
+command_content command.Naming = naming
+
+abbrev pub game_content : GameRequest → GameContent
+game_content r = record { game = r.game.now; command = command_content r.command; kept = kept_at r.tables; plan = plan_of r.plan; progress = r.progress }
+
+abbrev pub content_of : Request → Content
+content_of (request.List all) = list_of_games all
+content_of (request.Game game) = about_game (game_content game)
+content_of (request.AllGames engine) = page_of_games engine.now
+content_of (request.Manual manual) = about_program manual
