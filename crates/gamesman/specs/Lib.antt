@@ -15,5 +15,6 @@ pub mod Listing
 pub mod Plays
 pub mod Engines
 pub mod Answers
+pub mod Reasons
 pub mod LineRuns
 pub mod Lower

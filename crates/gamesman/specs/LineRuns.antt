@@ -9,6 +9,10 @@ use Rattle.gamesman.specs.Answers.{IsRun}
 abbrev pub bad_line : List ℕ
 bad_line = codes "gamesman: bad line\n"
 
+-- and if memory runs out before the line is read
+abbrev pub no_memory_line : List ℕ
+no_memory_line = codes "gamesman: out of memory\n"
+
 -- the words make a request, and it is answered
 pub record IsAnsweredLine (words : List (List ℕ)) (input before after : Option (List ℕ)) (status : ℕ) : Type 0 where
   pub request : Request
@@ -16,13 +20,13 @@ pub record IsAnsweredLine (words : List (List ℕ)) (input before after : Option
   pub run : IsRun request input before after status
 
 -- a line of words is run: its request is answered; or it is a bad line, this is said on standard error, and nothing is written; or it asks for help, which is
--- written, or only a part of it; or memory runs out, and nothing is written
+-- written, or only a part of it; or memory runs out, which is said, and nothing is written
 abbrev pub IsLineRun : (List ℕ → Type 0) → List (List ℕ) → Option (List ℕ) → Option (List ℕ) → Option (List ℕ) → ℕ → Type 0
 IsLineRun IsSaid words input before after status =
     IsAnsweredLine words input before after status
     ⊎ ((IsBadLine words × (status ≡ 2) × (after ≡ before) × IsSaid bad_line)
     ⊎ ((AsksForHelp words × (status ≤ 1))
-    ⊎ ((status ≡ 1) × (after ≡ before))))
+    ⊎ ((status ≡ 1) × (after ≡ before) × IsSaid no_memory_line)))
 
 -- the same of the output and the status alone
 abbrev pub IsOutputOf : List (List ℕ) → Option (List ℕ) → Option (List ℕ) → Option (List ℕ) → ℕ → Type 0

@@ -5,51 +5,68 @@ use gm_json::ask_error::AskError;
 use gm_play::session_error::SessionError;
 use gm_tiers::tier_error::TierError;
 use std::alloc::AllocError;
+use std::fmt::{self, Display};
 use std::io::{self, ErrorKind};
-use thiserror::Error;
 
 /// A refusal, with the words that the program prints for it.
-#[derive(Debug, Drop, Error)]
+#[derive(Debug, Drop)]
 pub enum Fault {
-    #[error("no such game")]
     NoSuchGame,
-    #[error("no such position")]
     NoSuchPosition,
     /// This line of the input, counted from 1, is not the text of a position.
-    #[error("no such position in line {line}")]
     NoSuchPositionInLine { line: u64 },
-    #[error("no such tier {tier}")]
     NoSuchTier { tier: u64 },
-    #[error("no such index {index} in tier {tier}")]
     NoSuchIndex { tier: u64, index: u64 },
     /// The index is not that of a legal position.
-    #[error("index {index} of tier {tier} is no position")]
     NotLegal { tier: u64, index: u64 },
     /// The position with this index is legal but not canonical.
-    #[error("index {index} of tier {tier} is not canonical")]
     NotCanonical { tier: u64, index: u64 },
-    #[error("out of memory")]
     OutOfMemory(AllocError),
-    #[error("{0}")]
-    NotBuilt(#[from] BuildError),
+    NotBuilt(BuildError),
     /// The file of a tier is an intact one of another game. It is not overwritten.
-    #[error("tier {tier} is another game's")]
     AnotherGames { tier: u64 },
-    #[error("input failed")]
     InputFailed,
-    #[error("output failed")]
     OutputFailed,
     /// The reader has closed the output: nothing more is printed.
-    #[error("output closed")]
     OutputClosed,
-    #[error("too much input")]
     TooMuchInput,
     /// There is no ordinary file with the engine's path, or it can't be read.
-    #[error("engine not read")]
     EngineNotRead,
     /// The file has other bytes than digits of base64 and one line end, no digit, or more than `ENGINE_LEN` bytes.
-    #[error("file is no engine")]
     NotAnEngine,
+}
+
+impl Display for Fault {
+    ghost use Rattle.gamesman.specs.Reasons.{words_for};
+
+    ghost output = { words_for };
+
+    fn fmt<W: fmt::Write>(&self, f: &mut fmt::Formatter<W>) -> fmt::Result {
+        match self {
+            Fault::NoSuchGame => write!(f, "no such game"),
+            Fault::NoSuchPosition => write!(f, "no such position"),
+            Fault::NoSuchPositionInLine { line } => write!(f, "no such position in line {line}"),
+            Fault::NoSuchTier { tier } => write!(f, "no such tier {tier}"),
+            Fault::NoSuchIndex { tier, index } => write!(f, "no such index {index} in tier {tier}"),
+            Fault::NotLegal { tier, index } => write!(
+                f,
+                "index {index} of tier {tier} is no position"
+            ),
+            Fault::NotCanonical { tier, index } => write!(
+                f,
+                "index {index} of tier {tier} is not canonical"
+            ),
+            Fault::OutOfMemory(_) => write!(f, "out of memory"),
+            Fault::NotBuilt(error) => write!(f, "{error}"),
+            Fault::AnotherGames { tier } => write!(f, "tier {tier} is another game's"),
+            Fault::InputFailed => write!(f, "input failed"),
+            Fault::OutputFailed => write!(f, "output failed"),
+            Fault::OutputClosed => write!(f, "output closed"),
+            Fault::TooMuchInput => write!(f, "too much input"),
+            Fault::EngineNotRead => write!(f, "engine not read"),
+            Fault::NotAnEngine => write!(f, "file is no engine"),
+        }
+    }
 }
 
 impl From<AllocError> for Fault {

@@ -1,10 +1,11 @@
 //! Running a line of words, from the program's name to the exit status.
-ghost use Rattle.std.specs.Prelude.{◌≡◌, map, IfOk};
+ghost use Rattle.std.specs.Prelude.{◌≡◌, map, IfOk, IfSome};
 ghost use Rattle.gamesman.specs.Lower.{AppendsPart};
 ghost use Rattle.gamesman.specs.Told.{IsPut};
 ghost use Rattle.gamesman.specs.Listing.{listed};
 ghost use Rattle.gamesman.specs.Answers.{IsDone, IsRun};
 ghost use Rattle.gamesman.specs.LineRuns.{IsLineRun, bad_line};
+ghost use Rattle.gamesman.specs.Reasons.{line_for};
 
 use crate::engine::page_of_games;
 use crate::fault::Fault;
@@ -13,12 +14,13 @@ use crate::host::Host;
 use crate::output::{put, put_all};
 use crate::reasons::advise;
 use crate::tables::BuildOptions;
-use gm_build::whole_line::{FaultLine, write_line};
+use arrayvec::ArrayString;
 use gm_command::manual::{Manual, manual_text};
 use gm_command::names::{LISTED, LISTED_LATER, game_named};
 use gm_command::reading::{Help, ReadError, read_words, what_is_wrong};
 use gm_command::requests::{Reading, Request};
 use std::alloc::{AllocError, Global};
+use std::fmt::Write as _;
 use std::io::{Read, Write};
 
 /// The status of a command that is done.
@@ -29,6 +31,9 @@ pub const REFUSED: u8 = 1;
 
 /// The status of a line that the program doesn't know.
 pub const BAD_LINE: u8 = 2;
+
+// More bytes than the line of any fault has: two numbers of twenty digits and the words between them.
+const LINE: usize = 192;
 
 fn list<O: Write>(all: bool, output: &mut O) -> Result<u8, Fault>
     ensures { IsPut (listed all) (O.contents output.old) (O.contents output.new) result }
@@ -79,13 +84,28 @@ fn answer<R: Host, I: Read, O: Write, E: Write + Send>(
     }
 }
 
-/// Reports on standard error why a line was refused. If this write fails nothing more is written, but the status still shows the
-/// refusal.
-pub fn refused<E: Write>(fault: &Fault, errors: &mut E) -> u8
-    ensures { result ≡ REFUSED }
+// Returns the line of a fault; nothing if it is too long, which that of no fault is.
+fn fault_line(fault: &Fault) -> Option<ArrayString<LINE>>
+    ensures { IfSome result (λ line. IfSome (line_for fault.now) (λ text. line.bytes ≡ text)) }
 {
-    if !matches!(fault, Fault::OutputClosed) {
-        let _ = write_line(errors, &FaultLine { fault });
+    let mut line = ArrayString::new();
+    match writeln!(line, "gamesman: {fault}") {
+        Ok(()) => Some(line),
+        Err(_) => None,
+    }
+}
+
+/// Reports on standard error why a line was refused. If this write fails nothing more is written, but the status still shows the
+/// refusal. Nothing is reported if the output was closed.
+pub fn refused<E: Write>(fault: &Fault, errors: &mut E) -> u8
+    ensures status { result ≡ REFUSED }
+    ensures said { IfSome (line_for fault.now) (AppendsPart (E.contents errors.old) (E.contents errors.new)) }
+{
+    if matches!(fault, Fault::OutputClosed) {
+        return REFUSED;
+    }
+    if let Some(line) = fault_line(fault) {
+        let _ = put(errors, line.as_bytes());
     }
     REFUSED
 }
