@@ -1,0 +1,3 @@
+pub mod DominoRules
+pub mod KaylesRules
+pub mod laws

@@ -1,0 +1,11 @@
+use Rattle.std.specs.Prelude.{◌-◌, ◌≤◌}
+use Rattle.gm_patterns.specs.Lower.{AreHoles}
+use Rattle.gm_patterns.specs.PatternGames.{pattern_rules}
+use Rattle.gm_patterns.proofs.on_patterns.PatternMovesMoveLists.first_board.Given as goal
+
+abbrev pub invariant-loop-index : goal.invariant-loop-index
+invariant-loop-index g l =
+    record { low : l.fn.lo ≤ l.index; holes : AreHoles (pattern_rules g.row.CELLS g.T.PatternRules.game) l.fn.tier l.fn.lo l.index }
+
+abbrev pub decreases-loop-index : goal.decreases-loop-index
+decreases-loop-index g l = l.end - l.index

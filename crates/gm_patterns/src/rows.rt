@@ -1,0 +1,109 @@
+//! Tables of steps and of patterns, for constants: the rows are those of specs/Steps.antt by their cells, and those of specs/Patterns.antt by the masks of theirs.
+
+/// Writes an array of rows. Rows of one kind are listed after its name: `table![slide 3 0, 4 1; capture 4 0]`, `table![theirs_on 0b11, 0b110]`.
+#[macro_export]
+macro_rules! table {
+    ($($kind:ident $($($word:literal)+),+);+) => {
+        [$($($crate::row!($kind $($word)+)),+),+]
+    };
+}
+
+/// Writes a row of a table.
+#[macro_export]
+macro_rules! row {
+    (empty_on $cells:expr) => {
+        $crate::row!(pattern 0, $cells, $cells)
+    };
+    (mine_on $cells:expr) => {
+        $crate::row!(pattern $cells, 0, $cells)
+    };
+    (theirs_on $cells:expr) => {
+        $crate::row!(pattern $cells, $cells, 0)
+    };
+    (taken_on $cells:expr) => {
+        $crate::row!(pattern $cells, 0, 0)
+    };
+    (not_mine_on $cells:expr) => {
+        $crate::row!(pattern 0, $cells, 0)
+    };
+    (not_theirs_on $cells:expr) => {
+        $crate::row!(pattern 0, 0, $cells)
+    };
+    (masks $not_empty:literal $not_mine:literal $not_theirs:literal) => {
+        $crate::row!(pattern $not_empty, $not_mine, $not_theirs)
+    };
+    (pattern $not_empty:expr, $not_mine:expr, $not_theirs:expr) => {
+        $crate::pattern::Pattern {
+            not_empty: $not_empty,
+            not_mine: $not_mine,
+            not_theirs: $not_theirs,
+        }
+    };
+    (place $k:literal) => {
+        $crate::row!(cover $k $k)
+    };
+    (stack $k:literal $below:literal) => {
+        $crate::step::Step {
+            from: $k,
+            to: $k,
+            before: $crate::row!(pattern 1 << $below, 1 << $k, 1 << $k),
+            after: $crate::row!(mine_on 1 << $k),
+        }
+    };
+    (cover $a:literal $c:literal) => {
+        $crate::step::Step {
+            from: $a,
+            to: $c,
+            before: $crate::row!(empty_on 1 << $a | 1 << $c),
+            after: $crate::row!(mine_on 1 << $a | 1 << $c),
+        }
+    };
+    (take $a:literal $c:literal) => {
+        $crate::step::Step {
+            from: $a,
+            to: $c,
+            before: $crate::row!(mine_on 1 << $a | 1 << $c),
+            after: $crate::row!(empty_on 1 << $a | 1 << $c),
+        }
+    };
+    (slide $a:literal $c:literal) => {
+        $crate::step::Step {
+            from: $a,
+            to: $c,
+            before: $crate::row!(pattern 1 << $a, 1 << $c, 1 << $a | 1 << $c),
+            after: $crate::row!(pattern 1 << $c, 1 << $a, 1 << $a | 1 << $c),
+        }
+    };
+    (capture $a:literal $c:literal) => {
+        $crate::step::Step {
+            from: $a,
+            to: $c,
+            before: $crate::row!(pattern 1 << $a | 1 << $c, 1 << $c, 1 << $a),
+            after: $crate::row!(pattern 1 << $c, 1 << $a, 1 << $a | 1 << $c),
+        }
+    };
+    (jump $a:literal $m:literal $c:literal) => {
+        $crate::step::Step {
+            from: $a,
+            to: $c,
+            before: $crate::row!(pattern 1 << $a | 1 << $m, 1 << $m | 1 << $c, 1 << $a | 1 << $c),
+            after: $crate::row!(pattern 1 << $c, 1 << $a | 1 << $m, 1 << $a | 1 << $m | 1 << $c),
+        }
+    };
+    (hop $a:literal $m:literal $c:literal) => {
+        $crate::step::Step {
+            from: $a,
+            to: $c,
+            before: $crate::row!(pattern 1 << $a | 1 << $m, 1 << $m | 1 << $c, 1 << $a | 1 << $c),
+            after: $crate::row!(pattern 1 << $c, 1 << $a, 1 << $a | 1 << $c),
+        }
+    };
+    (vault $a:literal $m:literal $c:literal) => {
+        $crate::step::Step {
+            from: $a,
+            to: $c,
+            before: $crate::row!(pattern 1 << $a | 1 << $m | 1 << $c, 1 << $c, 1 << $a | 1 << $m),
+            after: $crate::row!(pattern 1 << $c, 1 << $a, 1 << $a | 1 << $c),
+        }
+    };
+}

@@ -1,0 +1,4 @@
+pub mod RowRules
+pub mod HexRules
+pub mod SimRules
+pub mod laws

@@ -1,0 +1,63 @@
+-- The rules of games of rows: on a square of side s the players place pieces by turns, and a line of one side's pieces ends the game.
+use Rattle.std.specs.Prelude.{ℕ, ◌+◌, ◌-◌, ◌*◌, ◌==◌, ◌||◌, Bool, true, false, List, [], ◌∷◌, ◌++◌, map, replicate, codes, if◌then◌else◌, None}
+use Rattle.std.specs.List.{range_with_len}
+use Rattle.gm_board.specs.Squares.{square_symmetries}
+use Rattle.gm_board.specs.declared.cell.Cell.TheVariants.{Empty}
+use Rattle.gm_draw.specs.Points.{square_points}
+use Rattle.gm_game.specs.declared.position.End.TheVariants.{Win, Tie}
+use Rattle.gm_patterns.specs.Patterns.{mine_on, theirs_on}
+use Rattle.gm_patterns.specs.Steps.{place}
+use Rattle.gm_patterns.specs.PatternGames.{PatternGame}
+use Rattle.gm_patterns.specs.declared.rules.Tiers.TheVariants.{Placed, Common}
+
+-- the cells from one on, each so many after the last
+abbrev pub run : ℕ → ℕ → ℕ → List ℕ
+run s first step = map (λ k. first + step * k) (range_with_len 0 s)
+
+-- the rows, the columns and the two diagonals
+abbrev pub lines : ℕ → List (List ℕ)
+lines s =
+    map (λ k. run s (s * k) 1) (range_with_len 0 s)
+    ++ map (λ k. run s k s) (range_with_len 0 s)
+    ++ run s 0 (s + 1) ∷ run s (s - 1) (s - 1) ∷ []
+
+-- the game on a square of side s: the player who has made a line has won, or in misere play has lost; a full board without a line is a tie
+abbrev pub rows_with : List ℕ → ℕ → Bool → PatternGame
+rows_with name s misere = record {
+  name = name;
+  start = replicate (s * s) Empty;
+  names = square_points s;
+  numbers = λ mine theirs. mine == theirs || mine + 1 == theirs;
+  over = λ mine theirs. None;
+  tiers = Placed;
+  adds = true;
+  phase = λ pieces. 0;
+  phases = map place (range_with_len 0 (s * s)) ∷ [];
+  swapped = true;
+  turn = None;
+  forbidden = map mine_on (lines s);
+  lost = if misere then [] else map theirs_on (lines s);
+  won = if misere then map theirs_on (lines s) else [];
+  tied = [];
+  stuck = Tie;
+  symmetries = square_symmetries s;
+}
+
+-- Tic-tac-toe in which a line loses
+abbrev pub tictactoe_misere : PatternGame
+tictactoe_misere = rows_with (codes "tictactoe-misere") 3 true
+
+-- Tic-tac-toe on four by four: a line of four wins
+abbrev pub tictactoe_four : PatternGame
+tictactoe_four = rows_with (codes "tictactoe-4" ++ replicate 5 0) 4 false
+
+-- Notakto: the pieces belong to both players, and the player who makes a line loses
+abbrev pub notakto : PatternGame
+notakto = record (rows_with (codes "notakto" ++ replicate 9 0) 3 true) {
+  numbers = λ mine theirs. theirs == 0;
+  tiers = Common;
+  swapped = false;
+  forbidden = [];
+  won = map mine_on (lines 3);
+  stuck = Win;
+}

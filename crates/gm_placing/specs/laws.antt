@@ -1,0 +1,2 @@
+-- What follows from the rules.
+pub mod PlacingTables

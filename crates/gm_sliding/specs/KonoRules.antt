@@ -1,0 +1,55 @@
+-- The rules of Four Field Kono: sixteen cells, four rows from the top, each from left to right.
+use Rattle.std.specs.Prelude.{ℕ, ◌+◌, ◌-◌, ◌/◌, ◌%◌, ◌==◌, ◌&&◌, ◌||◌, nat_le, nat_lt, Bool, true, false, List, [], ◌∷◌, ◌++◌, map, replicate, codes, if◌then◌else◌, None, Some}
+use Rattle.std.specs.List.{filter, flat_map, range_with_len}
+use Rattle.gm_board.specs.Squares.{square_symmetries}
+use Rattle.gm_board.specs.declared.cell.Cell.TheVariants.{Mine, Theirs}
+use Rattle.gm_draw.specs.Points.{square_points}
+use Rattle.gm_game.specs.declared.position.End.TheVariants.{Lose}
+use Rattle.gm_patterns.specs.Steps.{slide, vault}
+use Rattle.gm_patterns.specs.PatternGames.{PatternGame}
+use Rattle.gm_patterns.specs.declared.rules.Tiers.TheVariants.{Sides}
+use Rattle.gm_patterns.specs.declared.step.Step.{Step}
+
+-- how far two numbers are from each other
+abbrev pub distance : ℕ → ℕ → ℕ
+distance x y = (x - y) + (y - x)
+
+-- whether one cell is so many cells from another in its row or its column
+abbrev pub are_apart_by : ℕ → ℕ → ℕ → Bool
+are_apart_by d a c =
+    (a / 4 == c / 4 && distance (a % 4) (c % 4) == d) || (a % 4 == c % 4 && distance (a / 4) (c / 4) == d)
+
+-- the cells
+abbrev pub cells : List ℕ
+cells = range_with_len 0 16
+
+-- a man goes to a free cell beside its own
+abbrev pub slides : List Step
+slides = flat_map (λ a. map (slide a) (filter (are_apart_by 1 a) cells)) cells
+
+-- or over a man of its own side beside it onto a man of the opponent's behind that, which it takes
+abbrev pub vaults : List Step
+vaults = flat_map (λ a. map (λ c. vault a ((a + c) / 2) c) (filter (are_apart_by 2 a) cells)) cells
+
+-- the game: eight men a side fill two rows each; a side with fewer than two men has lost, and so has one that can't move. The opponent has two men at least, as when
+-- he moved, and the mover has one at least
+abbrev pub kono : PatternGame
+kono = record {
+  name = codes "kono" ++ replicate 12 0;
+  start = replicate 8 Theirs ++ replicate 8 Mine;
+  names = square_points 4;
+  numbers = λ mine theirs. (nat_lt 0 mine && nat_le mine 8) && (nat_lt 1 theirs && nat_le theirs 8);
+  over = λ mine theirs. if nat_lt mine 2 then Some Lose else None;
+  tiers = Sides;
+  adds = false;
+  phase = λ pieces. 0;
+  phases = (slides ++ vaults) ∷ [];
+  swapped = true;
+  turn = None;
+  forbidden = [];
+  lost = [];
+  won = [];
+  tied = [];
+  stuck = Lose;
+  symmetries = square_symmetries 4;
+}

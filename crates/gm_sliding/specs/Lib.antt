@@ -1,0 +1,6 @@
+pub mod HexapawnRules
+pub mod NineRules
+pub mod ClobberRules
+pub mod KonoRules
+pub mod ToadsRules
+pub mod laws
