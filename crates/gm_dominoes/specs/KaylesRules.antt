@@ -1,5 +1,5 @@
 -- The rules of Kayles on a row of twelve pins: a cell has a pin, a piece that belongs to both players, or it is free.
-use Rattle.std.specs.Prelude.{◌+◌, ◌-◌, ◌==◌, false, List, [], ◌∷◌, ◌++◌, map, replicate, reverse, codes, None}
+use Rattle.std.specs.Prelude.{◌+◌, ◌==◌, false, List, [], ◌∷◌, ◌++◌, map, replicate, reverse, codes, None}
 use Rattle.std.specs.List.{range_with_len}
 use Rattle.gm_board.specs.declared.cell.Cell.TheVariants.{Mine}
 use Rattle.gm_game.specs.declared.position.End.TheVariants.{Lose}

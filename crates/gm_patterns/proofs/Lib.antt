@@ -1,1 +1,2 @@
 pub mod ChildSteps
+mod PastSteps

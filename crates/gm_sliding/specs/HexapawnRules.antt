@@ -1,5 +1,5 @@
 -- The rules of Hexapawn: a board has nine cells, three rows from the top, each from left to right. The mover's men go up.
-use Rattle.std.specs.Prelude.{ℕ, ◌+◌, ◌-◌, ◌*◌, ◌/◌, ◌%◌, ◌&&◌, nat_le, nat_lt, true, false, List, [], ◌∷◌, ◌++◌, map, replicate, reverse, codes, None, Some}
+use Rattle.std.specs.Prelude.{◌+◌, ◌-◌, ◌*◌, ◌/◌, ◌%◌, ◌&&◌, nat_le, nat_lt, true, false, List, [], ◌∷◌, ◌++◌, map, replicate, reverse, codes, None, Some}
 use Rattle.std.specs.List.{filter, range_with_len}
 use Rattle.gm_board.specs.declared.cell.Cell.TheVariants.{Empty, Mine, Theirs}
 use Rattle.gm_draw.specs.Points.{square_points}

@@ -1,6 +1,6 @@
 -- Moves of a game of patterns: where they lead, how they are taken back, and moves of images.
 use Rattle.std.specs.Prelude.{◌≡◌, ◌<◌, ◌&&◌, ◌||◌, ◌==◌, nat_lt, ◌⊎◌, None}
-use Rattle.gm_pieces.specs.Common.{ℕ, Bool, true, false, eqb, eqb-true, List, length, get_or, refl, sym, ap, ap₂, ◌∙◌, subst, arith, inl, inr}
+use Rattle.gm_pieces.specs.Common.{ℕ, Bool, true, false, eqb, eqb-true, List, length, get_or, refl, sym, ap, ap₂, ◌∙◌, subst, inl, inr}
 use Rattle.gm_pieces.specs.Common.{cases_Bool, true≢false, false_from_ne_true, or_cases, Contains, list_any, all_at, any_at, and_left, and_right}
 use Rattle.gm_pieces.specs.Common.{and_both, has_cell, Cell, Empty, cell_at, is_mine}
 use Rattle.gm_pieces.specs.Common.{is_theirs, number_of, permute, group_permutation, IsMove}

@@ -1,9 +1,9 @@
 -- Texts are plain, fit a line, and tell positions and moves apart.
 use Rattle.std.specs.Prelude.{◌≡◌, ◌<◌, ◌≤◌, ◌∷◌, ◌++◌, if◌then◌else◌}
-use Rattle.gm_pieces.specs.Common.{ℕ, Bool, true, false, eqb, eqb-true, eq-eqb, ltb-true, leb-true, List, [], length, get_or, refl, sym, ◌∙◌, arith, inl, inr}
+use Rattle.gm_pieces.specs.Common.{ℕ, Bool, true, false, eqb, eqb-true, eq-eqb, leb-true, List, [], length, get_or, refl, sym, ◌∙◌, arith, inl, inr}
 use Rattle.gm_pieces.specs.Common.{cases_Bool, cases_eq, cases_lt, cond-true, cond-false, Contains-get_or, list_all, all_at, and_left, and_right, and_both, suc, zero}
 use Rattle.gm_pieces.specs.Common.{IsPlain, IsShown, plain_append, board_text, text_length, text_once, text_plain, AreTexts, texts_are_shown}
-use Rattle.gm_pieces.specs.Common.{Cell, not, not-true, true≢false, any_from, list_any, length-append, subst, ap, ap₂}
+use Rattle.gm_pieces.specs.Common.{Cell, not, not-true, true≢false, any_from, list_any, length-append, ap, ap₂}
 use Rattle.gm_draw.specs.Points.{are_apart}
 use Rattle.std.specs.Str.{bytes_eq}
 use Rattle.std.proofs.lemmas.Slice.Eq.{bytes_eq-Decides}
