@@ -1,7 +1,9 @@
 """Solved games beside looking ahead by the definitions, which knows no table (`drill ahead`)."""
+import csv
 import os
 import re
 import subprocess
+from collections import Counter
 
 from common import DRILL, GAMESMAN
 
@@ -17,19 +19,30 @@ def told(*words):
 
 
 def tiers(game, folder, moves):
-    """For each tier its positions, those whose value looking ahead finds, and those for which it finds another."""
+    """For each tier its number, its positions, those whose value looking ahead finds, and those for which it finds another."""
     lines = told(DRILL, "ahead", game, str(moves), folder)
-    return [tuple(map(int, re.findall(r": (\d+) positions, (\d+) known, (\d+) wrong$", line)[0])) for line in lines.splitlines()]
+    return [tuple(map(int, re.findall(r"^tier (\d+): (\d+) positions, (\d+) known, (\d+) wrong$", line)[0])) for line in lines.splitlines()]
+
+
+def decided(game, folder, moves):
+    """For each tier how many canonical positions are won or lost within so many moves: looking ahead has to find at least these."""
+    text = told(GAMESMAN, "counts", game, "--by-tier", "--csv", "--folder", folder, "--read-only")
+    found = Counter()
+    for row in csv.DictReader(text.splitlines()):
+        if row["value"] in ("win", "lose") and int(row["remoteness"]) <= moves:
+            found[int(row["tier"])] += int(row["positions"])
+    return found
 
 
 def agrees(room, game, moves):
     """Why the values of a game's canonical positions differ from looking so many moves ahead, if they do."""
     folder = room.fresh()
     told(GAMESMAN, "solve", game, folder)
-    found = tiers(game, folder, moves)
-    if len(found) != len(os.listdir(folder)) or not all(known for _, known, _ in found[:1]):
+    found, least = tiers(game, folder, moves), decided(game, folder, moves)
+    if len(found) != len(os.listdir(folder)) or not any(least.values()):
         return f"not all tiers are compared: {found}"
-    return next((f"tier {number} in the order: {wrong} positions differ" for number, (_, _, wrong) in enumerate(found) if wrong), None)
+    few = [f"tier {tier}: {known} positions are known, and {least[tier]} are decided" for tier, _, known, _ in found if known < least[tier]]
+    return next((f"tier {tier}: {wrong} positions differ" for tier, _, _, wrong in found if wrong), few[0] if few else None)
 
 
 def within_on_tictactoe(room):
@@ -65,7 +78,7 @@ def low_tiers(room, game, value):
     if found != f"{value}\n":
         return f"the row: {found!r}"
     compared = tiers(game, folder, 4)
-    if len(compared) != 6 or any(wrong for _, _, wrong in compared) or any(known != positions for positions, known, _ in compared[:5]):
+    if len(compared) != 6 or any(wrong for *_, wrong in compared) or any(known != positions for _, positions, known, _ in compared[:5]):
         return f"{compared}"
     return None
 

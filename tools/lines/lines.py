@@ -16,6 +16,10 @@ NOBODY_READS, CLOSED = os.pipe()
 os.close(NOBODY_READS)
 
 
+class LeftOut(Exception):
+    """Why a part is not run on this machine."""
+
+
 class Line:
     """A command line: its words, what it reads, and what has to come of it. What is None is not looked at."""
 

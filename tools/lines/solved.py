@@ -1,5 +1,5 @@
-"""All legal positions of the games up to Achi, of Mu Torere, Hare and Hounds, the chess endings and each crate with rules for it beside an independent solver
-(tools/solver), a process for each game."""
+"""All legal positions of the toys, the games up to Achi, Mu Torere, Hare and Hounds, the chess endings and each crate with rules for it beside an independent
+solver (tools/solver), a process for each game."""
 import glob
 import json
 import os
@@ -20,7 +20,7 @@ def games_of_crates():
 
 
 GAMES_BESIDE = (
-    "countdown wheel tactix-1 tactix-2 tactix-3 tactix-4 tactix-1-misere tactix-2-misere tactix-3-misere tactix-4-misere"
+    "countdown wheel takeaway tactix-1 tactix-2 tactix-3 tactix-4 tactix-1-misere tactix-2-misere tactix-3-misere tactix-4-misere"
     " tictactoe threemens achi mutorere hare krk kqk"
 ).split()
 GAMES_BESIDE += games_of_crates()

@@ -11,6 +11,7 @@ import shutil
 import subprocess
 
 from common import GAMESMAN, SECONDS
+from lines import LeftOut
 
 STRACE = "strace"
 
@@ -61,7 +62,10 @@ def wrong(room, game, workers, piece):
 
 
 def first_wrong(room, *cases):
-    return next((why for case in cases if (why := wrong(room, *case))), None) if can_trace() else None
+    """What is wrong with the first of these cases that is not right. If nothing can be traced, the part is left out, and says so."""
+    if not can_trace():
+        raise LeftOut("strace is not here, or may not follow a process")
+    return next((why for case in cases if (why := wrong(room, *case))), None)
 
 
 def workers_of_hare(room):
@@ -74,7 +78,7 @@ def workers_of_achi(room):
 
 def workers_of_dao(room):
     why = first_wrong(room, ("dao", 1, 64))
-    if why or not can_trace():
+    if why:
         return why
     few, many = (started(room, "dao", 4, piece) for piece in (4096, 64))
     more = wanted("dao", TIERS["dao"], 4, 64) - wanted("dao", TIERS["dao"], 4, 4096)

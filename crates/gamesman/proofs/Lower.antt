@@ -63,7 +63,7 @@ pub use Rattle.gm_play.specs.Sessions.{AppendsPart}
 pub use Rattle.gm_table.specs.Tables.{AreTables, Inserts, IsHeld, TableData, table_of}
 pub use Rattle.gm_tiers.specs.Orders.{IsOrderFrom, IsTierOrder}
 pub use Rattle.gm_tiers.specs.Reach.{IsReached, IsReachedFrom}
-pub use Rattle.std.proofs.Common.{Bool, Err, IfErr, IfOk, IfSome, List, None, Ok, OnErr, Option, Result, Some, [], ap, append-nil, append_assoc, ap₂, arith}
+pub use Rattle.std.proofs.Common.{Bool, Err, IfErr, IfOk, IfSome, IsTrue, List, None, Ok, OnErr, Option, Result, Some, [], ap, append-nil, append_assoc, ap₂, arith}
 pub use Rattle.std.proofs.Common.{drop, drop-cons, eq-eqb, eqb-true, false, get_or, inl, inr, length, map, nat_eq, refl, rules, subst, suc, sym, take, take-add}
 pub use Rattle.std.proofs.Common.{take-append-drop, true, zero, ℕ, ◌++◌, ◌+◌, ◌-◌, ◌<◌, ◌∙◌, ◌∷◌, ◌≡◌, ◌≤◌, ◌⊎◌}
 pub use Rattle.std.proofs.KnownBytes.{Appends-kept, Appends-nil, Appends-trans, Consumes-nil, Consumes-trans, Keeps-refl, prepend_known-nil}

@@ -1,6 +1,6 @@
 -- The answer of each command.
 use Rattle.std.specs.Prelude.{◌≡◌, ℕ, List, Option, None, Some, Result, Ok, Err, IfErr}
-use Rattle.gamesman.specs.Lower.{Bor, Keeps, option_map, Position, Rules, IsNoPosition, IsPlaceText, IsUnlocated, game_of_name, Question, Request, GameCommand}
+use Rattle.gamesman.specs.Lower.{Bor, Keeps, option_map, unknown_texts, Position, Rules, IsNoPosition, IsPlaceText, IsUnlocated, game_of_name, Question, Request, GameCommand}
 use Rattle.gm_command.specs.declared.requests.Request.TheVariants.{List as Names, Game, AllGames}
 use Rattle.gm_command.specs.declared.requests.GameCommand.TheVariants.{Solve, Explore, Filter, EnginePage, At, Locate, Find, Counts, Longest, Ask, Analyse}
 use Rattle.gm_command.specs.declared.requests.GameCommand.TheVariants.{Check, Play}
@@ -71,7 +71,7 @@ IsAnswered g (Longest reached limit) input before after result =
 IsAnswered g (Ask request) input before after result =
     IsAskedBy g.rules g.shown g.move_shown request (IsUnsearched g.rules None) input before after result
 IsAnswered g Analyse input before after result = IsAnalysedBy g.rules before after result
-IsAnswered g (Check folder) input before after result = IsCheckedBy g.rules before after result
+IsAnswered g (Check folder) input before after result = IsCheckedBy g.rules unknown_texts before after result
 IsAnswered g (Play request) input before after result = IsPlayed g.rules g.shown g.move_shown g.picture request input before after result
 IsAnswered g _ input before after result = Unit {0}
 

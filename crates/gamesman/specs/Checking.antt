@@ -1,10 +1,12 @@
 -- The output of `check` on the files of a game.
-use Rattle.std.specs.Prelude.{◌≡◌, ℕ, ◌⊎◌, List, [], ◌∷◌, ◌++◌, codes, Option, None, Some, Result, Ok, Err}
+use Rattle.std.specs.Prelude.{◌≡◌, ℕ, ◌⊎◌, List, [], ◌∷◌, ◌++◌, codes, Option, None, Some, IsTrue, Result, Ok, Err}
 use Rattle.gamesman.specs.Lower.{IsErrAnd, decimal, Keeps, Appends, Rules, TableData, AreTables, AreHeld, IsTierOrder, FileError, Refuses, IsTrueText}
-use Rattle.gamesman.specs.Lower.{IsUntrueText, StoreFailed, HoldsExactly, AppendsPart}
+use Rattle.gamesman.specs.Lower.{IsUntrueText, StoreFailed, HoldsExactly, AppendsPart, StoreView}
 use Rattle.gm_table.specs.declared.checker.CheckError.TheVariants.{OutOfMemory as NoRoom, WrongSize, WrongRecord}
 use Rattle.gm_tierdb.specs.declared.file_error.FileError.TheVariants.{OutOfMemory, Truncated, BadMagic, WrongGame, WrongTier, WrongSize as OtherSize, BadRecord}
 use Rattle.gm_tierdb.specs.declared.file_error.FileError.TheVariants.{Trailing, BadDigest, OldVersion}
+use Rattle.gm_build.specs.declared.inspect.Inspected.{Inspected}
+use Rattle.gm_build.specs.declared.inspect.Inspected.TheVariants.{Right as Found, Missing as Absent, NoFile as BadFile, NoTable as BadTable}
 use Rattle.gamesman.specs.declared.fault.Fault.{Fault}
 use Rattle.gamesman.specs.declared.fault.Fault.TheVariants.{NotBuilt}
 use Rattle.gamesman.specs.declared.finding.Finding.{Finding}
@@ -40,7 +42,7 @@ finding_words (NoTable NoRoom) = codes "bad: wrong size"
 abbrev pub finding_line : ℕ → Finding → List ℕ
 finding_line tier finding = ((codes "tier " ++ decimal tier) ++ codes " ") ++ finding_words finding ++ codes "\n"
 
-module _ (r : Rules) (entries : List TableData) (tier : ℕ) where
+module _ (r : Rules) (entries : List TableData) (store : StoreView) (tier : ℕ) where
   -- the finding on these bytes, over the tables of the child tiers
   abbrev pub IsFoundIn : List ℕ → Finding → Type 0
   IsFoundIn bytes Right = IsTrueText r tier bytes
@@ -54,9 +56,28 @@ module _ (r : Rules) (entries : List TableData) (tier : ℕ) where
   IsFoundOf None finding = finding ≡ Missing
   IsFoundOf (Some bytes) finding = IsFoundIn bytes finding
 
+  -- these are the tier's bytes, if the reads of the store are promised
+  abbrev pub IsReadOf : Option (List ℕ) → Type 0
+  IsReadOf read = IsTrue store.is_read → read ≡ store.texts tier
+
   -- the finding on a tier's file, which is read exactly if the tables of all child tiers are held
   abbrev pub IsFinding : Finding → Type 0
-  IsFinding finding = ((finding ≡ NotChecked) × (AreHeld r entries tier → ⊥)) ⊎ (AreHeld r entries tier × ((read : Option (List ℕ)) × IsFoundOf read finding))
+  IsFinding finding =
+      ((finding ≡ NotChecked) × (AreHeld r entries tier → ⊥)) ⊎ (AreHeld r entries tier × ((read : Option (List ℕ)) × IsReadOf read × IsFoundOf read finding))
+
+-- the finding for what an entry is found to be
+abbrev pub finding_for : {G : Type 0} → Inspected G → Finding
+finding_for (Found table) = Right
+finding_for Absent = Missing
+finding_for (BadFile why) = NoFile why
+finding_for (BadTable why) = NoTable why
+
+-- the table that was found, if the entry is right
+abbrev pub table_found : {G : Type 0} → Inspected G → Option TableData
+table_found (Found table) = Some table
+table_found Absent = None
+table_found (BadFile why) = None
+table_found (BadTable why) = None
 
 -- the tier's table is given exactly if it is right
 abbrev pub IsTableFor : ℕ → Finding → Option TableData → Type 0
@@ -84,23 +105,23 @@ status_with status (NoFile why) = 1
 status_with status (NoTable why) = 1
 
 -- the finding on a tier's file, if exactly these of the tiers before it are right
-abbrev pub IsFoundAfter : Rules → List ℕ → ℕ → Finding → Type 0
-IsFoundAfter r right tier finding = (entries : List TableData) × AreTables r entries × HoldsExactly entries right × IsFinding r entries tier finding
+abbrev pub IsFoundAfter : Rules → StoreView → List ℕ → ℕ → Finding → Type 0
+IsFoundAfter r store right tier finding = (entries : List TableData) × AreTables r entries × HoldsExactly entries right × IsFinding r entries store tier finding
 
 -- the lines of some tiers, one after another, and the status after them; given are the right tiers and the status before them
-abbrev pub AreLines : Rules → List ℕ → ℕ → List ℕ → List ℕ → ℕ → Type 0
-AreLines r right status [] out ends = (out ≡ []) × (ends ≡ status)
-AreLines r right status (tier ∷ tiers) out ends = (finding : Finding) × (rest : List ℕ) × IsFoundAfter r right tier finding
-    × AreLines r (right_with tier finding right) (status_with status finding) tiers rest ends × (out ≡ finding_line tier finding ++ rest)
+abbrev pub AreLines : Rules → StoreView → List ℕ → ℕ → List ℕ → List ℕ → ℕ → Type 0
+AreLines r store right status [] out ends = (out ≡ []) × (ends ≡ status)
+AreLines r store right status (tier ∷ tiers) out ends = (finding : Finding) × (rest : List ℕ) × IsFoundAfter r store right tier finding
+    × AreLines r store (right_with tier finding right) (status_with status finding) tiers rest ends × (out ≡ finding_line tier finding ++ rest)
 
 -- a tier's file is not read to its end: memory is refused, or the read failed
 abbrev pub IsUnreadAt : ℕ → Fault → Type 0
 IsUnreadAt tier fault = IsMemoryFault fault ⊎ (fault ≡ NotBuilt (StoreFailed tier))
 
 -- the line of a tier is not written to its end, or memory is refused after it
-abbrev pub IsTierCut : Rules → List TableData → ℕ → Option (List ℕ) → Option (List ℕ) → Fault → Type 0
-IsTierCut r entries tier before after fault = (IsUnreadAt tier fault × Keeps before after)
-    ⊎ ((finding : Finding) × IsFinding r entries tier finding × ((IsOutputFault fault × AppendsPart before after (finding_line tier finding))
+abbrev pub IsTierCut : Rules → List TableData → StoreView → ℕ → Option (List ℕ) → Option (List ℕ) → Fault → Type 0
+IsTierCut r entries store tier before after fault = (IsUnreadAt tier fault × Keeps before after)
+    ⊎ ((finding : Finding) × IsFinding r entries store tier finding × ((IsOutputFault fault × AppendsPart before after (finding_line tier finding))
     ⊎ (IsMemoryFault fault × Appends before after (finding_line tier finding))))
 
 -- the reason why a check ends before the remaining tiers: memory is refused, or the next tier's file can't be read
@@ -109,24 +130,25 @@ IsUnread [] fault = IsMemoryFault fault
 IsUnread (tier ∷ tiers) fault = IsUnreadAt tier fault
 
 -- a check ended early: the lines of the tiers before are written, or a first part of them if a write failed
-pub record IsCheckCut (r : Rules) (tiers : List ℕ) (before after : Option (List ℕ)) (fault : Fault) : Type 0 where
+pub record IsCheckCut (r : Rules) (store : StoreView) (tiers : List ℕ) (before after : Option (List ℕ)) (fault : Fault) : Type 0 where
   pub done : List ℕ
   pub left : List ℕ
   pub split : tiers ≡ done ++ left
   pub out : List ℕ
   pub status : ℕ
-  pub lines : AreLines r [] 0 done out status
+  pub lines : AreLines r store [] 0 done out status
   pub written : (IsOutputFault fault × AppendsPart before after out) ⊎ (IsUnread left fault × Appends before after out)
 
 -- these tiers are checked in their order: a line for each is written, and the status shows whether all are right
-abbrev pub IsCheckOf : Rules → List ℕ → Option (List ℕ) → Option (List ℕ) → Result ℕ Fault → Type 0
-IsCheckOf r tiers before after (Ok status) = (out : List ℕ) × AreLines r [] 0 tiers out status × Appends before after out
-IsCheckOf r tiers before after (Err fault) = IsCheckCut r tiers before after fault
+abbrev pub IsCheckOf : Rules → StoreView → List ℕ → Option (List ℕ) → Option (List ℕ) → Result ℕ Fault → Type 0
+IsCheckOf r store tiers before after (Ok status) = (out : List ℕ) × AreLines r store [] 0 tiers out status × Appends before after out
+IsCheckOf r store tiers before after (Err fault) = IsCheckCut r store tiers before after fault
 
 -- the order of the game's tiers can't be made, and nothing is written
 abbrev pub IsUnchecked : Rules → Option (List ℕ) → Option (List ℕ) → Result ℕ Fault → Type 0
 IsUnchecked r before after result = IsErrAnd result (IsUnbuilt r r.initial.tier) × Keeps before after
 
--- the files of a game are checked, in the order of its tiers
-abbrev pub IsCheckedBy : Rules → Option (List ℕ) → Option (List ℕ) → Result ℕ Fault → Type 0
-IsCheckedBy r before after result = IsUnchecked r before after result ⊎ ((tiers : List ℕ) × IsTierOrder r tiers × IsCheckOf r tiers before after result)
+-- the texts of a game are checked, in the order of its tiers
+abbrev pub IsCheckedBy : Rules → StoreView → Option (List ℕ) → Option (List ℕ) → Result ℕ Fault → Type 0
+IsCheckedBy r store before after result =
+    IsUnchecked r before after result ⊎ ((tiers : List ℕ) × IsTierOrder r tiers × IsCheckOf r store tiers before after result)

@@ -7,7 +7,7 @@ pub use Rattle.gm_analyse.specs.Numbers.{count_where, has_record, is_legal_at}
 pub use Rattle.gm_analyse.specs.Tree.{analysis_tree, name_text}
 pub use Rattle.gm_analyse.specs.declared.analysis.Analysis.{Analysis}
 pub use Rattle.gm_build.specs.Inspections.{IsUntrueText}
-pub use Rattle.gm_build.specs.Outcomes.{IsBuildError}
+pub use Rattle.gm_build.specs.Outcomes.{IsBuildError, IsReadError}
 pub use Rattle.gm_build.specs.TrueTexts.{IsTrueText}
 pub use Rattle.gm_build.specs.Work.{HoldsExactly, IsSomeWork}
 pub use Rattle.gm_build.specs.declared.build_error.BuildError.{BuildError}
@@ -60,6 +60,7 @@ pub use Rattle.gm_play.specs.declared.sides.Side.{Side}
 pub use Rattle.gm_play.specs.declared.sides.Side.TheVariants.{Computer, You}
 pub use Rattle.gm_table.specs.Tables.{AreHeld, AreTables, IsHeld, IsTable, TableData}
 pub use Rattle.gm_tierdb.specs.Refusals.{Refuses}
+pub use Rattle.gm_tierdb.specs.StoreTexts.{AreSame, StoreView, store_view, unknown_texts}
 pub use Rattle.gm_tierdb.specs.declared.file_error.FileError.{FileError}
 pub use Rattle.gm_tierdb.specs.declared.store_error.StoreError.{StoreError}
 pub use Rattle.gm_tierdb.specs.declared.store_error.StoreError.TheVariants.{Failed, OutOfMemory}

@@ -1,8 +1,8 @@
 //! The check of a folder, tier by tier.
-ghost use Rattle.std.specs.Prelude.{◌≡◌, ◌≤◌, ℕ, List, [], IfOk, OnOk, IfErr};
-ghost use Rattle.gamesman.specs.Lower.{option_map, Contains, Appends, AreTables, AreHeld, HoldsExactly, IsTierOrder};
+ghost use Rattle.std.specs.Prelude.{◌≡◌, ◌≤◌, ◌<◌, ℕ, List, [], IsTrue, IfOk, OnOk, IfErr};
+ghost use Rattle.gamesman.specs.Lower.{AreSame, store_view, unknown_texts, Contains, Appends, AreTables, HoldsExactly, IsReadError, IsTierOrder};
 ghost use Rattle.gamesman.specs.Refusals.{IsUnbuilt};
-ghost use Rattle.gamesman.specs.Checking.{finding_line, IsFoundOf, IsFinding, IsTableFor, right_with, IsUnreadAt, IsTierCut, IsCheckOf, IsCheckedBy};
+ghost use Rattle.gamesman.specs.Checking.{finding_for, table_found, finding_line, IsFinding, IsTableFor, right_with, IsUnreadAt, IsTierCut, IsCheckOf, IsCheckedBy};
 
 use crate::fault::Fault;
 use crate::finding::Finding;
@@ -11,7 +11,7 @@ use crate::output::put;
 use crate::run::DONE;
 use crate::teller::Teller;
 use gm_build::build_error::BuildError;
-use gm_build::inspect::{Inspected, inspect_text};
+use gm_build::inspect::{Inspected, inspect_tier};
 use gm_command::requests::Telling;
 use gm_game::game::Game;
 use gm_game::limits::TIER_SIZE;
@@ -20,74 +20,60 @@ use gm_table::table::Table;
 use gm_table::tables::Tables;
 use gm_tierdb::folder_store::FolderStore;
 use gm_tierdb::store::Store;
-use gm_tierdb::store_error::StoreError;
 use gm_tiers::order::TierOrder;
 use std::alloc::{AllocError, Global};
 use std::fs::Files;
 use std::io::Write;
 use std::thread::Threads;
 
-// Reads a tier's file in a folder.
-fn read_file<R: Files>(
-    rt: &R,
-    alloc: Global,
-    folder: &str,
-    tier: u64,
-) -> Result<Option<Vec<u8>>, Fault>
-    ensures { IfErr result (IsUnreadAt tier) }
+// Returns the finding for what an entry is found to be, and the table if it is right.
+fn finding_of<G: Game>(inspected: Inspected<G>) -> (Finding, Option<Table<G>>)
+    ensures finding { result.0 ≡ finding_for inspected }
+    ensures table { result.1 ≡ table_found inspected }
 {
-    let mut store = FolderStore::new(alloc, String::from_str(alloc, folder)?);
-    match store.read(rt, alloc, tier) {
-        Ok(text) => Ok(text),
-        Err(StoreError::OutOfMemory) => Err(Fault::OutOfMemory(AllocError)),
-        Err(StoreError::Failed) => Err(Fault::NotBuilt(BuildError::StoreFailed { tier })),
+    match inspected {
+        Inspected::Right(table) => (Finding::Right, Some(table)),
+        Inspected::Missing => (Finding::Missing, None),
+        Inspected::NoFile(why) => (Finding::NoFile(why), None),
+        Inspected::NoTable(why) => (Finding::NoTable(why), None),
     }
 }
 
-// Checks the text of a tier's file. Returns the finding, with the tier's table if it is right.
-fn inspect<G: Game + Send + Sync, R: Threads + Sync>(
-    rt: &R,
-    alloc: Global,
-    tier: u64,
-    text: Option<Vec<u8>>,
-    tables: &Tables<G>,
-) -> Result<(Finding, Option<Table<G>>), AllocError>
-    requires held { AreHeld G.rules tables.now tier }
-    requires small { G.rules.tier_size tier ≤ TIER_SIZE }
-    ensures found { IfOk result (λ f. IsFoundOf G.rules tables.now tier (option_map (λ v. v.items) text) f.0) }
-    ensures table { IfOk result (λ f. IsTableFor tier f.0 f.1) }
+// Returns the fault for the reason why an entry is not read.
+fn why_unread(tier: u64, error: BuildError) -> Fault
+    requires { IsReadError tier error }
+    ensures { IsUnreadAt tier result }
 {
-    let Some(text) = text else {
-        return Ok((Finding::Missing, None));
-    };
-    match inspect_text(rt, alloc, tier, text.as_slice(), tables)? {
-        Inspected::Right(table) => Ok((Finding::Right, Some(table))),
-        Inspected::Missing => Ok((Finding::Missing, None)),
-        Inspected::NoFile(why) => Ok((Finding::NoFile(why), None)),
-        Inspected::NoTable(why) => Ok((Finding::NoTable(why), None)),
+    match error {
+        BuildError::OutOfMemory => Fault::OutOfMemory(AllocError),
+        error => Fault::NotBuilt(error),
     }
 }
 
-// Checks a tier's file. Returns the finding, with the tier's table if it is right. The tables of the right tiers before it are
-// given.
-fn find<G: Game + Send + Sync, R: Threads + Files + Sync>(
+// Checks a tier's entry. Returns the finding, with the tier's table if it is right. The tables of the right tiers before it are given.
+fn find<G: Game + Send + Sync, R: Threads + Files + Sync, S: Store>(
     rt: &R,
     alloc: Global,
-    folder: &str,
     tier: u64,
     tables: &Tables<G>,
+    store: &mut S,
 ) -> Result<(Finding, Option<Table<G>>), Fault>
     requires small { G.rules.tier_size tier ≤ TIER_SIZE }
-    ensures found { IfOk result (λ f. IsFinding G.rules tables.now tier f.0) }
+    requires few { S.failed store.old < u64.MAX }
+    ensures found { IfOk result (λ f. IsFinding G.rules tables.now (store_view S.READS (S.texts store.old)) tier f.0) }
     ensures table { IfOk result (λ f. IsTableFor tier f.0 f.1) }
     ensures unread { IfErr result (IsUnreadAt tier) }
     ensures tables { AreTables G.rules tables.now }
+    ensures same { IsTrue S.READS → AreSame (S.texts store.old) (S.texts store.new) }
+    ensures count { OnOk result (S.failed store.new ≡ S.failed store.old) }
 {
     if !tables.has_children(tier) {
         return Ok((Finding::NotChecked, None));
     }
-    let text = read_file(rt, alloc, folder, tier)?;
-    Ok(inspect(rt, alloc, tier, text, tables)?)
+    match inspect_tier(rt, alloc, tier, tables, store) {
+        Ok(inspected) => Ok(finding_of(inspected)),
+        Err(error) => Err(why_unread(tier, error)),
+    }
 }
 
 // Adds the table of a right tier to those that are held.
@@ -110,22 +96,26 @@ fn hold<G: Game>(
 }
 
 // Prints the finding on a tier's file, and holds the table if it is right.
-fn check_tier<G: Game + Send + Sync, R: Host, O: Write, E: Write + Send>(
+fn check_tier<G: Game + Send + Sync, R: Host, S: Store, O: Write, E: Write + Send>(
     rt: &R,
-    folder: &str,
     tier: u64,
+    store: &mut S,
     tables: &mut Tables<G>,
     output: &mut O,
     teller: &Teller<'_, G, R, E>,
 ) -> Result<Finding, Fault>
     requires small { G.rules.tier_size tier ≤ TIER_SIZE }
+    requires few { S.failed store.old < u64.MAX }
     ensures tables { AreTables G.rules tables.old }
-    ensures found { IfOk result (IsFinding G.rules tables.old tier) }
+    ensures found { IfOk result (IsFinding G.rules tables.old (store_view S.READS (S.texts store.old)) tier) }
     ensures told { IfOk result (λ f. Appends (O.contents output.old) (O.contents output.new) (finding_line tier f)) }
     ensures held { IfOk result (λ f. (right : List ℕ) → HoldsExactly tables.old right → HoldsExactly tables.new (right_with tier f right)) }
-    ensures cut { IfErr result (IsTierCut G.rules tables.old tier (O.contents output.old) (O.contents output.new)) }
+    ensures cut { IfErr result (IsTierCut G.rules tables.old (store_view S.READS (S.texts store.old)) tier
+        (O.contents output.old) (O.contents output.new)) }
+    ensures same { IsTrue S.READS → AreSame (S.texts store.old) (S.texts store.new) }
+    ensures count { OnOk result (S.failed store.new ≡ S.failed store.old) }
 {
-    let found = find(rt, rt.alloc(), folder, tier, tables);
+    let found = find(rt, rt.alloc(), tier, tables, store);
     teller.clear();
     let (finding, table) = found?;
     put(output, finding.line(tier).as_slice())?;
@@ -134,23 +124,24 @@ fn check_tier<G: Game + Send + Sync, R: Host, O: Write, E: Write + Send>(
 }
 
 // Prints the findings on the files of these tiers, and returns the exit status.
-fn check_tiers<G: Game + Send + Sync, R: Host, O: Write, E: Write + Send>(
+fn check_tiers<G: Game + Send + Sync, R: Host, S: Store, O: Write, E: Write + Send>(
     rt: &R,
-    folder: &str,
     tiers: &[u64],
+    store: &mut S,
     tables: &mut Tables<G>,
     output: &mut O,
     teller: &Teller<'_, G, R, E>,
 ) -> Result<u8, Fault>
     requires small { (tier : ℕ) → Contains tiers.now tier → G.rules.tier_size tier ≤ TIER_SIZE }
     requires none { HoldsExactly tables.old [] }
-    ensures { IsCheckOf G.rules tiers.now (O.contents output.old) (O.contents output.new) result }
+    requires few { S.failed store.old < u64.MAX }
+    ensures { IsCheckOf G.rules (store_view S.READS (S.texts store.old)) tiers.now (O.contents output.old) (O.contents output.new) result }
 {
     let mut status = DONE;
     teller.begin(rt, tiers.len());
     for tier in tiers {
         teller.read(rt, *tier);
-        let finding = check_tier(rt, folder, *tier, tables, output, teller)?;
+        let finding = check_tier(rt, *tier, store, tables, output, teller)?;
         status = finding.status(status);
     }
     Ok(status)
@@ -164,22 +155,41 @@ fn order_of<G: Game>(alloc: Global) -> Result<TierOrder<G>, Fault>
     Ok(TierOrder::from_initial(alloc)?)
 }
 
-/// Prints for each tier the finding on its file in a folder, in the order of tiers. The status is 0 if all files are right, and
+/// Prints for each tier the finding on its text in a store, in the order of tiers. The status is 0 if all texts are right, and
 /// otherwise 1.
-pub fn check<G: Game + Send + Sync, R: Host, O: Write, E: Write + Send>(
+pub fn check<G: Game + Send + Sync, R: Host, S: Store, O: Write, E: Write + Send>(
+    rt: &R,
+    store: &mut S,
+    output: &mut O,
+    errors: &mut E,
+    telling: Telling,
+) -> Result<u8, Fault>
+    requires few { S.failed store.old < u64.MAX }
+    ensures { IsCheckedBy G.rules (store_view S.READS (S.texts store.old)) (O.contents output.old) (O.contents output.new) result }
+{
+    let alloc = rt.alloc();
+    let order = order_of::<G>(alloc)?;
+    let mut tables: Tables<G> = Tables::new(alloc);
+    let teller: Teller<'_, G, R, E> = Teller::new(rt, errors, telling, order.tiers());
+    let checked = check_tiers(rt, order.tiers(), store, &mut tables, output, &teller);
+    drop((order, tables, teller));
+    checked
+}
+
+/// Prints for each tier the finding on its file in a folder, as `check`. What the folder holds is not known before it is read.
+pub fn check_folder<G: Game + Send + Sync, R: Host, O: Write, E: Write + Send>(
     rt: &R,
     folder: &str,
     output: &mut O,
     errors: &mut E,
     telling: Telling,
 ) -> Result<u8, Fault>
-    ensures { IsCheckedBy G.rules (O.contents output.old) (O.contents output.new) result }
+    ensures { IsCheckedBy G.rules unknown_texts (O.contents output.old) (O.contents output.new) result }
 {
     let alloc = rt.alloc();
-    let order = order_of::<G>(alloc)?;
-    let mut tables: Tables<G> = Tables::new(alloc);
-    let teller: Teller<'_, G, R, E> = Teller::new(rt, errors, telling, order.tiers());
-    let checked = check_tiers(rt, folder, order.tiers(), &mut tables, output, &teller);
-    drop((order, tables, teller));
+    let path = String::from_str(alloc, folder)?;
+    let mut store = FolderStore::new(alloc, path);
+    let checked = check::<G, R, FolderStore, O, E>(rt, &mut store, output, errors, telling);
+    drop(store);
     checked
 }

@@ -4,7 +4,7 @@ ghost use Rattle.gamesman.specs.Games.{game_spec, spec_of};
 ghost use Rattle.gamesman.specs.Answers.{IsAnswered};
 
 use crate::analyse::analyse;
-use crate::check::check;
+use crate::check::check_folder;
 use crate::engine::engine_page;
 use crate::explore::explore;
 use crate::fault::Fault;
@@ -60,7 +60,7 @@ fn answer<G: Pictured + Send + Sync, R: Host, I: Read, O: Write, E: Write + Send
             serve::<G, R, I, O, E>(rt, request, options, input, output, errors)
         }
         GameCommand::Analyse => analyse::<G, R, O, E>(rt, options, output, errors),
-        GameCommand::Check { folder } => check::<G, R, O, E>(
+        GameCommand::Check { folder } => check_folder::<G, R, O, E>(
             rt,
             folder,
             output,

@@ -73,6 +73,10 @@ impl Shelf {
 impl Store for Shelf {
     ghost KEEPS = { false };
 
+    ghost READS = { false };
+
+    ghost kept_is_read = { λ kept. kept };
+
     ghost texts = { λ _ _. None };
 
     ghost failed = { failed_in };

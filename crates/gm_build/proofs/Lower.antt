@@ -32,7 +32,7 @@ pub use Rattle.gm_tiers.specs.Limits.{AreMoreThan, HasTooMany, IsTooLarge}
 pub use Rattle.gm_tiers.specs.Orders.{ComeChildrenFirst, IsBefore, IsOrderFrom}
 pub use Rattle.gm_tiers.specs.Reach.{IsReachedFrom}
 pub use Rattle.gm_tiers.specs.declared.tier_error.TierError.{TierError}
-pub use Rattle.std.proofs.Common.{Err, IfErr, IfOk, IfSome, IsOk, IsSome, IsTrue, List, None, Ok, OnOk, Option, Result, Some, [], ap, arith, codes, eq-eqb}
+pub use Rattle.std.proofs.Common.{Err, IfErr, IfOk, IfSome, IsOk, IsSome, IsTrue, List, None, Ok, OnErr, OnOk, Option, Result, Some, [], ap, arith, codes, eq-eqb}
 pub use Rattle.std.proofs.Common.{eqb-true, false, get_or, if◌then◌else◌, inl, inr, length, length-append, length-take, map, refl, rules, slice_get, subst, sym}
 pub use Rattle.std.proofs.Common.{take, true, ℕ, ◌++◌, ◌+◌, ◌<◌, ◌==◌, ◌↔◌, ◌∙◌, ◌∷◌, ◌≡◌, ◌≢◌, ◌≤◌, ◌⊎◌}
 pub use Rattle.std.proofs.lemmas.Fmt.{contents_after_writes}

@@ -51,8 +51,8 @@ impl<G: Game> Drop for Built<G> {
 /// text of a large tier that was solved is made, the next tier is solved ahead if there are several workers; its table is dropped if its entry is reused or
 /// migrated.
 ///
-/// Neither the tables nor the texts nor the number of deliveries depend on the plan, the gate or the source. Of a store that does not keep its map, such as a
-/// folder, nothing is promised about its texts, but the tables are true all the same. The store's count of failures rises exactly if the result is
+/// Neither the tables nor the texts nor the number of deliveries depend on the plan, the gate or the source. Of a store that promises neither its map nor its
+/// reads, such as a folder, nothing is promised about its texts, but the tables are true all the same. The store's count of failures rises exactly if the result is
 /// `StoreFailed`.
 pub fn build<G: Game + Send + Sync, R: Threads + Wait + Files + Sync, S: Store, T: Gate, P: Source>(
     rt: &R,
@@ -70,11 +70,11 @@ pub fn build<G: Game + Send + Sync, R: Threads + Wait + Files + Sync, S: Store, 
     ensures tables { IfOk result (λ built. AreTables G.rules built.tables) }
     ensures some_work { IfOk result (λ built. IsSomeWork G.rules built.order built.work) }
 
-    // A store that keeps its map then has the texts of their tables, and nothing else has changed; the tiers that were reused or migrated are those whose text
-    // it had before.
+    // A store that keeps its map then has the texts of their tables. One whose reads are promised has no other change, and the tiers that were reused or
+    // migrated are those whose text it had before.
     ensures texts { IsTrue S.KEEPS → IfOk result (λ built. HaveTexts G.rules (S.texts store.new) built.order) }
-    ensures others { IsTrue S.KEEPS → IfOk result (λ built. KeepsOthers built.order (S.texts store.old) (S.texts store.new)) }
-    ensures work { IsTrue S.KEEPS → IfOk result (λ built. IsWorkOn G.rules built.order
+    ensures others { IsTrue S.READS → IfOk result (λ built. KeepsOthers built.order (S.texts store.old) (S.texts store.new)) }
+    ensures work { IsTrue S.READS → IfOk result (λ built. IsWorkOn G.rules built.order
         (HasText G.rules (S.texts store.old)) (HasOldText G.rules (S.texts store.old))
         built.work) }
 
@@ -112,8 +112,8 @@ pub fn build_from<
     ensures tables { IfOk result (λ built. AreTables G.rules built.tables) }
     ensures some_work { IfOk result (λ built. IsSomeWork G.rules built.order built.work) }
     ensures texts { IsTrue S.KEEPS → IfOk result (λ built. HaveTexts G.rules (S.texts store.new) built.order) }
-    ensures others { IsTrue S.KEEPS → IfOk result (λ built. KeepsOthers built.order (S.texts store.old) (S.texts store.new)) }
-    ensures work { IsTrue S.KEEPS → IfOk result (λ built. IsWorkOn G.rules built.order
+    ensures others { IsTrue S.READS → IfOk result (λ built. KeepsOthers built.order (S.texts store.old) (S.texts store.new)) }
+    ensures work { IsTrue S.READS → IfOk result (λ built. IsWorkOn G.rules built.order
         (HasText G.rules (S.texts store.old)) (HasOldText G.rules (S.texts store.old))
         built.work) }
     ensures error { IfErr result (IsBuildError G.rules first) }

@@ -43,8 +43,8 @@ pub(crate) fn load_tier<G: Game + Send + Sync, R: Threads + Files + Sync, S: Sto
     requires small { G.rules.tier_size tier ≤ TIER_SIZE }
     requires few { S.failed store.old < u64.MAX }
     ensures tier { IfOk result (IsOfTier tier) }
-    ensures found { IsTrue S.KEEPS → IfOk result (IsFoundIn G.rules (S.texts store.old) tier) }
-    ensures same { IsTrue S.KEEPS → AreSame (S.texts store.old) (S.texts store.new) }
+    ensures found { IsTrue S.READS → IfOk result (IsFoundIn G.rules (S.texts store.old) tier) }
+    ensures same { IsTrue S.READS → AreSame (S.texts store.old) (S.texts store.new) }
     ensures error { IfErr result (IsTierError G.rules tier) }
     ensures count { S.failed store.new ≡ S.failed store.old + failures_in result }
 {

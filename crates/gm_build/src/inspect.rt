@@ -3,7 +3,7 @@ ghost use Rattle.std.specs.Prelude.{◌≡◌, ◌+◌, ◌<◌, ◌≤◌, ◌�
 ghost use Rattle.gm_build.specs.Lower.{AreHeld, Texts, AreSame};
 ghost use Rattle.gm_tierdb.specs.Seals.{IsSealed};
 ghost use Rattle.gm_build.specs.Inspections.{IsInspected, IsInspectedIn};
-ghost use Rattle.gm_build.specs.Outcomes.{failures_in, IsTierError, IsReadError};
+ghost use Rattle.gm_build.specs.Outcomes.{failures_in, IsReadError};
 
 use crate::build_error::BuildError;
 use gm_game::game::Game;
@@ -46,11 +46,10 @@ pub fn inspect_tier<G: Game + Send + Sync, R: Threads + Files + Sync, S: Store>(
     requires held { AreHeld G.rules tables.now tier }
     requires small { G.rules.tier_size tier ≤ TIER_SIZE }
     requires few { S.failed store.old < u64.MAX }
-    ensures found { IsTrue S.KEEPS → IfOk result (IsInspectedIn G.rules tables.now (S.texts store.old) tier) }
-    // Over a store that does not keep its map this holds for the bytes that were read.
-    ensures told { IfOk result (λ i. (read : Texts) × IsInspectedIn G.rules tables.now read tier i) }
-    ensures same { IsTrue S.KEEPS → AreSame (S.texts store.old) (S.texts store.new) }
-    ensures error { IfErr result (IsTierError G.rules tier) }
+    // What was read is the entry, if the store promises its reads.
+    ensures found { IfOk result (λ i. (read : Texts) × (IsTrue S.READS → read tier ≡ S.texts store.old tier) × IsInspectedIn G.rules tables.now read tier i) }
+    ensures same { IsTrue S.READS → AreSame (S.texts store.old) (S.texts store.new) }
+    ensures error { IfErr result (IsReadError tier) }
     ensures count { S.failed store.new ≡ S.failed store.old + failures_in result }
 {
     let text = match read_entry(rt, alloc, tier, store)? {
@@ -71,8 +70,8 @@ pub(crate) fn read_entry<R: Files, S: Store>(
     store: &mut S,
 ) -> Result<Option<Vec<u8>>, BuildError>
     requires { S.failed store.old < u64.MAX }
-    ensures text { IsTrue S.KEEPS → IfOk result (λ o. option_map (λ v. v.items) o ≡ S.texts store.old tier) }
-    ensures same { IsTrue S.KEEPS → AreSame (S.texts store.old) (S.texts store.new) }
+    ensures text { IsTrue S.READS → IfOk result (λ o. option_map (λ v. v.items) o ≡ S.texts store.old tier) }
+    ensures same { IsTrue S.READS → AreSame (S.texts store.old) (S.texts store.new) }
     ensures error { IfErr result (IsReadError tier) }
     ensures count { S.failed store.new ≡ S.failed store.old + failures_in result }
 {

@@ -69,10 +69,10 @@ impl<R: Threads + Wait + Files + Sync, T: Gate, P: Source, O: Observer> Builder<
         ensures ahead { IfSome ahead.new (IsAhead G.rules) }
         ensures held { OnOk result (HoldsToo tier tables.old tables.new) }
         ensures work { IfOk result (IsStepWork G.rules tier) }
-        ensures step { IsTrue S.KEEPS → IfOk result (IsStep G.rules (S.texts store.old) tier) }
+        ensures step { IsTrue S.READS → IfOk result (IsStep G.rules (S.texts store.old) tier) }
         ensures text { IsTrue S.KEEPS → OnOk result (HasText G.rules (S.texts store.new) tier) }
         ensures here { IsTrue S.KEEPS → OnErr result (MayHaveText G.rules (S.texts store.old) (S.texts store.new) tier) }
-        ensures others { IsTrue S.KEEPS → AreSameBut tier (S.texts store.old) (S.texts store.new) }
+        ensures others { IsTrue S.READS → AreSameBut tier (S.texts store.old) (S.texts store.new) }
         ensures error { IfErr result (IsTierError G.rules tier) }
         ensures count { S.failed store.new ≡ S.failed store.old + failures_in result }
     {
@@ -154,7 +154,7 @@ impl<R: Threads + Wait + Files + Sync, T: Gate, P: Source, O: Observer> Builder<
         ensures held { OnOk result (HoldsToo table.tier tables.old tables.new) }
         ensures text { IsTrue S.KEEPS → OnOk result (HasText G.rules (S.texts store.new) table.tier) }
         ensures here { IsTrue S.KEEPS → OnErr result (MayHaveText G.rules (S.texts store.old) (S.texts store.new) table.tier) }
-        ensures others { IsTrue S.KEEPS → AreSameBut table.tier (S.texts store.old) (S.texts store.new) }
+        ensures others { IsTrue S.READS → AreSameBut table.tier (S.texts store.old) (S.texts store.new) }
         ensures error { IfErr result (IsTierError G.rules table.tier) }
         ensures count { S.failed store.new ≡ S.failed store.old + failures_in result }
     {
@@ -253,7 +253,7 @@ fn write<G: Game, R: Files, S: Store>(
     requires few { S.failed store.old < u64.MAX }
     ensures text { IsTrue S.KEEPS → OnOk result (HasText G.rules (S.texts store.new) tier) }
     ensures here { IsTrue S.KEEPS → OnErr result (MayHaveText G.rules (S.texts store.old) (S.texts store.new) tier) }
-    ensures others { IsTrue S.KEEPS → AreSameBut tier (S.texts store.old) (S.texts store.new) }
+    ensures others { IsTrue S.READS → AreSameBut tier (S.texts store.old) (S.texts store.new) }
     ensures error { IfErr result (IsTierError G.rules tier) }
     ensures count { S.failed store.new ≡ S.failed store.old + failures_in result }
 {

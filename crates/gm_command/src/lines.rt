@@ -170,7 +170,7 @@ static FIND: CommandSpec = CommandSpec {
         word!("min-moves": Number("N", 1..=MOST), "Only positions with at least this many moves, 1 or more"),
         REACHED,
         word!("limit": Number("limit", 1..=MOST), "List at most this many, 1 or more"),
-        word!("random": Number("N", 1..=MOST), "Choose this many at random, 1 or more, each choice equally likely; takes the place of a limit"),
+        word!("random": Number("N", 1..=MOST), "Choose this many at random, 1 or more, none of them twice; takes the place of a limit"),
         word!("seed": Number("N", 0..=MOST), "Seed of the random choice (default: 0); the same seed gives the same choice"),
         word!("show": Flag, "Draw the board of each position above its line"),
         JSON,

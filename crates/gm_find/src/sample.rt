@@ -8,8 +8,8 @@ use rand_core::SeedableRng;
 use rand_xoshiro::Xoshiro256PlusPlus;
 use std::alloc::{AllocError, Global};
 
-/// Returns `number` of the positions in their order, or all of them if there are fewer. They are chosen by xoshiro256++ from this seed: each choice is as likely
-/// as any other, and the same seed makes the same choice.
+/// Returns `number` of the positions in their order, each at most once, or all of them if there are fewer. They are drawn by xoshiro256++ from this seed, and
+/// the same seed makes the same choice. How evenly it chooses is tested, and not proved.
 pub fn sample_of(
     alloc: Global,
     positions: &[Position],

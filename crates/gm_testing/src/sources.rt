@@ -34,6 +34,8 @@ pub struct TestSource {
     pieces: AtomicUsize,
     asked: AtomicUsize,
     asked_by: Mutex<[bool; 2]>,
+    // Which of two workers asked at any level.
+    started: Mutex<[bool; 2]>,
 }
 
 impl TestSource {
@@ -53,7 +55,13 @@ impl TestSource {
             pieces: AtomicUsize::new(0),
             asked: AtomicUsize::new(0),
             asked_by: Mutex::new([true; 2]),
+            started: Mutex::new([false; 2]),
         }
+    }
+
+    /// Returns whether both of two workers have asked, so that both were started.
+    pub fn served_both<R: Wait>(&self, rt: &R) -> bool {
+        *self.started.lock(rt) == [true; 2]
     }
 
     /// Returns the numbers of the levels that were begun, of the pieces that it was given, and of its calls.
@@ -78,6 +86,7 @@ impl Source for TestSource {
 
     fn next<R: Wait>(&self, rt: &R, worker: usize) -> Option<usize> {
         self.asks.fetch_add(1, Ordering::SeqCst);
+        let _first = is_first(rt, &self.started, worker);
         let asked = self.asked.fetch_add(1, Ordering::SeqCst);
         match self.habit {
             Habit::Once => self.counter.next(rt, worker),

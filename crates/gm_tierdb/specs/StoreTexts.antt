@@ -1,11 +1,23 @@
 -- The texts of a store, and what its calls do to them.
-use Rattle.std.specs.Prelude.{◌≡◌, ◌≢◌, ℕ, ◌⊎◌, List, Option, Some, Result, Ok, Err}
+use Rattle.std.specs.Prelude.{◌≡◌, ◌≢◌, ℕ, ◌⊎◌, List, Bool, false, Option, None, Some, Result, Ok, Err}
 use Rattle.gm_tierdb.specs.declared.store_error.StoreError.{StoreError}
 use Rattle.gm_tierdb.specs.declared.store_error.StoreError.TheVariants.{OutOfMemory, Failed}
 
 -- the text of each tier that has one
 abbrev pub Texts : Type 0
 Texts = ℕ → Option (List ℕ)
+
+-- a store as its readers see it: its texts, which its reads return if that is promised
+pub record StoreView : Type 0 where
+  pub is_read : Bool
+  pub texts : Texts
+
+abbrev pub store_view : Bool → Texts → StoreView
+store_view b ts = record { is_read = b; texts = ts }
+
+-- nothing is known of the texts, as in a folder that others write to
+abbrev pub unknown_texts : StoreView
+unknown_texts = store_view false (λ _. None)
 
 -- no text has changed
 abbrev pub AreSame : Texts → Texts → Type 0

@@ -1,7 +1,7 @@
 //! A store that fails on purpose.
 ghost use Rattle.std.specs.Prelude.{◌≡◌, ◌↔◌, ◌+◌, ◌<◌, ◌^◌, IsTrue, IfOk, OnOk, IsErrOf};
 ghost use Rattle.gm_tierdb.specs.Lower.{option_map};
-ghost use Rattle.gm_tierdb.specs.StoreTexts.{AreSame, Sets, MaySet, failures_of};
+ghost use Rattle.gm_tierdb.specs.StoreTexts.{AreSame, AreSameBut, Sets, MaySet, failures_of};
 ghost use Rattle.gm_tierdb.specs.Turns.{next_call, FailsNext};
 
 use crate::store::Store;
@@ -59,6 +59,10 @@ fn fails_next(from: u64, to: u64, calls: u64) -> bool
 impl<S: Store> Store for Flaky<S> {
     ghost KEEPS = { S.KEEPS };
 
+    ghost READS = { S.READS };
+
+    ghost kept_is_read = { S.kept_is_read };
+
     ghost texts = { λ s. S.texts s.inner };
 
     ghost failed = { λ s. S.failed s.inner + s.broken };
@@ -76,8 +80,8 @@ impl<S: Store> Store for Flaky<S> {
         tier: u64,
     ) -> Result<Option<Vec<u8>>, StoreError>
         requires { S.failed self.old.inner + self.old.broken < u64.MAX }
-        ensures text { IsTrue S.KEEPS → IfOk result (λ o. option_map (λ v. v.items) o ≡ S.texts self.old.inner tier) }
-        ensures same { IsTrue S.KEEPS → AreSame (S.texts self.old.inner) (S.texts self.new.inner) }
+        ensures text { IsTrue S.READS → IfOk result (λ o. option_map (λ v. v.items) o ≡ S.texts self.old.inner tier) }
+        ensures same { IsTrue S.READS → AreSame (S.texts self.old.inner) (S.texts self.new.inner) }
         ensures count { S.failed self.new.inner + self.new.broken ≡ S.failed self.old.inner + self.old.broken + failures_of result }
 
         // A call whose number lies between the two fails and does not reach the inner store; any other one does.
@@ -99,6 +103,7 @@ impl<S: Store> Store for Flaky<S> {
 
     fn write<R: Files>(&mut self, rt: &R, tier: u64, bytes: &[u8]) -> Result<(), StoreError>
         requires { S.failed self.old.inner + self.old.broken < u64.MAX }
+        ensures others { IsTrue S.READS → AreSameBut tier (S.texts self.old.inner) (S.texts self.new.inner) }
         ensures ok { IsTrue S.KEEPS → OnOk result (Sets tier bytes.now (S.texts self.old.inner) (S.texts self.new.inner)) }
         ensures out_of_memory { IsTrue S.KEEPS → IsErrOf result StoreError.OutOfMemory → AreSame (S.texts self.old.inner) (S.texts self.new.inner) }
         ensures err { IsTrue S.KEEPS → IsErrOf result StoreError.Failed → MaySet tier bytes.now (S.texts self.old.inner) (S.texts self.new.inner) }

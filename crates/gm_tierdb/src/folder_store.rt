@@ -159,6 +159,10 @@ impl FolderStore {
 impl Store for FolderStore {
     ghost KEEPS = { false };
 
+    ghost READS = { false };
+
+    ghost kept_is_read = { λ kept. kept };
+
     ghost texts = { λ _ _. None };
 
     ghost failed = { λ s. s.broken };

@@ -30,6 +30,10 @@ impl MemStore {
 impl Store for MemStore {
     ghost KEEPS = { true };
 
+    ghost READS = { true };
+
+    ghost kept_is_read = { λ kept. kept };
+
     ghost texts = { λ s t. option_map (λ v. v.items) (get nat_cmp s.entries t) };
 
     ghost failed = { λ _. 0 };

@@ -1,7 +1,7 @@
 //! The texts of tiers.
 ghost use Rattle.std.specs.Prelude.{◌≡◌, ◌+◌, ◌<◌, ℕ, Bool, List, Option, IsTrue, IfOk, OnOk, IsErrOf};
 ghost use Rattle.gm_tierdb.specs.Lower.{option_map};
-ghost use Rattle.gm_tierdb.specs.StoreTexts.{AreSame, Sets, MaySet, failures_of};
+ghost use Rattle.gm_tierdb.specs.StoreTexts.{AreSame, AreSameBut, Sets, MaySet, failures_of};
 
 use crate::store_error::StoreError;
 use std::alloc::Global;
@@ -11,6 +11,13 @@ use std::fs::Files;
 pub trait Store: Drop {
     /// Whether the map is promised. If it is not, as on a disk that others write to, only the count of failures is.
     ghost KEEPS: { Bool };
+
+    /// Whether reads are promised: a read returns the tier's text, and texts change only by writes of their tiers. A store that takes no texts may promise
+    /// this without keeping its map.
+    ghost READS: { Bool };
+
+    /// A store that keeps its map promises its reads.
+    ghost kept_is_read: { IsTrue KEEPS → IsTrue READS };
 
     /// The text of each tier that has one.
     ghost texts: { Self → ℕ → Option (List ℕ) };
@@ -33,13 +40,14 @@ pub trait Store: Drop {
         tier: u64,
     ) -> Result<Option<Vec<u8>>, StoreError>
         requires { failed self.old < u64.MAX }
-        ensures text { IsTrue KEEPS → IfOk result (λ o. option_map (λ v. v.items) o ≡ texts self.old tier) }
-        ensures same { IsTrue KEEPS → AreSame (texts self.old) (texts self.new) }
+        ensures text { IsTrue READS → IfOk result (λ o. option_map (λ v. v.items) o ≡ texts self.old tier) }
+        ensures same { IsTrue READS → AreSame (texts self.old) (texts self.new) }
         ensures count { failed self.new ≡ failed self.old + failures_of result };
 
     /// Gives a tier this text. If memory runs out, no text has changed; after a failure the tier has its old text or this one.
     fn write<R: Files>(&mut self, rt: &R, tier: u64, bytes: &[u8]) -> Result<(), StoreError>
         requires { failed self.old < u64.MAX }
+        ensures others { IsTrue READS → AreSameBut tier (texts self.old) (texts self.new) }
         ensures ok { IsTrue KEEPS → OnOk result (Sets tier bytes.now (texts self.old) (texts self.new)) }
         ensures out_of_memory { IsTrue KEEPS → IsErrOf result StoreError.OutOfMemory → AreSame (texts self.old) (texts self.new) }
         ensures err { IsTrue KEEPS → IsErrOf result StoreError.Failed → MaySet tier bytes.now (texts self.old) (texts self.new) }

@@ -255,6 +255,27 @@ fn board_by_hand(rt: HostRuntime) {
     split_at::<Countdown<10>, _>(&rt, 6, 1, &ONE_BY_ONE, (1, 0));
 }
 
+// The ways to cut a tier of one position into four ranges.
+const CUTS: [[u64; 5]; 4] = [
+    [0, 0, 0, 0, 1],
+    [0, 0, 0, 1, 1],
+    [0, 0, 1, 1, 1],
+    [0, 1, 1, 1, 1],
+];
+
+// Counts the shards between these cuts that have nothing at the first level.
+fn empty_between<G: Shared, R: Runtime>(rt: &R, cuts: &[u64; 5]) -> usize {
+    let (size, mut empty) = (G::tier_size(0), 0usize);
+    for (lo, hi) in cuts.iter().zip(&cuts[1..]) {
+        assert!(rt; lo <= hi && *hi <= size && size <= TIER_SIZE);
+        let shard = must(rt, begin_range::<G>(rt.alloc(), 0, *lo, *hi));
+        let run = must(rt, shard.fresh(rt.alloc()));
+        empty = empty.saturating_add(usize::from(run.list().is_empty()));
+        drop((shard, run));
+    }
+    empty
+}
+
 // The shards of a tier of one position.
 const EMPTY: [Step; 5] = [
     (Deed::HasRange(0, 1), 0, (0, 0)),
@@ -266,6 +287,9 @@ const EMPTY: [Step; 5] = [
 
 #[test]
 fn three_of_four_shards_are_empty(rt: HostRuntime) {
+    for cuts in &CUTS {
+        expect_eq(&rt, empty_between::<Countdown<0>, _>(&rt, cuts), 3);
+    }
     split_at::<Countdown<0>, _>(&rt, 1, 0, &EMPTY, (0, 0));
 }
 

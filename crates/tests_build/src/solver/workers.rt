@@ -102,14 +102,26 @@ fn in_both_ways<G: Shared, R: Runtime>(rt: &R, shards: usize, truth: Truth) {
 }
 
 // Checks a game by this many workers in a way, for each number of shards and for pieces of one and of 64 notes.
-fn check_workers<G: Shared, R: Runtime>(rt: &R, way: Way, workers: usize, truth: Truth) {
-    let (gate, source) = (Each::of(Kind::Open), TestSource::counter());
+fn by_plans<G: Shared, R: Runtime, T: Gate>(
+    rt: &R,
+    gate: &T,
+    way: Way,
+    workers: usize,
+    truth: Truth,
+) {
+    let source = TestSource::counter();
     for shards in [1, 2, 4] {
         for piece in [1, 64] {
             let how = (way, workers, shards, piece);
-            solves::<G, R, _>(rt, how, &gate, &source, truth, 0);
+            solves::<G, R, T>(rt, how, gate, &source, truth, 0);
         }
     }
+}
+
+// Checks the same with a gate round each delivery, and without a gate, as the program solves.
+fn check_workers<G: Shared, R: Runtime>(rt: &R, way: Way, workers: usize, truth: Truth) {
+    by_plans::<G, R, _>(rt, &Each::of(Kind::Open), way, workers, truth);
+    by_plans::<G, R, _>(rt, &NoGate, way, workers, truth);
 }
 
 #[test]
@@ -132,6 +144,8 @@ fn by_habit<G: Shared, R: Runtime, T: Gate>(
     for (way, habit, by_hand) in cases {
         let source = TestSource::of(*habit);
         solves::<G, R, T>(rt, (*way, 2, 2, 1), gate, &source, truth, *by_hand);
+        // Each level of Wheel has one piece, for one worker.
+        expect_eq(rt, source.served_both(rt), truth.2 == TEN.2);
     }
 }
 
@@ -213,6 +227,7 @@ fn gate_is_called_for_each_delivery(rt: HostRuntime) {
         let source = TestSource::counter();
         solves::<Ten, _, _>(&rt, (way, 2, 2, piece), &gate, &source, TEN, 0);
         expect_eq(&rt, (piece, turns, gate.passed()), (piece, turns, (19, 19)));
+        expect_eq(&rt, (piece, source.served_both(&rt)), (piece, piece == 1));
     }
 }
 

@@ -1,9 +1,15 @@
-use Rattle.gamesman.proofs.Lower.{ℕ, suc, List, take, drop, get_or, sym, subst, take_more, take_all, Contains-get_or, err_from_is_err_and}
-use Rattle.gamesman.proofs.Checks.{IsToldTo, told_none, told_next, told_all, cut_at, split_at}
+use Rattle.gamesman.proofs.Lower.{ℕ, suc, List, take, drop, get_or, refl, sym, subst, ◌∙◌, take_more, take_all, Contains-get_or, err_from_is_err_and}
+use Rattle.gamesman.specs.Lower.{store_view}
+use Rattle.gamesman.proofs.Checks.{IsToldTo, finding_before, cut_before, told_none, told_next, told_all, cut_at, split_at}
 use Rattle.gamesman.proofs.check.check_tiers.Goals as goal
 
 pub loop-tier-init : goal.loop-tier-init
-loop-tier-init g c = told_none g.G.Game.rules (g.O.Write.contents c.args.output.now) c.args.tables.now c.requires.none
+loop-tier-init g c = record {
+  told = told_none g.G.Game.rules (store_view g.S.Store.READS (g.S.Store.texts c.args.store.now)) (g.O.Write.contents c.args.output.now) c.args.tables.now
+      c.requires.none;
+  same = λ reads t. refl;
+  count = refl;
+}
 
 pub check_tier-requires-clause-small : goal.check_tier-requires-clause-small
 check_tier-requires-clause-small g c = λ κs lives.
@@ -20,10 +26,18 @@ loop-tier-preserved g c =
     let old = g.O.Write.contents c.loop-tier.output in
     let new = g.O.Write.contents c.check_tier.new.output in
     let e = c.in_ok-finding.ensures in
-    subst (λ (ts : List ℕ). IsToldTo r ts start new c.check_tier.new.tables c.status-status.result) (sym (take_more tiers k 0 c.loop-tier-test.true))
-    (rw c.status-status.ensures (told_next r c.loop-tier.tables (take k tiers) (get_or tiers k 0) c.loop-tier.status start old new
-    c.check_tier.ensures.tables c.loop-tier.invariant
-    c.check_tier.new.tables c.in_ok-finding.finding e.found e.told e.held))
+    let b = g.S.Store.READS in
+    let texts = g.S.Store.texts c.args.store.now in
+    let i = c.loop-tier.invariant in
+    let found = finding_before r c.loop-tier.tables b texts (g.S.Store.texts c.loop-tier.store) (get_or tiers k 0) c.in_ok-finding.finding i.same e.found in
+    record {
+      told = subst (λ (ts : List ℕ). IsToldTo r (store_view b texts) ts start new c.check_tier.new.tables c.status-status.result)
+          (sym (take_more tiers k 0 c.loop-tier-test.true))
+          (rw c.status-status.ensures (told_next r (store_view b texts) c.loop-tier.tables (take k tiers) (get_or tiers k 0) c.loop-tier.status start old new
+          c.check_tier.ensures.tables i.told c.check_tier.new.tables c.in_ok-finding.finding found e.told e.held));
+      same = λ reads t. c.check_tier.ensures.same reads t ∙ i.same reads t;
+      count = e.count ∙ i.count;
+    }
 
 pub returns-in_err-finding : goal.returns-in_err-finding
 returns-in_err-finding g c =
@@ -34,9 +48,13 @@ returns-in_err-finding g c =
     let old = g.O.Write.contents c.loop-tier.output in
     let new = g.O.Write.contents c.check_tier.new.output in
     let q = err_from_is_err_and c.from_residual.result c.from_residual.ensures.1 in
-    rw (q.1, q.2) (cut_at r c.loop-tier.tables (take k tiers) (get_or tiers k 0) c.loop-tier.status start old new c.check_tier.ensures.tables
-    c.loop-tier.invariant tiers (drop (suc k) tiers)
-    c.in_err-finding.field-0.0 (split_at tiers k c.loop-tier-test.true) c.in_err-finding.ensures.cut)
+    let b = g.S.Store.READS in
+    let texts = g.S.Store.texts c.args.store.now in
+    let i = c.loop-tier.invariant in
+    let cut = cut_before r c.loop-tier.tables b texts (g.S.Store.texts c.loop-tier.store) (get_or tiers k 0) old new c.in_err-finding.field-0.0 i.same
+    c.in_err-finding.ensures.cut in
+    rw (q.1, q.2) (cut_at r (store_view b texts) c.loop-tier.tables (take k tiers) (get_or tiers k 0) c.loop-tier.status start old new
+    c.check_tier.ensures.tables i.told tiers (drop (suc k) tiers) c.in_err-finding.field-0.0 (split_at tiers k c.loop-tier-test.true) cut)
 
 pub returns : goal.returns
 returns g c =
@@ -44,6 +62,7 @@ returns g c =
     let tiers = c.args.tiers.now in
     let start = g.O.Write.contents c.args.output.now in
     let end = g.O.Write.contents c.loop-tier.output in
-    told_all r tiers start end c.loop-tier.tables c.loop-tier.status
-    (subst (λ (ts : List ℕ). IsToldTo r ts start end c.loop-tier.tables c.loop-tier.status) (take_all c.loop-tier.tier-index tiers c.loop-tier-test.false)
-    c.loop-tier.invariant)
+    let store = store_view g.S.Store.READS (g.S.Store.texts c.args.store.now) in
+    told_all r store tiers start end c.loop-tier.tables c.loop-tier.status
+    (subst (λ (ts : List ℕ). IsToldTo r store ts start end c.loop-tier.tables c.loop-tier.status) (take_all c.loop-tier.tier-index tiers c.loop-tier-test.false)
+    c.loop-tier.invariant.told)

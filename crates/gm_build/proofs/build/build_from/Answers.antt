@@ -10,7 +10,7 @@ use Rattle.gm_build.proofs.build.build_from.Goals as goal
 
 pub loop-tier-init : goal.loop-tier-init
 loop-tier-init g c = record {
-  so_far = rw (c.new-tables.ensures, c.none-work.ensures) (so_far_none g.G.Game.rules (IsTrue g.S.Store.KEEPS) (g.S.Store.texts c.args.store.now));
+  so_far = rw (c.new-tables.ensures, c.none-work.ensures) (so_far_none g.G.Game.rules (IsTrue g.S.Store.KEEPS) (IsTrue g.S.Store.READS) (g.S.Store.texts c.args.store.now));
   ahead = tt;
   count = refl;
 }
@@ -42,11 +42,11 @@ returns-in-Err-build_tier-clause-stopped g c keeps =
     let so = c.loop-tier.invariant.so_far in
     let e = c.in-Err-build_tier.ensures in
     let stops = stops_here r c.args.first tiers order c.loop-tier.tier-index c.loop-tier-test.true start (g.S.Store.texts c.loop-tier.store) new
-    (so.texts keeps) (so.others keeps) (e.others keeps) (e.here keeps) in
+    (so.texts keeps) (so.others (g.S.Store.kept_is_read keeps)) (e.others (g.S.Store.kept_is_read keeps)) (e.here keeps) in
     stopped_by r c.args.first start new (get_or tiers c.loop-tier.tier-index 0) c.in-Err-build_tier.error stops e.error
 
 -- what the build has done after one more tier
-so_far_next : (g : Over) (c : In-Ok-build_tier g) → IsSoFar g.G.Game.rules (IsTrue g.S.Store.KEEPS) (g.S.Store.texts c.args.store.now)
+so_far_next : (g : Over) (c : In-Ok-build_tier g) → IsSoFar g.G.Game.rules (IsTrue g.S.Store.KEEPS) (IsTrue g.S.Store.READS) (g.S.Store.texts c.args.store.now)
     (g.S.Store.texts c.build_tier.new.store) c.build_tier.new.tables (take (c.loop-tier.tier-index + 1) c.tiers-tier-items.result.now)
     (with_tier c.loop-tier.work c.in-Ok-build_tier.outcome)
 so_far_next g c =
@@ -58,7 +58,7 @@ so_far_next g c =
     let tier = get_or tiers k 0 in
     let order = subst (IsOrderFrom r c.args.first) (sym c.tiers-tier-items.ensures.value) c.in-Ok.ensures.order in
     let e = c.in-Ok-build_tier.ensures in
-    rw (take_more tiers k 0 inside) (so_far_more r c.laws.ensures (IsTrue g.S.Store.KEEPS) (g.S.Store.texts c.args.store.now) (g.S.Store.texts l.store)
+    rw (take_more tiers k 0 inside) (so_far_more r c.laws.ensures (IsTrue g.S.Store.KEEPS) (IsTrue g.S.Store.READS) g.S.Store.kept_is_read (g.S.Store.texts c.args.store.now) (g.S.Store.texts l.store)
     (g.S.Store.texts c.build_tier.new.store) l.tables c.build_tier.new.tables (take k tiers) tier (fresh_tier r c.args.first tiers order k inside)
     l.work l.invariant.so_far e.held e.text e.others c.in-Ok-build_tier.outcome e.step e.work
     (order.small tier (Contains-get_or tiers k 0 inside)))
@@ -68,7 +68,7 @@ with_tier-work-requires g c =
     let tiers = c.tiers-tier-items.result.now in
     let few = subst (λ (ts : List ℕ). length ts ≤ TIERS) (sym c.tiers-tier-items.ensures.value) c.in-Ok.ensures.order.few in
     let long = length-take (c.loop-tier.tier-index + 1) tiers in
-    so_far_fits g.G.Game.rules (IsTrue g.S.Store.KEEPS) _ _ _ _ _ (so_far_next g (goal.at.with_tier-work-requires g c).In-Ok-build_tier) (omega arith)
+    so_far_fits g.G.Game.rules (IsTrue g.S.Store.KEEPS) (IsTrue g.S.Store.READS) _ _ _ _ _ (so_far_next g (goal.at.with_tier-work-requires g c).In-Ok-build_tier) (omega arith)
 
 pub loop-tier-preserved : goal.loop-tier-preserved
 loop-tier-preserved g c = record {
@@ -90,10 +90,10 @@ pub returns-clause-texts : goal.returns-clause-texts
 returns-clause-texts g c keeps = (so_far_all c.loop-tier.invariant.so_far c.loop-tier-test.false c.tiers-tier-items.ensures.value).texts keeps
 
 pub returns-clause-others : goal.returns-clause-others
-returns-clause-others g c keeps = (so_far_all c.loop-tier.invariant.so_far c.loop-tier-test.false c.tiers-tier-items.ensures.value).others keeps
+returns-clause-others g c reads = (so_far_all c.loop-tier.invariant.so_far c.loop-tier-test.false c.tiers-tier-items.ensures.value).others reads
 
 pub returns-clause-work : goal.returns-clause-work
-returns-clause-work g c keeps = (so_far_all c.loop-tier.invariant.so_far c.loop-tier-test.false c.tiers-tier-items.ensures.value).work_on keeps
+returns-clause-work g c reads = (so_far_all c.loop-tier.invariant.so_far c.loop-tier-test.false c.tiers-tier-items.ensures.value).work_on reads
 
 pub bounds-tier-items-tier-index : goal.bounds-tier-items-tier-index
 bounds-tier-items-tier-index g c = c.loop-tier-test.true
