@@ -92,7 +92,7 @@ def text(number, commit, path):
     lines = head(number, commit) + [f"toolchain  {toolchain(log)}", ""]
     lines += ["Each crate, with the sum of its files (git rev-parse COMMIT:crates/NAME), how many must-fail edits were refused, and its verdict:", ""]
     lines += rows(log) + ["", "The last lines of the gate:", "", *ends(log), ""]
-    lines += ["README.md describes what is proved and what is only tested. docs/PROMISES.md and docs/EVIDENCE.md of the repository have the details.", ""]
+    lines += ["README.md describes what is proved. docs/PROMISES.md, docs/TRUSTED.md and docs/EVIDENCE.md of the repository have the details.", ""]
     return "\n".join(lines).encode()
 
 
