@@ -1,32 +1,30 @@
-"""What the tests share: the repository's program, and the independent solver of tools/solver."""
+"""What the tests share: a folder for each, and the independent solver of tools/solver. python/run puts the tools on the path."""
 import importlib.util
 import os
-import sys
 import tempfile
 import unittest
 from functools import lru_cache
 from types import ModuleType
 from typing import Any
 
-ROOT = os.path.dirname(os.path.dirname(os.path.dirname(os.path.abspath(__file__))))
-GAMESMAN = os.environ.get("GAMESMAN") or os.path.join(ROOT, "crates/gamesman/out/gamesman")
+from lib.paths import PYTHON
+from solver.games import games
+from solver.values import Solved
 
 
-def module(path: str) -> ModuleType:
-    """Returns a module of the repository by its path."""
-    name = "of_" + os.path.basename(path)
-    if name not in sys.modules:
-        spec = importlib.util.spec_from_file_location(name, os.path.join(ROOT, f"{path}.py"))
-        assert spec and spec.loader
-        sys.modules[name] = importlib.util.module_from_spec(spec)
-        spec.loader.exec_module(sys.modules[name])
-    return sys.modules[name]
+def backend() -> ModuleType:
+    """Returns the module that builds the package, which is not a part of it."""
+    spec = importlib.util.spec_from_file_location("backend", os.path.join(PYTHON, "backend.py"))
+    assert spec and spec.loader
+    found = importlib.util.module_from_spec(spec)
+    spec.loader.exec_module(found)
+    return found
 
 
 @lru_cache(maxsize=None)
 def solved(game: str) -> Any:
     """Returns a game with the values that the independent solver finds."""
-    return module("tools/solver/values").Solved(module("tools/solver/games").games()[game])
+    return Solved(games()[game])
 
 
 class WithRoom(unittest.TestCase):

@@ -5,8 +5,9 @@ from collections import Counter, defaultdict
 from dataclasses import astuple
 from typing import Any, Dict, List, Set
 
-from common import GAMESMAN, WithRoom, solved
+from common import WithRoom, solved
 from gamesman import Folder, Game, NoSuchPlace, NoSuchPosition, Position, Record
+from lib.paths import GAMESMAN
 
 GAMES = ("wheel", "tactix-3-misere", "tictactoe", "threemens", "achi", "mutorere")
 

@@ -9,8 +9,9 @@ import unittest
 from typing import Any, Iterator
 
 import gamesman
-from common import GAMESMAN, WithRoom, solved
+from common import WithRoom, solved
 from gamesman import Failed, Folder, Game, NoSuchGame, NoSuchMove, ProgramMissing, Stopped, games
+from lib.paths import GAMESMAN
 
 # An error that takes so many seconds was waited for.
 LATE = 20

@@ -8,10 +8,11 @@ import unittest
 import zipfile
 from typing import Any, Iterator, Tuple
 
-from common import GAMESMAN, ROOT, WithRoom, module
 import gamesman
+from common import WithRoom, backend
 from gamesman import BadFile, Folder, Game, Move
 from gamesman.game import moves_of, value_of
+from lib.paths import GAMESMAN, ROOT
 
 FILES = sorted(glob.glob(f"{ROOT}/python/**/*.py", recursive=True) + glob.glob(f"{ROOT}/examples/python/*.py"))
 
@@ -69,10 +70,10 @@ class Package(WithRoom):
                 self.assertTrue(name in known or name == "gamesman" or (name in MAY_BE_MISSING and function), f"{path}: {name}")
 
     def test_one_source_makes_one_wheel(self) -> None:
-        backend = module("python/backend")
+        builder = backend()
         texts = []
         for folder in self.folder("one"), self.folder("two"):
-            with open(os.path.join(folder, backend.build_wheel(folder)), "rb") as file:
+            with open(os.path.join(folder, builder.build_wheel(folder)), "rb") as file:
                 texts.append(file.read())
             wheel = zipfile.ZipFile(os.path.join(folder, f"gamesman-{gamesman.__version__}-py3-none-any.whl"))
             names = {f"gamesman/{os.path.basename(path)}" for path in FILES if os.path.dirname(path).endswith("python/gamesman")}

@@ -4,7 +4,10 @@ import re
 import struct
 import subprocess
 
-from common import DRILL, Figures, as_version_1, digested, right_files
+from lib.figures import Figures
+from lib.files import as_version_1, digested
+from lib.programs import drill
+from lib.room import right_files
 
 GAMES = ("countdown", "tactix-2")
 OTHERS = ("wheel", "tactix-2-misere", "tactix-1", "hare")
@@ -71,7 +74,7 @@ WAYS = (bits, bits, cut, longer, swapped, sized, header, record, record, other_v
 
 def damage(room, options):
     """Seeded mutations of the files of two games, half of them of version 1, through one drill each."""
-    figures = Figures(f"damage (seed {options.seed})")
+    program, figures = drill(), Figures(f"damage (seed {options.seed})")
     right = {game: right_files(room, game) for game in (*GAMES, *OTHERS)}
     everything = [text for files in right.values() for file in files.values() for text in (file, as_version_1(file))]
     for game in GAMES:
@@ -82,7 +85,7 @@ def damage(room, options):
             text = chance.choice(WAYS)(chance, chance.choice([true, as_version_1(true)]), everything)
             cases.append((tier_of(name), text, true))
         given = "".join(f"{tier} {text.hex()}\n" for tier, text, _ in cases)
-        ran = subprocess.run([DRILL, f"damage-{game}"], input=given.encode(), capture_output=True, timeout=600)
+        ran = subprocess.run([program, f"damage-{game}"], input=given.encode(), capture_output=True, timeout=600)
         signs = ran.stdout.decode().split()
         if ran.returncode or len(signs) != len(cases):
             figures.add(0, f"{game}: status {ran.returncode}, {len(signs)} answers to {len(cases)} files")

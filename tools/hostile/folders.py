@@ -1,16 +1,21 @@
 """Folders that are none, or hold what is no plain file: a documented fault or the right files, and no hang; nothing outside is touched."""
 import os
+import re
 import subprocess
 
-from common import FAULT, GAMESMAN, Figures, right_files
+from lib.figures import Figures
+from lib.files import put
+from lib.paths import GAMESMAN
+from lib.room import right_files
 
 GAME = "countdown"
 SECONDS = 20
 
-
-def put(path, text):
-    with open(path, "wb") as it:
-        it.write(text)
+# The faults of docs/PROGRAM.md.
+FAULT = re.compile(
+    rb"gamesman: (no such game|no such position|out of memory|too far in tier \d+|store failed at tier \d+|too many tiers"
+    rb"|tier \d+ too large|tier \d+ is another game's|input failed|output failed|too much input)\n"
+)
 
 
 class Case:

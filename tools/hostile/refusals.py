@@ -3,7 +3,11 @@ import os
 import re
 import shutil
 
-from common import DRILL, GAMESMAN, Figures, as_version_1, files_of, right_files, wrong_file
+from lib.figures import Figures
+from lib.files import as_version_1, files_of, wrong_file
+from lib.paths import DRILL, GAMESMAN
+from lib.programs import drill
+from lib.room import right_files
 
 # Calls that go on without a worker that could not be started, so that they may answer although something was refused.
 WITH_THREADS = ("pieces-", "passes-", "build")
@@ -51,12 +55,10 @@ def refuse_in_call(room, word, kind):
 def calls(room, _options):
     """Each allocation inside each library call, and each start of a thread in those that have workers."""
     figures = Figures("calls")
-    words = room.run([DRILL, "list"]).out.decode().split()
+    words = room.run([drill(), "list"]).out.decode().split()
     work = [(word, "malloc") for word in words] + [(word, "thread") for word in words if word.startswith(WITH_THREADS)]
     for each in room.in_lanes(lambda it: refuse_in_call(room, *it), work):
-        figures.runs += each.runs
-        figures.refused += each.refused
-        figures.wrong += each.wrong
+        figures.take(each)
     if len(words) < 20:
         figures.wrong.append("the drill lists too few words")
     return figures
@@ -317,7 +319,5 @@ def program(room, options):
     done = [torn_lines(room, line) for line, _ in lines]
     sampled = room.in_lanes(lambda line: refuse_in_sample(room, line, "malloc", SAMPLE), list(sampled_lines(room)))
     for each in done + sampled + room.in_lanes(lambda it: refuse_in_line(room, *it), work):
-        figures.runs += each.runs
-        figures.refused += each.refused
-        figures.wrong += each.wrong
+        figures.take(each)
     return figures

@@ -1,10 +1,12 @@
 """Runs stopped at a random moment: no wrong file stands at any time, and the next run goes on."""
-import os
 import random
 import subprocess
 import time
 
-from common import GAMESMAN, Figures, files_of, right_files, wrong_file
+from lib.figures import Figures
+from lib.files import files_of, wrong_file
+from lib.paths import GAMESMAN
+from lib.room import right_files
 
 # How many times each game is stopped.
 STOPS = {"tactix-3": 200, "achi": 200, "dao": 200}
@@ -41,6 +43,5 @@ def stops(room, options):
     """SIGKILL at a random moment of `solve`."""
     figures = Figures(f"stops (seed {options.seed})")
     for game, number in STOPS.items():
-        each = stop_game(room, game, number, options.seed)
-        figures.runs, figures.refused, figures.wrong = figures.runs + each.runs, figures.refused + each.refused, figures.wrong + each.wrong
+        figures.take(stop_game(room, game, number, options.seed))
     return figures

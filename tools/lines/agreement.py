@@ -2,9 +2,9 @@
 its drawing."""
 import os
 import re
-import subprocess
 
-from common import GAMESMAN, ROOT
+from lib.paths import ROOT
+from lib.programs import Refused, told
 
 # Tac Tix on 5 by 5 takes too long for these calls.
 TOO_LARGE = {"tactix-5", "tactix-5-misere"}
@@ -24,29 +24,20 @@ GAMES = [game for game in FIRST + LATER if game not in TOO_LARGE]
 # The most columns that a drawing takes.
 COLUMNS = 50
 
-SECONDS = 120
+
+def lines_of(*words):
+    return told(*words).splitlines()
 
 
-class Refused(Exception):
-    """A line that ended otherwise than with status 0 and nothing on standard error."""
-
-
-def told(program, *words):
-    ran = subprocess.run([program, *words], capture_output=True, stdin=subprocess.DEVNULL, timeout=SECONDS, check=False)
-    if ran.returncode or ran.stderr:
-        raise Refused(f"{' '.join(words)}: status {ran.returncode}, {ran.stderr!r}")
-    return ran.stdout.decode().splitlines()
-
-
-def wrong(program, game):
+def wrong(game):
     """Why the lines about a game disagree, if they do."""
     try:
-        moves = [line.split("\t") for line in told(program, "moves", game)]
-        line = [entry.split("\t") for entry in told(program, "line", game)]
+        moves = [line.split("\t") for line in lines_of("moves", game)]
+        line = [entry.split("\t") for entry in lines_of("line", game)]
         start, value = line[0][1:]
-        if told(program, "query", game, start) != [value]:
+        if lines_of("query", game, start) != [value]:
             return "query and line give two values"
-        drawing = told(program, "show", game)
+        drawing = lines_of("show", game)
     except Refused as why:
         return str(why)
     if moves[0] != [line[1][0], value, line[1][1]]:
@@ -60,7 +51,7 @@ def wrong(program, game):
 
 def games_are_listed(room):
     # Scripts rely on what `list` prints, so games that came later stand after it.
-    found, every = told(GAMESMAN, "list"), told(GAMESMAN, "list", "--all")
+    found, every = lines_of("list"), lines_of("list", "--all")
     return None if (found, every) == (FIRST, FIRST + LATER) else f"{found} and {every} are listed"
 
 

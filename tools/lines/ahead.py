@@ -5,9 +5,8 @@ import re
 import subprocess
 from collections import Counter
 
-from common import DRILL, GAMESMAN
-
-SECONDS = 120
+from lib.paths import GAMESMAN
+from lib.programs import SECONDS, drill
 
 # Five of the 25 counters of Tac Tix on 5 by 5, in a row.
 ROW = "xxxxx" + 20 * "."
@@ -18,9 +17,9 @@ def told(*words):
     return ran.stdout if (ran.returncode, ran.stderr) == (0, "") else f"status {ran.returncode}: {ran.stderr}"
 
 
-def tiers(game, folder, moves):
-    """For each tier its number, its positions, those whose value looking ahead finds, and those for which it finds another."""
-    lines = told(DRILL, "ahead", game, str(moves), folder)
+def tiers(program, game, folder, moves):
+    """For each tier, by the drill, its number, its positions, those whose value looking ahead finds, and those for which it finds another."""
+    lines = told(program, "ahead", game, str(moves), folder)
     return [tuple(map(int, re.findall(r"^tier (\d+): (\d+) positions, (\d+) known, (\d+) wrong$", line)[0])) for line in lines.splitlines()]
 
 
@@ -36,9 +35,9 @@ def decided(game, folder, moves):
 
 def agrees(room, game, moves):
     """Why the values of a game's canonical positions differ from looking so many moves ahead, if they do."""
-    folder = room.fresh()
+    program, folder = drill(), room.fresh()
     told(GAMESMAN, "solve", game, folder)
-    found, least = tiers(game, folder, moves), decided(game, folder, moves)
+    found, least = tiers(program, game, folder, moves), decided(game, folder, moves)
     if len(found) != len(os.listdir(folder)) or not any(least.values()):
         return f"not all tiers are compared: {found}"
     few = [f"tier {tier}: {known} positions are known, and {least[tier]} are decided" for tier, _, known, _ in found if known < least[tier]]
@@ -73,11 +72,11 @@ def dao_agrees_with_looking_ahead(room):
 
 def low_tiers(room, game, value):
     """Why the tiers that a row of five reaches differ from what they must be, if they do: each position of up to four counters is decided within four moves."""
-    folder = room.fresh()
+    program, folder = drill(), room.fresh()
     found = told(GAMESMAN, "query", game, ROW, "--folder", folder)
     if found != f"{value}\n":
         return f"the row: {found!r}"
-    compared = tiers(game, folder, 4)
+    compared = tiers(program, game, folder, 4)
     if len(compared) != 6 or any(wrong for *_, wrong in compared) or any(known != positions for _, positions, known, _ in compared[:5]):
         return f"{compared}"
     return None

@@ -6,21 +6,17 @@ import shlex
 import subprocess
 import time
 
-from common import GAMESMAN, SECONDS
-from helps import commands, helped, section
-from lines import put
+from lib.files import put
+from lib.programs import SECONDS, told
+from lines.helps import commands, helped, section
 
 SHELLS = ["bash", "zsh", "fish"]
-
-
-def told(*words):
-    return subprocess.run([GAMESMAN, *words], capture_output=True, timeout=SECONDS, check=True).stdout
 
 
 def completions(folder):
     """The file with the completions of bash, in a folder."""
     path = os.path.join(folder, "gamesman")
-    put(path, told("completions", "bash"))
+    put(path, told("completions", "bash").encode())
     return path
 
 
@@ -42,7 +38,7 @@ def options(text):
 
 def cases():
     """Lines of words with what has to be offered for the last one."""
-    names, games = commands(), told("list", "--all").decode().split()
+    names, games = commands(), told("list", "--all").split()
     yield ["gamesman", ""], names
     for start in ("q", "c", "com", "list", "no"):
         yield ["gamesman", start], [name for name in names if name.startswith(start)]

@@ -2,16 +2,16 @@
 import os
 import subprocess
 
-from common import DRILL, GAMESMAN
+from lib.files import content
+from lib.programs import drill, told
 
 
 def by(room, way):
     """Why Dao, solved in a way, differs from what the program writes, if it does: the digest that ends its file, and the number of deliveries."""
-    folder = room.fresh()
-    subprocess.run([GAMESMAN, "solve", "dao", folder], stdout=subprocess.DEVNULL, timeout=120, check=True)
-    with open(os.path.join(folder, "tier-0.gmt"), "rb") as file:
-        digest = file.read()[-32:].hex()
-    ran = subprocess.run([DRILL, "dao", way], capture_output=True, text=True, timeout=120, check=False)
+    program, folder = drill(), room.fresh()
+    told("solve", "dao", folder)
+    digest = content(os.path.join(folder, "tier-0.gmt"))[-32:].hex()
+    ran = subprocess.run([program, "dao", way], capture_output=True, text=True, timeout=120, check=False)
     right = (ran.returncode, ran.stdout) == (0, f"256358 deliveries, 0 by hand, digest {digest}\n")
     return None if right else f"status {ran.returncode}, {ran.stdout}"
 
@@ -32,7 +32,7 @@ def tables(game, deliveries, records):
     """Why a toy, solved by one thread, by pieces and by passes, twice each, differs from these records and this number, if it does."""
     wanted = [f"{what}: {deliveries} deliveries: {records}" for what in ("answer", "again")]
     for way in ("alone", "pieces", "passes"):
-        ran = subprocess.run([DRILL, f"{way}-{game}"], capture_output=True, text=True, timeout=120, check=False)
+        ran = subprocess.run([drill(), f"{way}-{game}"], capture_output=True, text=True, timeout=120, check=False)
         if ran.returncode or ran.stdout.splitlines() != wanted:
             return f"{way}: status {ran.returncode}, {ran.stdout}"
     return None
@@ -51,7 +51,7 @@ def wheel_table(room):
 def analysis_of_one_position(room):
     # Countdown from 0, of which nothing is printed but its one position (docs/FORMATS.md).
     text = '{"canonical":1,"counts":[["lose",0,1]],"game":"countdown","legal":1,"longest_win":null,"size":1,"tier":0}'
-    ran = subprocess.run([DRILL, "json-of-one"], capture_output=True, text=True, timeout=120, check=False)
+    ran = subprocess.run([drill(), "json-of-one"], capture_output=True, text=True, timeout=120, check=False)
     return None if not ran.returncode and ran.stdout.splitlines() == [f"answer: {text}", f"again: {text}"] else f"status {ran.returncode}, {ran.stdout}"
 
 

@@ -2,10 +2,11 @@
 import os
 import subprocess
 
-from common import GAMESMAN, ROOT
+from lib.files import content
+from lib.paths import TOOLS
+from lib.programs import SECONDS, told
 
-SOURCE = os.path.join(ROOT, "tools/solver/foxhounds.c")
-SECONDS = 120
+SOURCE = os.path.join(TOOLS, "solver/foxhounds.c")
 
 
 def differing(written, wanted):
@@ -22,12 +23,10 @@ def foxhounds_beside_a_solver(room):
     solver, *files = (os.path.join(place, name) for name in ("solver", "win", "lose"))
     subprocess.run(["cc", "-O2", "-o", solver, SOURCE], check=True)
     subprocess.run([solver, *files], check=True, timeout=SECONDS)
-    subprocess.run([GAMESMAN, "solve", "foxhounds", folder], check=True, timeout=SECONDS, capture_output=True)
+    told("solve", "foxhounds", folder)
     for value, path in zip(("win", "lose"), files):
-        words = [GAMESMAN, "find", "foxhounds", "--value", value, "--folder", folder, "--read-only"]
-        found = subprocess.run(words, check=True, timeout=SECONDS, capture_output=True).stdout
-        with open(path, "rb") as it:
-            why = differing(found, it.read())
+        found = told("find", "foxhounds", "--value", value, "--folder", folder, "--read-only")
+        why = differing(found.encode(), content(path))
         if why:
             return f"find --value {value}: {why}"
     return None

@@ -1,10 +1,7 @@
 """The moves of worked positions, and how many positions the games have (docs/GAMES.md)."""
 import json
-import subprocess
 
-from common import GAMESMAN
-
-SECONDS = 120
+from lib.programs import told
 
 # The columns of the points of Hare and Hounds.
 COLUMNS = (0, 1, 1, 1, 2, 2, 2, 3, 3, 3, 4)
@@ -24,20 +21,15 @@ NINE_POINTS = [
 ]
 
 
-def told(*words):
-    ran = subprocess.run([GAMESMAN, *words], capture_output=True, text=True, timeout=SECONDS, check=True)
-    return ran.stdout.splitlines()
-
-
 def moves(game, *words):
     """The moves of a position, the start where none is named, with the texts of the positions that they lead to."""
-    rows = [line.split("\t") for line in told("moves", game, *words)]
+    rows = [line.split("\t") for line in told("moves", game, *words).splitlines()]
     return {move: result for move, _, result in rows}
 
 
 def wrong_start(game, text, wanted, children):
     """Why a game's start has not this text, these moves and so many canonical children, if it has not."""
-    start, found = told("line", game, "--limit", "1")[0].split("\t")[1], set(moves(game))
+    start, found = told("line", game, "--limit", "1").splitlines()[0].split("\t")[1], set(moves(game))
     distinct = moves(game, "--distinct")
     if start != text or found != set(wanted.split()) or len(distinct) != children:
         return f"the start {start!r} has the moves {sorted(found)}, of which {len(distinct)} are distinct"
@@ -70,7 +62,7 @@ def moves_in_the_last_tier(room):
 
 def counted(game):
     """The size of each tier, and how many indexes are legal and canonical."""
-    return {tier["tier"]: (tier["size"], tier["legal"], tier["canonical"]) for tier in map(json.loads, told("analyse", game))}
+    return {tier["tier"]: (tier["size"], tier["legal"], tier["canonical"]) for tier in map(json.loads, told("analyse", game).splitlines())}
 
 
 def nine_point_counts(room):

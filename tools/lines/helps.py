@@ -2,10 +2,9 @@
 import os
 import re
 import shutil
-import subprocess
 
-from common import GAMESMAN, SECONDS
-from samples import run_line
+from lib.programs import told
+from lines.samples import run_line
 
 # What the samples write to: folders for tables, and where the shells of a user read completions.
 FOLDERS = ("tables", "dao-tables", ".local/share/bash-completion/completions", ".config/fish/completions")
@@ -15,7 +14,7 @@ ENGINE = "engine.txt", "H4sIAAAA+/8=\n"
 
 
 def helped(*words):
-    return subprocess.run([GAMESMAN, *words, "--help"], capture_output=True, text=True, timeout=SECONDS, check=True).stdout
+    return told(*words, "--help")
 
 
 def section(text, head):

@@ -4,10 +4,11 @@ import shutil
 import subprocess
 import sys
 
-from common import GAMESMAN, ROOT, SECONDS
-from lines import content, put
+from lib.files import content, put
+from lib.paths import GAMESMAN, IS_ANOTHER, TOOLS
+from lib.programs import SECONDS, LeftOut
 
-INSTALL = os.path.join(ROOT, "tools/install")
+INSTALL = os.path.join(TOOLS, "install")
 
 # What the program prints for each place but its own.
 PRINTED = {
@@ -45,8 +46,15 @@ def wrong_under(prefix):
     return next((f"another {place}" for place, words in PRINTED.items() if content(f"{prefix}/{place}") != told(program, *words)), None)
 
 
+def leave_out_another():
+    """Leaves a part out if another program is tried than the one that is installed."""
+    if IS_ANOTHER:
+        raise LeftOut("tools/install installs the built program, and another one is tried")
+
+
 def the_program_is_installed(room):
     """Into a prefix that is not there, by its name from where one stands; then over it, with a file in the way of the manual page."""
+    leave_out_another()
     place = room.fresh()
     prefix = f"{place}/new/prefix"
     for way in "new/prefix", prefix:
@@ -62,6 +70,7 @@ def the_program_is_installed(room):
 
 def what_cannot_be_installed(room):
     """A file where a folder has to be, and a folder where a file has to be: a word on it, and nothing more or less than before is there."""
+    leave_out_another()
     for name, is_folder, fault in (("share/zsh", False, ": File exists"), ("share/fish/vendor_completions.d/gamesman.fish", True, " is a folder")):
         prefix = room.fresh()
         os.makedirs(f"{prefix}/{name}" if is_folder else os.path.dirname(f"{prefix}/{name}"))

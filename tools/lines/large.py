@@ -6,10 +6,11 @@ import struct
 import subprocess
 from math import comb
 
-from common import GAMESMAN, ROOT, files_of
+from lib.files import files_of
+from lib.paths import GAMESMAN, TOOLS
 
 HERE = os.path.dirname(os.path.abspath(__file__))
-SOURCE = os.path.join(ROOT, "tools/solver/tactix.c")
+SOURCE = os.path.join(TOOLS, "solver/tactix.c")
 SECONDS, CELLS, MAGIC = 600, 25, b"GMTIER02"
 
 # The numbers of pairs that the solver delivers, of the normal game.

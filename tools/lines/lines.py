@@ -6,18 +6,13 @@ import shutil
 import struct
 import subprocess
 
-from common import GAMESMAN, as_version_1
-
-# A line that takes longer hangs.
-SECONDS = 120
+from lib.files import as_version_1, content, put
+from lib.paths import GAMESMAN
+from lib.programs import SECONDS
 
 # The end of a pipe that nobody reads. It is made before there are threads, so that no child of another thread holds the other end for a while.
 NOBODY_READS, CLOSED = os.pipe()
 os.close(NOBODY_READS)
-
-
-class LeftOut(Exception):
-    """Why a part is not run on this machine."""
 
 
 class Line:
@@ -90,16 +85,6 @@ class Deed:
 
     def __str__(self):
         return " ".join([self.verb, *self.words])
-
-
-def content(path):
-    with open(path, "rb") as it:
-        return it.read()
-
-
-def put(path, text):
-    with open(path, "wb") as it:
-        it.write(text)
 
 
 def flip(path):

@@ -1,8 +1,9 @@
 """Folders in which a file is damaged, cut short or half written, or of version 1: `check` says why, and `solve` puts the right file in its place."""
 import os
 
-from common import GAMESMAN, as_version_1, digested
-from lines import content, old, put, same
+from lib.files import as_version_1, content, digested, put
+from lib.paths import GAMESMAN
+from lines.lines import old, same
 
 # The file of Countdown from 10 up to its digest (docs/FORMATS.md, `file_of_countdown`): a front, and eleven records.
 FRONT = b"GMTIER02" + b"countdown".ljust(16, b"\0") + (0).to_bytes(8, "little") + (11).to_bytes(8, "little")

@@ -4,11 +4,10 @@ import os
 import re
 import subprocess
 
-from common import DRILL, GAMESMAN
-from large import found_digests, right_digests
-from lines import same
-
-SECONDS = 120
+from lib.paths import GAMESMAN
+from lib.programs import SECONDS, drill, told
+from lines.large import found_digests, right_digests
+from lines.lines import same
 
 # More than the tiers of any game.
 ALL = "2000"
@@ -18,17 +17,16 @@ TACTIX = [f"tactix-{rows}{end}" for end in ("", "-misere") for rows in (1, 2, 3,
 
 def solved(game, folder, *options):
     """The deliveries of a game that the program solves into an empty folder, none of them by hand."""
-    words = [GAMESMAN, "solve", game, folder, *options]
-    ran = subprocess.run(words, capture_output=True, text=True, timeout=SECONDS, check=False)
-    found = re.fullmatch(r"solved (\d+) reused 0 migrated 0 deliveries (\d+) by hand 0\n", ran.stdout)
-    if ran.returncode or not found or int(found[1]) != len(os.listdir(folder)):
-        raise ValueError(f"{' '.join(words)}: status {ran.returncode}: {ran.stdout}{ran.stderr}")
+    text = told("solve", game, folder, *options)
+    found = re.fullmatch(r"solved (\d+) reused 0 migrated 0 deliveries (\d+) by hand 0\n", text)
+    if not found or int(found[1]) != len(os.listdir(folder)):
+        raise ValueError(f"solve {game} {' '.join(options)}: {text}")
     return int(found[2])
 
 
-def tiers_by_plans(game, count=ALL):
+def tiers_by_plans(program, game, count=ALL):
     """For each of a game's first tiers its deliveries and the digest that ends its file, on which one thread and all plans agree."""
-    ran = subprocess.run([DRILL, "plans", game, count], capture_output=True, text=True, timeout=SECONDS, check=False)
+    ran = subprocess.run([program, "plans", game, count], capture_output=True, text=True, timeout=SECONDS, check=False)
     if ran.returncode:
         raise ValueError(f"{game}: status {ran.returncode}: {ran.stdout[-200:]}{ran.stderr}")
     lines = re.findall(r"tier (\d+): (\d+) deliveries, 0 by hand, digest ([0-9a-f]{64})\n", ran.stdout)
@@ -46,10 +44,11 @@ def ends_of(folder):
 
 def under_nine_plans(room, games):
     """Why a game's tables or deliveries depend on who solves it, if they do: the program's own plan, one thread, or workers in every tier."""
+    program = drill()
     for game in games:
         folder = room.fresh()
         deliveries = solved(game, folder)
-        tiers = tiers_by_plans(game)
+        tiers = tiers_by_plans(program, game)
         if sum(number for number, _ in tiers.values()) != deliveries:
             return f"{game}: other deliveries"
         if {tier: digest for tier, (_, digest) in tiers.items()} != ends_of(folder):
@@ -90,19 +89,18 @@ def ring_and_star_under_nine_plans(room):
 
 def low_tiers_of_five_under_nine_plans(room):
     """The tiers 0 to 5 of Tac Tix on 5 by 5, in this order, which a row of five reaches; their files are those that independent solvers made."""
-    folder = room.fresh()
-    subprocess.run([GAMESMAN, "query", "tactix-5", "xxxxx" + 20 * ".", "--folder", folder], stdout=subprocess.DEVNULL, timeout=SECONDS, check=True)
+    program, folder = drill(), room.fresh()
+    told("query", "tactix-5", "xxxxx" + 20 * ".", "--folder", folder)
     right = {name: digest for name, digest in right_digests().items() if int(name.removeprefix("tier-")) <= 5}
     if found_digests(folder) != right:
         return "the folder has other files"
-    tiers = tiers_by_plans("tactix-5", "6")
+    tiers = tiers_by_plans(program, "tactix-5", "6")
     return None if list(tiers) == [0, 1, 2, 3, 4, 5] and {tier: digest for tier, (_, digest) in tiers.items()} == ends_of(folder) else f"{tiers}"
 
 
 def tictactoe_table(room):
     """The positions of Tic-tac-toe, over all tiers: legal, canonical, and of these the lost and the tied ones at the end of the game."""
-    ran = subprocess.run([GAMESMAN, "analyse", "tictactoe"], capture_output=True, text=True, timeout=SECONDS, check=True)
-    tiers = [json.loads(line) for line in ran.stdout.splitlines()]
+    tiers = [json.loads(line) for line in told("analyse", "tictactoe").splitlines()]
     ended = {"lose": 0, "tie": 0}
     for value, remoteness, number in (count for tier in tiers for count in tier["counts"]):
         if remoteness == 0:
@@ -116,8 +114,8 @@ def file_of_dao(room):
     folder = room.fresh()
     if solved("dao", folder) != 256_358 or os.path.getsize(f"{folder}/tier-0.gmt") != 3_603_672:
         return "another number of deliveries, or another length"
-    ran = subprocess.run([GAMESMAN, "solve", "dao", folder], capture_output=True, text=True, timeout=SECONDS, check=True)
-    return None if ran.stdout == "solved 0 reused 1 migrated 0 deliveries 0 by hand 0\n" else ran.stdout
+    again = told("solve", "dao", folder)
+    return None if again == "solved 0 reused 1 migrated 0 deliveries 0 by hand 0\n" else again
 
 
 def threads_of(room, game, *words):

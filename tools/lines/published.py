@@ -1,11 +1,8 @@
 """King and rook against king with Black to move, counted by moves to mate, beside the table that the machine learning repository of the University of
 California at Irvine publishes (docs/GAMES.md)."""
-import subprocess
 from collections import Counter
 
-from common import GAMESMAN
-
-SECONDS = 120
+from lib.programs import told
 
 # The positions up to symmetry that are lost in 0, 1, 2, .. of White's moves, and those that are drawn.
 LOST = [27, 78, 246, 81, 198, 471, 592, 683, 1433, 1712, 1985, 2854, 3597, 4194, 4553, 2166, 390]
@@ -14,15 +11,14 @@ DRAWN = 2796
 
 def found(value, folder):
     """The text and the value of each canonical position of a value."""
-    words = [GAMESMAN, "find", "krk", "--value", value, "--folder", folder, "--read-only"]
-    ran = subprocess.run(words, check=True, timeout=SECONDS, capture_output=True, text=True)
-    return [line.split("\t")[:2] for line in ran.stdout.splitlines()]
+    text = told("find", "krk", "--value", value, "--folder", folder, "--read-only")
+    return [line.split("\t")[:2] for line in text.splitlines()]
 
 
 def king_and_rook_as_published(room):
     """The counts of the positions with three men and Black to move."""
     folder = room.fresh()
-    subprocess.run([GAMESMAN, "solve", "krk", folder], check=True, timeout=SECONDS, capture_output=True)
+    told("solve", "krk", folder)
     moves = Counter(int(value.split()[2]) for _, value in found("lose", folder))
     lost = [moves.pop(2 * number, 0) for number in range(len(LOST))]
     drawn = sum(text.endswith(" b") for value in ("tie", "draw") for text, _ in found(value, folder))

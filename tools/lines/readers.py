@@ -1,41 +1,27 @@
 """The Python package and the scripts of examples/python: over all positions of two games the package reads what an independent solver (tools/solver) says, and
 it refuses what it must. Its own tests are run by python/run."""
-import importlib.util
 import os
 import re
 import subprocess
 import sys
 from collections import Counter
 
-from common import GAMESMAN, ROOT, SECONDS
-from lines import put
-from mended import RIGHT, WORDS, file_of
-from samples import blocks, wrong_in, wrong_typed
+import gamesman
+from gamesman.folder import decode
+from lib.files import put
+from lib.paths import GAMESMAN, PYTHON, ROOT
+from lib.programs import SECONDS, folder_of_program, told
+from lines.mended import RIGHT, WORDS, file_of
+from lines.samples import blocks, wrong_in, wrong_typed
+from solver.games import games
+from solver.values import Solved
 
 GAMES = ("tictactoe", "mutorere")
 EXAMPLES = os.path.join(ROOT, "examples/python")
-PACKAGE = os.path.join(ROOT, "python")
-
-
-def module(path):
-    """A module by its path, for some of other folders have the names of some of this one."""
-    name = "read_" + os.path.basename(path)
-    spec = importlib.util.spec_from_file_location(name, os.path.join(ROOT, f"{path}.py"))
-    found = importlib.util.module_from_spec(spec)
-    sys.modules[name] = found
-    spec.loader.exec_module(found)
-    return found
-
-
-sys.path.insert(0, PACKAGE)
-import gamesman
-from gamesman.folder import decode
-
-games, Solved = module("tools/solver/games").games, module("tools/solver/values").Solved
 
 
 def ran(*words):
-    env = {"PATH": f"{os.path.dirname(GAMESMAN)}:/usr/bin:/bin", "LANG": "C.UTF-8", "PYTHONPATH": PACKAGE}
+    env = {"PATH": f"{folder_of_program()}:/usr/bin:/bin", "LANG": "C.UTF-8", "PYTHONPATH": PYTHON}
     done = subprocess.run([sys.executable, "-B", *words], cwd=EXAMPLES, env=env, capture_output=True, text=True, timeout=SECONDS, check=False)
     return done.returncode, done.stdout, done.stderr
 
@@ -43,7 +29,7 @@ def ran(*words):
 def solved(room, game):
     """A folder with the game's tables, by the program."""
     folder = room.fresh()
-    subprocess.run([GAMESMAN, "solve", game, folder], stdout=subprocess.DEVNULL, timeout=SECONDS, check=True)
+    told("solve", game, folder)
     return folder
 
 
@@ -178,7 +164,7 @@ def wrong_book():
 
 def wrong_program(block, folder):
     """Why a program of the page prints something else than its comment says, if it does."""
-    env = {"PATH": f"{os.path.dirname(GAMESMAN)}:/usr/bin:/bin", "PYTHONPATH": PACKAGE}
+    env = {"PATH": f"{folder_of_program()}:/usr/bin:/bin", "PYTHONPATH": PYTHON}
     done = subprocess.run([sys.executable, "-B", "-c", block], cwd=folder, env=env, capture_output=True, text=True, timeout=SECONDS, check=False)
     wanted = (0, f"{block.rpartition('  # ')[2].strip()}\n", "")
     return None if (done.returncode, done.stdout, done.stderr) == wanted else f"{done}"

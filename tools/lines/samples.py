@@ -4,7 +4,8 @@ import re
 import subprocess
 import sys
 
-from common import GAMESMAN, ROOT, SECONDS
+from lib.paths import PYTHON, ROOT
+from lib.programs import SECONDS, folder_of_program
 
 # What takes long: tools/measure --large runs it.
 LONG = "tactix-5"
@@ -21,8 +22,8 @@ def blocks(page):
 
 def run_line(line, folder):
     """Runs a line of the shell in a folder, which is its user's home too. Its program is the built one, and Python has the package."""
-    env = {"PATH": f"{os.path.dirname(GAMESMAN)}:{os.path.dirname(sys.executable)}:/usr/bin:/bin", "LANG": "C.UTF-8", "HOME": folder}
-    env |= {"PYTHONPATH": os.path.join(ROOT, "python"), "PYTHONDONTWRITEBYTECODE": "1"}
+    env = {"PATH": f"{folder_of_program()}:{os.path.dirname(sys.executable)}:/usr/bin:/bin", "LANG": "C.UTF-8", "HOME": folder}
+    env |= {"PYTHONPATH": PYTHON, "PYTHONDONTWRITEBYTECODE": "1"}
     return subprocess.run(["bash", "-c", line], cwd=folder, env=env, capture_output=True, stdin=subprocess.DEVNULL, timeout=SECONDS, check=False)
 
 

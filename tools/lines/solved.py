@@ -6,9 +6,9 @@ import os
 import subprocess
 import sys
 
-from common import ROOT
+from lib.paths import ROOT, TOOLS
 
-RUN = os.path.join(ROOT, "tools/solver/run")
+RUN = os.path.join(TOOLS, "solver/run")
 SECONDS = 900
 
 

@@ -2,7 +2,7 @@
 from collections import Counter
 from itertools import combinations
 
-from common import GAMESMAN
+from lib.paths import GAMESMAN
 
 # The lost positions of Countdown.
 LOST = ("0", "3", "6", "9")

@@ -3,7 +3,8 @@ import os
 import select
 import subprocess
 
-from common import GAMESMAN, SECONDS
+from lib.paths import GAMESMAN
+from lib.programs import SECONDS
 
 SESSION = [GAMESMAN, "play", "countdown", "--second"]
 INPUT = b"3\nquit\n"

@@ -10,8 +10,8 @@ import os
 import shutil
 import subprocess
 
-from common import GAMESMAN, SECONDS
-from lines import LeftOut
+from lib.paths import GAMESMAN
+from lib.programs import SECONDS, LeftOut, told
 
 STRACE = "strace"
 
@@ -36,7 +36,7 @@ def started(room, game, workers, piece):
 
 def levels(game):
     """Counts the positions of each level of each tier: by the phase and the remoteness."""
-    text = subprocess.run([GAMESMAN, "counts", game, "--by-tier", "--csv"], capture_output=True, text=True, timeout=SECONDS, check=True).stdout
+    text = told("counts", game, "--by-tier", "--csv")
     found = collections.defaultdict(collections.Counter)
     for row in csv.DictReader(text.splitlines()):
         if row["value"] != "draw":

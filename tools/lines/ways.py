@@ -1,12 +1,10 @@
 """Games on points that ways join, solved from the words of their rules alone (docs/GAMES.md; the ways are those of games.json in their crates), and what the
 program says of every text beside that."""
 import json
-import subprocess
 from itertools import product
 
-from common import GAMESMAN, TOLD
-
-SECONDS = 120
+from lib.games import TOLD
+from lib.programs import told
 
 SEEN_BY_THE_OTHER = str.maketrans("xo", "ox")
 
@@ -53,16 +51,16 @@ class Game:
             number += 1
 
 
-def told(game, texts):
-    ran = subprocess.run([GAMESMAN, "ask", game], input="".join(f"{it}\n" for it in texts), capture_output=True, text=True, timeout=SECONDS, check=True)
-    return [json.loads(line) for line in ran.stdout.splitlines()]
+def answers_to(game, texts):
+    """What the program answers to each of these texts."""
+    return [json.loads(line) for line in told("ask", game, given="".join(f"{it}\n" for it in texts)).splitlines()]
 
 
 def wrong(game):
     """What the program says otherwise of a text: that it is no position, its value, or its moves and the boards that they lead to."""
     texts = ["".join(letters) for letters in product("xo.", repeat=len(game.points))]
     boards = {text for text in texts if game.is_legal(text)}
-    found, answers = game.settled(boards), told(game.name, texts)
+    found, answers = game.settled(boards), answers_to(game.name, texts)
     if len(boards) != game.legal or len(answers) != len(texts):
         return f"{len(boards)} boards, {len(answers)} answers"
     for text, answer in zip(texts, answers):

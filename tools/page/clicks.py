@@ -2,8 +2,8 @@
 import json
 import random
 
-from listing import value_text, worth
-from looks import CONTRAST, NAMED, NAMELESS
+from page.listing import value_text, worth
+from page.looks import CONTRAST, NAMED, NAMELESS
 
 # How a place's middle is found (above the badge that may stand there), and what a game in a page is at.
 MIDDLE = "k => { const r = board.places[k].g.querySelector('.hit').getBoundingClientRect(); return [r.x + r.width / 2, r.y + r.height / 3]; }"

@@ -1,6 +1,6 @@
 """What a page says of each game in its first line: the board, the names of its points, its men and its sides (docs/FORMATS.md). The crates of the games say it
 in short in their files games.json (docs/ADDING_A_GAME.md)."""
-from common import TOLD
+from lib.games import TOLD
 
 # The board of chess, whose squares are all alike in it, and their names from the eighth rank down.
 CHESS = "\n".join(["    a b c d e f g h"] + [f"{rank}   A A A A A A A A" for rank in range(8, 0, -1)])

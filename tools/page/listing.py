@@ -2,15 +2,9 @@
 import json
 import subprocess
 
-from common import GAMESMAN
-from heads import HEADS
-
-# A question over tables that have to be read takes seconds.
-SECONDS = 120
-
-
-def told(*words):
-    return subprocess.run([GAMESMAN, *words], capture_output=True, text=True, timeout=SECONDS, check=True).stdout
+from lib.paths import GAMESMAN
+from lib.programs import SECONDS, told
+from page.heads import HEADS
 
 
 class Asker:

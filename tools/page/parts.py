@@ -3,7 +3,7 @@ import html.parser
 import os
 import re
 
-from common import ROOT
+from lib.paths import ROOT
 
 SOURCES = os.path.join(ROOT, "crates/gm_page/src")
 NAMESPACES = {"http://www.w3.org/1999/xhtml", "http://www.w3.org/2000/svg"}

@@ -2,10 +2,10 @@
 import os
 import re
 
-from common import ROOT
-from heads import HEADS
-from listing import told
-from parts import wrong_tags
+from lib.paths import ROOT
+from lib.programs import told
+from page.heads import HEADS
+from page.parts import wrong_tags
 
 # The most moves of a solution's line.
 MOVES = "40"

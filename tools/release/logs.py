@@ -1,8 +1,8 @@
 """That the text on what was proved is made of a whole log of the gate, and of no other."""
 import os
 
-import proved
-from parts import Refused, told
+from release import proved
+from release.parts import Refused, told
 
 VERDICT = "logic=proved functions={} sum=0123456789abcdef native=nat,char,string"
 ENDS = (

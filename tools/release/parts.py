@@ -5,9 +5,10 @@ import os
 import re
 import subprocess
 
-HERE = os.path.dirname(os.path.abspath(__file__))
-ROOT = os.path.dirname(os.path.dirname(HERE))
-GAMESMAN = os.path.join(ROOT, "crates/gamesman/out/gamesman")
+from lib.paths import ROOT, built
+
+# The program that is released is always the built one.
+PROGRAM = built("gamesman")
 
 NAME = "gamesman"
 MAINTAINER = "Fegbolaru maintainers <maintainers@users.noreply.fegbolaru.example>"
@@ -40,7 +41,7 @@ def told(*words):
 
 def version():
     """The version that the program says, which is the package's too."""
-    found = re.fullmatch(r"gamesman (\d+\.\d+\.\d+)\n", told(GAMESMAN, "--version").decode())
+    found = re.fullmatch(r"gamesman (\d+\.\d+\.\d+)\n", told(PROGRAM, "--version").decode())
     of_package = re.search(r'(?m)^__version__ = "([^"]+)"$', read("python/gamesman/__init__.py").decode())
     if not found or not of_package or found[1] != of_package[1]:
         raise Refused(f"the program is version {found and found[1]}, and the Python package {of_package and of_package[1]}")
@@ -55,8 +56,8 @@ def package_of_python():
 
 def shared():
     """What is in both: the program, its page of the manual, and its completions, by short names."""
-    found = {"program": read(GAMESMAN), "manual": told(GAMESMAN, "man")}
-    return {**found, **{shell: told(GAMESMAN, "completions", shell) for shell in ("bash", "zsh", "fish")}}
+    found = {"program": read(PROGRAM), "manual": told(PROGRAM, "man")}
+    return {**found, **{shell: told(PROGRAM, "completions", shell) for shell in ("bash", "zsh", "fish")}}
 
 
 def with_modes(texts, programs=()):
@@ -147,7 +148,7 @@ def debian(proved, page, date):
 
 def c_library():
     """The least version of the C library that has all symbols of the program, which is linked with nothing else."""
-    text = read(GAMESMAN)
+    text = read(PROGRAM)
     found = {tuple(map(int, it.decode().split("."))) for it in re.findall(rb"\0GLIBC_(\d+\.\d+(?:\.\d+)?)(?=\0)", text)}
     if not found:
         raise Refused("the program names no version of the C library")

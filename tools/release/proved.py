@@ -2,7 +2,7 @@
 import hashlib
 import re
 
-from parts import GAMESMAN, Refused, read, told
+from release.parts import PROGRAM, Refused, read, told
 
 # The last line of each part of the gate, if all is well.
 ENDS = {
@@ -73,7 +73,7 @@ def rows(log):
 
 
 def sum_of_program():
-    return hashlib.sha256(read(GAMESMAN)).hexdigest()
+    return hashlib.sha256(read(PROGRAM)).hexdigest()
 
 
 def head(number, commit):

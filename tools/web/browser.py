@@ -2,14 +2,11 @@
 no request; and both without WebAssembly."""
 import os
 import re
-import sys
 import time
 import urllib.parse
 
-HERE = os.path.dirname(os.path.abspath(__file__))
-sys.path.insert(0, os.path.join(os.path.dirname(HERE), "page"))
-import chromium
-from looks import CONTRAST, NAMELESS
+from page import chromium
+from page.looks import CONTRAST, NAMELESS
 
 READY = """$('fault').textContent !== ''
 || (!$('explorer').hidden && line.length > 0 && rows[line[at].row].moves !== undefined && $('state').textContent !== '')"""

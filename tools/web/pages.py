@@ -4,8 +4,8 @@ import os
 import re
 import subprocess
 
-import parts
-from heads import HEADS
+from page import parts
+from page.heads import HEADS
 
 HERE = os.path.dirname(os.path.abspath(__file__))
 # One more than the longest text of an engine.

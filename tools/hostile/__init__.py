@@ -1,0 +1,1 @@
+"""Hostile use of the built programs (README.md)."""

@@ -1,0 +1,1 @@
+"""What the tools share (README.md)."""

@@ -1,0 +1,19 @@
+"""What the crates of games tell tools of each game: their files games.json (docs/ADDING_A_GAME.md)."""
+import glob
+import json
+import os
+from typing import Any
+
+from lib.paths import ROOT
+
+
+def told_of_games() -> dict[str, dict[str, Any]]:
+    """Reads these files. Returns what they have of each game, by its name."""
+    found: dict[str, dict[str, Any]] = {}
+    for path in sorted(glob.glob(os.path.join(ROOT, "crates/*/games.json"))):
+        with open(path, encoding="utf-8") as it:
+            found.update(json.load(it))
+    return found
+
+
+TOLD = told_of_games()

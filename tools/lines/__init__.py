@@ -1,0 +1,1 @@
+"""Lines of the program, and what they must write (README.md)."""

@@ -1,0 +1,1 @@
+"""Pages of the program, made anew and tried (README.md)."""

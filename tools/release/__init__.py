@@ -1,0 +1,1 @@
+"""Releases, and what is tried of them (README.md)."""

@@ -1,0 +1,1 @@
+"""A second solver, which shares nothing with the program (README.md)."""

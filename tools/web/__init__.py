@@ -1,0 +1,1 @@
+"""Pages with the engine (README.md)."""
