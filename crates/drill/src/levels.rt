@@ -3,8 +3,8 @@ ghost use Rattle.std.specs.Prelude.{◌≡◌, ◌≤◌, length};
 ghost use Rattle.gm_game.specs.declared.position.Phase.TheVariants.{Ties};
 ghost use Rattle.gm_frontier.specs.Levels.{AreTiles};
 ghost use Rattle.gm_table.specs.Tables.{AreHeld};
-ghost use Rattle.gm_shard.specs.Begin.{AreStarts};
-ghost use Rattle.gm_shard.specs.Steps.{place_of};
+ghost use Rattle.gm_counters.specs.Begin.{AreStarts};
+ghost use Rattle.gm_counters.specs.Steps.{place_of};
 ghost use Rattle.gm_testing.specs.ByHand.{IsOfTier};
 
 use crate::marks::marked;

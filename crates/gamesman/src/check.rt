@@ -15,7 +15,7 @@ use gm_build::inspect::{Inspected, inspect_tier};
 use gm_command::requests::Telling;
 use gm_game::game::Game;
 use gm_game::limits::TIER_SIZE;
-use gm_solver::observer::Observer;
+use gm_immediate::observer::Observer;
 use gm_table::table::Table;
 use gm_table::tables::Tables;
 use gm_tierdb::folder_store::FolderStore;

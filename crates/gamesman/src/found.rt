@@ -1,6 +1,6 @@
 //! Printing the positions that a search finds.
 ghost use Rattle.std.specs.Prelude.{◌≡◌, ◌⊎◌, ◌++◌, ℕ, Some, [], ◌∷◌, IfOk, OnOk, IfErr, is_some};
-ghost use Rattle.gamesman.specs.Lower.{All, flat_map, IsOrderFrom, HoldsExactly, AreAllHeld, IsFound, AreFound, Sheet};
+ghost use Rattle.gamesman.specs.Lower.{All, flat_map, IsOrderFrom, HoldsExactly, AreAllHeld, IsFound, Sheet};
 ghost use Rattle.gamesman.specs.Games.{game_spec};
 ghost use Rattle.gamesman.specs.Outputs.{IsOutputFault};
 ghost use Rattle.gamesman.specs.Told.{IsMemoryFault};
@@ -41,45 +41,28 @@ pub fn write_found<G: Pictured, O: Write>(
         asked (IsUnsearched G.Game.rules asked.tier) (O.contents output.old) (O.contents output.new) result }
 {
     let reached = reached_from_start(alloc, asked.reached)?;
-    let done = write_among(alloc, built, asked, reached.as_ref(), output);
-    drop(reached);
-    done
-}
-
-// Writes the positions as `write_found` does. The positions that play reaches are given if the search is limited to them.
-fn write_among<G: Pictured, O: Write>(
-    alloc: Global,
-    built: &Built<G>,
-    asked: PositionSearch,
-    reached: Option<&Reached<G>>,
-    output: &mut O,
-) -> Result<u8, Fault>
-    requires order { IsOrderFrom G.Game.rules (first_of G.Game.rules asked.tier) built.now.order }
-    requires held { HoldsExactly built.now.tables built.now.order }
-    requires reached { is_some reached ≡ asked.reached }
-    ensures { AreFoundBy (game_spec G.Game.rules G.shown G.move_shown G.picture)
-        asked (IsUnsearched G.Game.rules asked.tier) (O.contents output.old) (O.contents output.new) result }
-{
     let tables = &built.tables;
-    match asked.tier {
+    let done = match asked.tier {
         Some(tier) => {
             let known = KnownTiers {
                 tables,
                 tiers: &[tier],
             };
-            write_in(alloc, &known, asked, reached, output)
+            write_in(alloc, &known, asked, reached.as_ref(), output)
         }
         None => {
             let known = KnownTiers {
                 tables,
                 tiers: built.order.tiers(),
             };
-            write_in(alloc, &known, asked, reached, output)
+            write_in(alloc, &known, asked, reached.as_ref(), output)
         }
-    }
+    };
+    drop(reached);
+    done
 }
 
-// Writes the found positions of these tiers.
+// Writes the found positions of these tiers. The positions that play reaches are given if the search is limited to them.
 fn write_in<G: Pictured, O: Write>(
     alloc: Global,
     known: &KnownTiers<'_, G>,
@@ -164,32 +147,14 @@ fn write_tier<G: Pictured, O: Write>(
         asked tier left (O.contents output.old) (O.contents output.new) result }
     ensures fault { IfErr result (λ fault. IsOutputFault fault ⊎ IsMemoryFault fault) }
 {
-    let found = found_in(alloc, tables, tier, asked, reached, left)?;
-    let lines = lines_of::<G>(alloc, found.as_slice(), asked.form)?;
-    put(output, lines.as_slice())?;
-    Ok(found.len())
-}
-
-// Finds the positions of one tier, up to this limit.
-fn found_in<G: Pictured>(
-    alloc: Global,
-    tables: &Tables<G>,
-    tier: u64,
-    asked: PositionSearch,
-    reached: Option<&Reached<G>>,
-    left: usize,
-) -> Result<Vec<Found>, Fault>
-    requires held { AreAllHeld G.Game.rules tables.now tier }
-    requires reached { is_some reached ≡ asked.reached }
-    ensures found { IfOk result (λ v. AreFound G.Game.rules asked.sought asked.reached left (tier ∷ []) v.items) }
-    ensures fault { IfErr result IsMemoryFault }
-{
     let known = KnownTiers {
         tables,
         tiers: &[tier],
     };
     let found = find(alloc, &known, asked.sought, reached, left)?;
-    Ok(found)
+    let lines = lines_of::<G>(alloc, found.as_slice(), asked.form)?;
+    put(output, lines.as_slice())?;
+    Ok(found.len())
 }
 
 // Returns all chosen positions as one text.

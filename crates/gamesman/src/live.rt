@@ -4,7 +4,7 @@ use arrayvec::ArrayString;
 use gm_build::progress::{Stage, is_due};
 use gm_game::game::Game;
 use gm_game::position::{Phase, Place};
-use gm_solver::observer::Observer;
+use gm_immediate::observer::Observer;
 use std::fmt::{self, Write as _};
 use std::io::Write;
 use std::marker::PhantomData;

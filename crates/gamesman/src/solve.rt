@@ -22,7 +22,7 @@ pub fn solve<G: Game + Send + Sync, R: Host, O: Write, E: Write + Send>(
 ) -> Result<u8, Fault>
     ensures { IsSolvedBy G.rules (O.contents output.old) (O.contents output.new) result }
 {
-    let built = options.build::<G, R, E>(rt, errors)?;
+    let built = options.build_from::<G, R, E>(rt, G::initial().tier, errors)?;
     let line = line_of(rt.alloc(), &built);
     drop(built);
     let line = line?;

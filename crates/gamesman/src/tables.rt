@@ -1,6 +1,6 @@
 //! The tables of a game, in a folder or in memory.
 ghost use Rattle.std.specs.Prelude.{◌≡◌, ◌<◌, IfOk, IfErr, IfSome};
-ghost use Rattle.gamesman.specs.Lower.{Contains, IsTierOrder, IsOrderFrom, HoldsExactly, IsSomeWork, IsBuildError};
+ghost use Rattle.gamesman.specs.Lower.{Contains, IsTierOrder, IsOrderFrom, HoldsExactly, IsSomeWork};
 ghost use Rattle.gamesman.specs.Shelves.{failed_in};
 ghost use Rattle.gamesman.specs.Refusals.{IsUnbuilt, reason_of};
 
@@ -8,13 +8,13 @@ use crate::fault::Fault;
 use crate::host::Host;
 use crate::shelf::Shelf;
 use crate::teller::Teller;
+use gm_backward::gate::NoGate;
+use gm_backward::plan::Plan;
+use gm_backward::source::Counter;
 use gm_build::build::{Built, build_from};
 use gm_build::build_error::BuildError;
 use gm_command::requests::{GameRequest, TableLocation, Telling};
 use gm_game::game::Game;
-use gm_solver::gate::NoGate;
-use gm_solver::plan::Plan;
-use gm_solver::source::Counter;
 use gm_tiers::order::TierOrder;
 use std::alloc::AllocError;
 use std::fs::Files;
@@ -84,8 +84,20 @@ impl<'a> BuildOptions<'a> {
         if let Some(tier) = anothers {
             return Err(Fault::AnotherGames { tier });
         }
-        let tiers = order.tiers();
-        let built = build_over(rt, &mut shelf, first, tiers, plan, progress, errors);
+        let alloc = rt.alloc();
+        let teller: Teller<'_, G, R, E> = Teller::new(rt, errors, progress, order.tiers());
+        let built = build_from(
+            rt,
+            alloc,
+            first,
+            &mut shelf,
+            plan,
+            &NoGate,
+            &Counter::new(),
+            &teller,
+        );
+        teller.clear();
+        drop(teller);
         let met_another = shelf.met_another();
         drop((order, shelf));
         match built {
@@ -111,39 +123,6 @@ fn first_anothers<G: Game, R: Files>(
         }
     }
     Ok(None)
-}
-
-// Builds the tiers that one tier reaches, over a store without a failed call.
-fn build_over<G: Game + Send + Sync, R: Host, E: Write + Send>(
-    rt: &R,
-    shelf: &mut Shelf,
-    first: u64,
-    tiers: &[u64],
-    plan: Plan,
-    progress: Telling,
-    errors: &mut E,
-) -> Result<Built<G>, BuildError>
-    requires { failed_in shelf.old ≡ 0 }
-    ensures order { IfOk result (λ built. IsOrderFrom G.rules first built.order) }
-    ensures held { IfOk result (λ built. HoldsExactly built.tables built.order) }
-    ensures work { IfOk result (λ built. IsSomeWork G.rules built.order built.work) }
-    ensures error { IfErr result (IsBuildError G.rules first) }
-{
-    let alloc = rt.alloc();
-    let teller: Teller<'_, G, R, E> = Teller::new(rt, errors, progress, tiers);
-    let built = build_from(
-        rt,
-        alloc,
-        first,
-        shelf,
-        plan,
-        &NoGate,
-        &Counter::new(),
-        &teller,
-    );
-    teller.clear();
-    drop(teller);
-    built
 }
 
 // Returns the reason why a game is not built over a folder. If the folder has another game's file, that is the reason.

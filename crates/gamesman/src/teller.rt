@@ -5,7 +5,7 @@ use gm_build::progress::Progress;
 use gm_command::requests::Telling;
 use gm_game::game::Game;
 use gm_game::position::Place;
-use gm_solver::observer::Observer;
+use gm_immediate::observer::Observer;
 use std::io::Write;
 use std::sync::Wait;
 use std::time::Clock;

@@ -1,7 +1,7 @@
 -- Words that proofs here use.
 pub use Rattle.gm_build.specs.Findings.{IsFound, IsFoundIn, IsOfTier}
 pub use Rattle.gm_build.specs.Inspections.{IsInspected, IsInspectedIn}
-pub use Rattle.gm_build.specs.Outcomes.{IsBuildError, IsStopped, IsTierError, MayHaveText, StopsAt, failures_in, of_tier_error}
+pub use Rattle.gm_build.specs.Outcomes.{IsBuildError, IsStopped, IsTierError, MayHaveText, StopsAt, failures_in, of_solve_error, of_tier_error}
 pub use Rattle.gm_build.specs.Steps.{Fits64, IsAhead, IsDoneBy, IsStep, IsStepWork, no_work, with_tier}
 pub use Rattle.gm_build.specs.TrueTexts.{HasOldText, HasText, HaveTexts, IsOldText, IsTrueText, KeepsOthers}
 pub use Rattle.gm_build.specs.Work.{HoldsExactly, HoldsToo, IsSolvedDelivery, IsSolvedTier, IsSomeWork, IsWorkOn}
@@ -14,7 +14,7 @@ pub use Rattle.gm_build.specs.declared.tier.TierOutcome.{TierOutcome}
 pub use Rattle.gm_build.specs.declared.tier.TierOutcome.TheVariants.{Migrated, Reused, Solved}
 pub use Rattle.gm_build.specs.declared.work.Work.{Work}
 pub use Rattle.gm_frontier.proofs.CountLemmas.{pairs_few}
-pub use Rattle.gm_frontier.proofs.Distinct.{no_repeats_from, no_repeats_map, no_repeats_to}
+pub use Rattle.gm_table.proofs.Distinct.{no_repeats_from, no_repeats_map, no_repeats_to}
 pub use Rattle.gm_game.proofs.Lists.{contains_cases, contains_first, contains_none, map_from, map_in}
 pub use Rattle.gm_game.specs.Laws.{IsGame}
 pub use Rattle.gm_game.specs.Numbers.{AreThere}
@@ -22,7 +22,7 @@ pub use Rattle.gm_game.specs.Records.{IsTrueTable}
 pub use Rattle.gm_game.specs.Rules.{Rules}
 pub use Rattle.gm_game.specs.declared.limits.TheConstants.{MOVES, REMOTENESS, TIERS, TIER_SIZE}
 pub use Rattle.gm_game.specs.declared.position.Position.{Position}
-pub use Rattle.gm_solver.proofs.Deliveries.{there_none, there_same, there_sum}
+pub use Rattle.gm_immediate.proofs.Deliveries.{there_none, there_same, there_sum}
 pub use Rattle.gm_table.specs.Checks.{AreWrong}
 pub use Rattle.gm_table.specs.Solving.{AreDeliveries, IsDelivery, IsTooFar}
 pub use Rattle.gm_table.specs.Tables.{AreHeld, Inserts, IsHeld, TableData, table_of}

@@ -4,6 +4,8 @@ use Rattle.gm_game.specs.declared.limits.TheConstants.{TIERS}
 use Rattle.gm_build.specs.Lower.{Rules, IsOrderFrom, Texts, AreSame}
 use Rattle.gm_tiers.specs.declared.tier_error.TierError.{TierError}
 use Rattle.gm_tiers.specs.declared.tier_error.TierError.TheVariants.{OutOfMemory as NoRoom, TooManyTiers as TooMany, TierTooLarge as TooLarge}
+use Rattle.gm_backward.specs.declared.error.SolveError.{SolveError}
+use Rattle.gm_backward.specs.declared.error.SolveError.TheVariants.{OutOfMemory as Full, TooFar as Far}
 use Rattle.gm_tiers.specs.Reach.{IsReachedFrom}
 use Rattle.gm_tiers.specs.Limits.{HasTooMany, AreMoreThan, IsTooLarge}
 use Rattle.gm_table.specs.Solving.{IsTooFar}
@@ -16,6 +18,11 @@ abbrev pub of_tier_error : TierError → BuildError
 of_tier_error NoRoom = OutOfMemory
 of_tier_error TooMany = TooManyTiers
 of_tier_error (TooLarge tier) = TierTooLarge tier
+
+-- the build's error for an error of a solve
+abbrev pub of_solve_error : SolveError → BuildError
+of_solve_error Full = OutOfMemory
+of_solve_error (Far tier) = TooFar tier
 
 -- how many failures of the store an answer tells of
 abbrev pub failures_in : {T : Type 0} → Result T BuildError → ℕ

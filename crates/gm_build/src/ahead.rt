@@ -1,12 +1,13 @@
 //! What is done for the next tier while the text of a tier is made.
-ghost use Rattle.std.specs.Prelude.{◌≤◌, IsTrue, IfOk};
-ghost use Rattle.gm_build.specs.Lower.{AreHeld};
+ghost use Rattle.std.specs.Prelude.{◌≡◌, ◌≤◌, IsTrue, IfOk, IfSome};
+ghost use Rattle.gm_build.specs.Lower.{AreHeld, AreDeliveries};
+ghost use Rattle.gm_build.specs.Steps.{IsAhead};
 ghost use Rattle.gm_build.specs.TrueTexts.{IsTrueText};
 
+use gm_backward::plan::Plan;
+use gm_backward::report::Report;
 use gm_game::game::Game;
 use gm_game::limits::TIER_SIZE;
-use gm_solver::plan::Plan;
-use gm_solver::tier::Report;
 use gm_table::table::Table;
 use gm_table::tables::Tables;
 use gm_tierdb::encode::encode_in;
@@ -19,6 +20,22 @@ const FEW: u64 = 65_536;
 #[derive(Drop)]
 pub(crate) struct Ahead<G: Game> {
     pub solved: Option<(Table<G>, Report)>,
+}
+
+/// Returns the table and the report of a tier, if that tier was solved before its turn.
+pub(crate) fn solved_of<G: Game>(done: Option<Ahead<G>>, tier: u64) -> Option<(Table<G>, Report)>
+    requires done { IfSome done (IsAhead G.rules) }
+    ensures tier { IfSome result (λ solved. solved.0.tier ≡ tier) }
+    ensures deliveries { IfSome result (λ solved. AreDeliveries G.rules tier solved.1.deliveries) }
+    ensures by_hand { IfSome result (λ solved. solved.1.by_hand ≤ solved.1.deliveries) }
+{
+    let Ahead { solved } = done?;
+    let (table, report) = solved?;
+    if table.tier() == tier {
+        Some((table, report))
+    } else {
+        None
+    }
 }
 
 /// Returns whether the next tier is solved while the text of a table is made: the text is long, the tier can be solved, and the plan has another worker.

@@ -10,11 +10,12 @@ ghost use Rattle.gm_build.specs.Outcomes.{failures_in, IsBuildError, IsStopped};
 use crate::build_error::BuildError;
 use crate::tier::Builder;
 use crate::work::Work;
+use gm_backward::context::SolveContext;
+use gm_backward::gate::Gate;
+use gm_backward::plan::Plan;
+use gm_backward::source::Source;
 use gm_game::game::{Game, laws};
-use gm_solver::gate::Gate;
-use gm_solver::observer::{NoObserver, Observer};
-use gm_solver::plan::Plan;
-use gm_solver::source::Source;
+use gm_immediate::observer::{NoObserver, Observer};
 use gm_table::tables::Tables;
 use gm_tierdb::store::Store;
 use gm_tiers::order::TierOrder;
@@ -128,12 +129,14 @@ pub fn build_from<
     let mut tables = Tables::new(alloc);
     let mut work = Work::none();
     let builder = Builder {
-        rt,
-        alloc,
-        plan,
-        gate,
-        source,
-        observer,
+        context: SolveContext {
+            rt,
+            alloc,
+            plan,
+            gate,
+            source,
+            observer,
+        },
     };
     let mut later = order.tiers().iter().skip(1);
     let mut ahead = None;

@@ -2,6 +2,7 @@
 ghost use Rattle.std.specs.Prelude.{◌≡◌};
 ghost use Rattle.gm_build.specs.Outcomes.{number_of};
 
+use gm_backward::error::SolveError;
 use gm_tiers::tier_error::TierError;
 use std::alloc::AllocError;
 use thiserror::Error;
@@ -51,6 +52,20 @@ impl From<TierError> for BuildError {
             TierError::OutOfMemory => BuildError::OutOfMemory,
             TierError::TooManyTiers => BuildError::TooManyTiers,
             TierError::TierTooLarge { tier } => BuildError::TierTooLarge { tier },
+        }
+    }
+}
+
+impl From<SolveError> for BuildError {
+    ghost use Rattle.std.specs.Prelude.{◌≡◌};
+    ghost use Rattle.gm_build.specs.Outcomes.{of_solve_error};
+
+    ghost from_gives = { λ error e. e ≡ of_solve_error error };
+
+    fn from(error: SolveError) -> BuildError {
+        match error {
+            SolveError::OutOfMemory => BuildError::OutOfMemory,
+            SolveError::TooFar { tier } => BuildError::TooFar { tier },
         }
     }
 }

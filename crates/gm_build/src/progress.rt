@@ -4,7 +4,7 @@ ghost use Rattle.std.specs.Duration.{as_nanos};
 
 use crate::whole_line::write_line;
 use gm_game::position::{Phase, Place};
-use gm_solver::observer::Observer;
+use gm_immediate::observer::Observer;
 use std::fmt;
 use std::io::Write;
 use std::sync::atomic::{AtomicU64, AtomicUsize, Ordering};

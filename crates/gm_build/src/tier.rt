@@ -7,24 +7,24 @@ ghost use Rattle.gm_build.specs.Work.{HoldsToo};
 ghost use Rattle.gm_build.specs.Steps.{IsAhead, IsStep, IsStepWork};
 ghost use Rattle.gm_build.specs.Outcomes.{failures_in, IsTierError, MayHaveText};
 
-use crate::ahead::{Ahead, is_ahead, text_in};
+use crate::ahead::{Ahead, is_ahead, solved_of, text_in};
 use crate::build_error::BuildError;
 use crate::found::{Found, load_tier};
+use gm_backward::context::SolveContext;
+use gm_backward::error::SolveError;
+use gm_backward::gate::Gate;
+use gm_backward::report::Report;
+use gm_backward::solve::solve;
+use gm_backward::source::Source;
 use gm_game::game::Game;
 use gm_game::limits::TIER_SIZE;
-use gm_solver::error::SolveError;
-use gm_solver::gate::Gate;
-use gm_solver::observer::Observer;
-use gm_solver::plan::Plan;
-use gm_solver::solve;
-use gm_solver::source::Source;
-use gm_solver::tier::Report;
+use gm_immediate::observer::Observer;
 use gm_table::table::Table;
 use gm_table::tables::Tables;
 use gm_tierdb::encode::room;
 use gm_tierdb::store::Store;
 use gm_tierdb::store_error::StoreError;
-use std::alloc::{AllocError, Global};
+use std::alloc::AllocError;
 use std::fs::Files;
 use std::sync::Wait;
 use std::thread::{Threads, join};
@@ -40,20 +40,15 @@ pub(crate) enum TierOutcome {
     Solved(Report),
 }
 
-/// Builds tiers: what its calls share.
+/// Builds tiers, in the context in which they are solved.
 #[derive(Drop)]
 pub(crate) struct Builder<'a, R: Threads + Wait + Files + Sync, T: Gate, P: Source, O: Observer> {
-    pub rt: &'a R,
-    pub alloc: Global,
-    pub plan: Plan,
-    pub gate: &'a T,
-    pub source: &'a P,
-    pub observer: &'a O,
+    pub context: SolveContext<'a, R, T, P, O>,
 }
 
 impl<R: Threads + Wait + Files + Sync, T: Gate, P: Source, O: Observer> Builder<'_, R, T, P, O> {
-    /// Puts the true table of a tier into the tables, and ensures that its text is in the store. The tier is solved if the store has no text of its true table
-    /// in either version, unless `ahead` has its table. Then `ahead` has what was done for the next tier meanwhile.
+    /// Puts the true table of a tier into the tables, and ensures that its text is in the store. The tier is solved, by the method that the plan chooses, if the
+    /// store has no text of its true table in either version, unless `ahead` has its table. Then `ahead` has what was done for the next tier meanwhile.
     pub(crate) fn build_tier<G: Game + Send + Sync, S: Store>(
         &self,
         tier: u64,
@@ -78,9 +73,9 @@ impl<R: Threads + Wait + Files + Sync, T: Gate, P: Source, O: Observer> Builder<
     {
         let done = ahead.take();
         if done.is_none() {
-            self.observer.read(self.rt, tier);
+            self.context.observer.read(self.context.rt, tier);
         }
-        match load_tier(self.rt, self.alloc, tier, tables, store) {
+        match load_tier(self.context.rt, self.context.alloc, tier, tables, store) {
             Err(error) => Err(error),
             Ok(Found::Current(table)) => match tables.insert(table) {
                 Ok(()) => Ok(TierOutcome::Reused),
@@ -91,53 +86,13 @@ impl<R: Threads + Wait + Files + Sync, T: Gate, P: Source, O: Observer> Builder<
                 Err(error) => Err(error),
             },
             Ok(Found::Nothing) => {
-                let (table, report) = self.solved(tier, done, tables)?;
+                let (table, report) = match solved_of(done, tier) {
+                    Some(solved) => solved,
+                    None => solve(&self.context, tier, tables)?,
+                };
                 *ahead = self.keep(table, next, tables, store)?;
                 Ok(TierOutcome::Solved(report))
             }
-        }
-    }
-
-    // Returns the true table of a tier, which is solved by the method that the plan chooses, unless that was done ahead.
-    fn solved<G: Game + Send + Sync>(
-        &self,
-        tier: u64,
-        done: Option<Ahead<G>>,
-        tables: &Tables<G>,
-    ) -> Result<(Table<G>, Report), BuildError>
-        requires done { IfSome done (IsAhead G.rules) }
-        requires held { AreHeld G.rules tables.now tier }
-        requires small { G.rules.tier_size tier ≤ TIER_SIZE }
-        ensures tier { IfOk result (λ solved. solved.0.tier ≡ tier) }
-        ensures deliveries { IfOk result (λ solved. AreDeliveries G.rules tier solved.1.deliveries) }
-        ensures by_hand { IfOk result (λ solved. solved.1.by_hand ≤ solved.1.deliveries) }
-        ensures error { IfErr result (IsTierError G.rules tier) }
-        ensures count { failures_in result ≡ 0 }
-    {
-        if let Some(
-            Ahead {
-                solved: Some((table, report)),
-            },
-        ) = done
-        {
-            if table.tier() == tier {
-                return Ok((table, report));
-            }
-        }
-        let answer = solve::solve(
-            self.rt,
-            self.alloc,
-            tier,
-            tables,
-            self.plan,
-            self.gate,
-            self.source,
-            self.observer,
-        );
-        match answer {
-            Ok(solved) => Ok(solved),
-            Err(SolveError::OutOfMemory) => Err(BuildError::OutOfMemory),
-            Err(SolveError::TooFar { tier }) => Err(BuildError::TooFar { tier }),
         }
     }
 
@@ -168,15 +123,15 @@ impl<R: Threads + Wait + Files + Sync, T: Gate, P: Source, O: Observer> Builder<
         if let Err(refused) = tables.insert(table) {
             // The next build reuses the text.
             let table = &refused.value;
-            let text = text_in(room(self.alloc, table)?, table)?;
-            write::<G, R, S>(self.rt, tier, text.as_slice(), store)?;
+            let text = text_in(room(self.context.alloc, table)?, table)?;
+            write::<G, R, S>(self.context.rt, tier, text.as_slice(), store)?;
             return Err(BuildError::OutOfMemory);
         }
         let Some(table) = tables.table(tier) else {
             unreachable!()
         };
         let (text, ahead) = self.make_text(table, next, tables)?;
-        write::<G, R, S>(self.rt, tier, text.as_slice(), store)?;
+        write::<G, R, S>(self.context.rt, tier, text.as_slice(), store)?;
         Ok(ahead)
     }
 
@@ -190,9 +145,9 @@ impl<R: Threads + Wait + Files + Sync, T: Gate, P: Source, O: Observer> Builder<
         ensures text { IfOk result (λ made. IsTrueText G.rules table.now.tier made.0.items) }
         ensures ahead { IfOk result (λ made. IfSome made.1 (IsAhead G.rules)) }
     {
-        let file = room(self.alloc, table)?;
+        let file = room(self.context.alloc, table)?;
         match next {
-            Some(next) if is_ahead(table, next, tables, self.plan) => {
+            Some(next) if is_ahead(table, next, tables, self.context.plan) => {
                 self.make_text_beside(file, table, next, tables)
             }
             _ => {
@@ -216,12 +171,13 @@ impl<R: Threads + Wait + Files + Sync, T: Gate, P: Source, O: Observer> Builder<
         ensures text { IfOk result (λ made. IsTrueText G.rules table.now.tier made.0.items) }
         ensures ahead { IfOk result (λ made. IfSome made.1 (IsAhead G.rules)) }
     {
-        let rt = self.rt;
-        let alloc = self.alloc;
-        let plan = self.plan;
-        let gate = self.gate;
-        let source = self.source;
-        let observer = self.observer;
+        // One by one, since the prover knows no result of a closure that captures a context.
+        let rt = self.context.rt;
+        let alloc = self.context.alloc;
+        let plan = self.context.plan;
+        let gate = self.context.gate;
+        let source = self.context.source;
+        let observer = self.context.observer;
         observer.read(rt, next);
         let (text, answer) = join(
             rt,
@@ -231,7 +187,17 @@ impl<R: Threads + Wait + Files + Sync, T: Gate, P: Source, O: Observer> Builder<
             || -> Result<(Table<G>, Report), SolveError>
                 requires { AreHeld G.rules tables.now next × (G.rules.tier_size next ≤ TIER_SIZE) }
                 ensures { IfOk result (λ s. AreDeliveries G.rules s.0.tier s.1.deliveries × (s.1.by_hand ≤ s.1.deliveries)) }
-            { solve::solve(rt, alloc, next, tables, plan, gate, source, observer) },
+            {
+                let context = SolveContext {
+                    rt,
+                    alloc,
+                    plan,
+                    gate,
+                    source,
+                    observer,
+                };
+                solve(&context, next, tables)
+            },
         );
         let solved = match answer {
             Ok(solved) => Some(solved),

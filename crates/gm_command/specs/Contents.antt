@@ -1,7 +1,7 @@
 -- What a request says, as plain data.
 use Rattle.std.specs.Prelude.{ℕ, Bool, true, false, List, Option, Some, None, option_map}
 use Rattle.gm_play.specs.declared.sides.Side.{Side}
-use Rattle.gm_solver.specs.declared.plan.Plan.{Plan}
+use Rattle.gm_backward.specs.declared.plan.Plan.{Plan}
 use Rattle.gm_command.specs.declared.manual.Manual.{Manual}
 use Rattle.gm_command.specs.declared.requests.Question.{Question}
 use Rattle.gm_command.specs.declared.requests.PositionSearch.{PositionSearch}

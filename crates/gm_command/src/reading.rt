@@ -21,7 +21,7 @@ use crate::searches::{json_of, sought_of};
 use crate::words::{CommandName, CommandSpec, GameCommandName};
 use clap::error::ErrorKind;
 use clap::{ArgMatches, Error};
-use gm_solver::plan::Plan;
+use gm_backward::plan::Plan;
 use std::alloc::Global;
 use std::fmt;
 

@@ -4,10 +4,10 @@ use crate::manual::Manual;
 use crate::reading::Help;
 use gm_analyse::among::Among;
 use gm_analyse::bars::Form as CountsForm;
+use gm_backward::plan::Plan;
 use gm_find::sought::{Choice, Sought};
 use gm_json::asked::Asked as PositionJson;
 use gm_play::sides::Side;
-use gm_solver::plan::Plan;
 
 /// The place of the tables of a game.
 #[derive(Clone, Copy)]

@@ -1,6 +1,5 @@
 //! Records of one byte or four each, as the host keeps them.
-ghost use Rattle.std.specs.Prelude.{◌≡◌, ◌++◌, ◌∷◌, [], ℕ, List, None, IfOk, IfErr, OnOk, IfSome, length, map, slice_index_or};
-ghost use Rattle.gm_table.specs.Numbers.{wide as wide_spec, IsShort};
+ghost use Rattle.std.specs.Prelude.{◌≡◌, ◌++◌, ◌∷◌, [], ℕ, List, None, IfOk, IfErr, OnOk, length, map, slice_index_or};
 ghost use Rattle.gm_table.specs.Packed.{unpacked as unpacked_spec};
 ghost use Rattle.gm_engine.specs.Records.{record_with, words_of, records_of, Stand};
 ghost use Rattle.gm_engine.specs.Refusing.{IsUnadded};
@@ -9,42 +8,10 @@ use crate::refusal::Refusal;
 use crate::width::Width;
 use gm_game::game::Game;
 use gm_game::position::Solved;
-use gm_table::packed::{Packed, number_of, unpacked};
+use gm_table::number::{number_of, short_of, unpacked};
+use gm_table::packed::Packed;
 use gm_table::table::Table;
 use std::alloc::Global;
-
-/// One more than the greatest remoteness of a record. The number of a record is the code of its value times this, plus its
-/// remoteness.
-const STEP: u32 = 1_048_576;
-
-/// One more than the greatest remoteness that a byte can hold.
-const SHORT_STEP: u32 = 32;
-
-// Returns the number of the record with this short form.
-fn wide(short: u8) -> u32
-    ensures { result ≡ wide_spec short }
-{
-    u32::from(short) / SHORT_STEP * STEP + u32::from(short) % SHORT_STEP
-}
-
-/// Returns the record that a byte stands for.
-pub fn record_with(byte: u8) -> Option<Solved>
-    ensures { result ≡ record_with byte }
-{
-    unpacked(wide(byte))
-}
-
-/// Returns the byte of the record with this number, if it has one.
-pub fn byte_of(number: u32) -> Option<u8>
-    ensures byte { IfSome result (λ byte. wide_spec byte ≡ number) }
-    ensures none { result ≡ None → IsShort number → ⊥ }
-{
-    if number / STEP < 8 && number % STEP < SHORT_STEP {
-        Some((number / STEP * SHORT_STEP + number % STEP) as u8)
-    } else {
-        None
-    }
-}
 
 /// Packs the records that bytes stand for.
 pub fn pack(alloc: Global, width: Width, bytes: &[u8]) -> Result<Packed, Refusal>
@@ -129,7 +96,7 @@ fn add_bytes<G: Game>(bytes: &mut Vec<u8>, table: &Table<G>) -> Result<(), Refus
     ensures refused { IfErr result (IsUnadded Width.Byte table.now.records) }
 {
     for index in 0..table.size() {
-        let Some(byte) = byte_of(number_of(table.at(index))) else {
+        let Some(byte) = short_of(number_of(table.at(index))) else {
             return Err(Refusal::TooFar);
         };
         if bytes.push(byte).is_err() {

@@ -15,6 +15,8 @@ ghost use Rattle.gm_engine.specs.Refusing.{IsNotNext, HaveTables, AreDisordered,
 use crate::bytes::{add, list, pack};
 use crate::refusal::Refusal;
 use crate::width::Width;
+use gm_backward::alone::solve_alone;
+use gm_backward::error::SolveError;
 use gm_game::game::Game;
 use gm_game::limits::TIER_SIZE;
 use gm_game::shown::Shown;
@@ -23,8 +25,6 @@ use gm_json::ask_error::AskError;
 use gm_json::asked::{Asked, With};
 use gm_play::closed::Closed;
 use gm_play::places::at;
-use gm_solver::alone::solve_alone;
-use gm_solver::error::SolveError;
 use gm_table::checker::{CheckError, check};
 use gm_table::table::Table;
 use gm_table::tables::Tables;

@@ -1,7 +1,7 @@
 -- The elements of a list that have a property, with one element or list more.
 use Rattle.gm_find.proofs.Lower.{◌≡◌, ℕ, zero, suc, ◌<◌, ◌≤◌, ◌+◌, ◌-◌, inl, inr, List, [], ◌∷◌, ◌++◌, map, take, length, refl, sym, ap, ◌∙◌, subst, arith}
 use Rattle.gm_find.proofs.Lower.{length-append, Contains, range_with_len, IsAscending, contains_none, contains_first, contains_later, contains_cases, AreThose}
-use Rattle.gm_find.proofs.Lower.{Adds, IsFirst, append_assoc, cases_lt, ascending_above, ascending_rest}
+use Rattle.gm_find.proofs.Lower.{Adds, IsFirst, append-nil, append_assoc, cases_lt, ascending_above, ascending_rest}
 
 module _ {A : Type 0} (P : A → Type 0) where
   -- one element more, which has the property or not
@@ -38,6 +38,13 @@ module _ {A : Type 0} (P : A → Type 0) where
   pub first_is : (n : ℕ) (x : A) → 0 < n → P x → IsFirst P n (x ∷ []) (x ∷ [])
   first_is zero x l p = absurd (omega arith)
   first_is (suc n) x l p = inl ([], p, refl, refl)
+
+  -- one element is added below the limit if it has the property
+  pub adds_one : (limit : ℕ) (old new : List A) (x : A) → length old < limit → P x → new ≡ old ++ x ∷ [] → Adds P limit (x ∷ []) old new
+  adds_one limit old new x l p e = (x ∷ [], e, first_is (limit - length old) x (omega arith) p)
+
+  pub adds_none : (limit : ℕ) (old : List A) (x : A) → (P x → ⊥) → Adds P limit (x ∷ []) old old
+  adds_none limit old x h = ([], sym (append-nil old), first_not (limit - length old) x h)
 
   -- of a list that has enough of them in its first elements these are the first of all
   pub first_taken : (k n : ℕ) (xs ys : List A) → IsFirst P n (take k xs) ys → n ≤ length ys → IsFirst P n xs ys

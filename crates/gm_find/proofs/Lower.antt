@@ -1,5 +1,5 @@
 -- Words that proofs here use.
-pub use Rattle.gm_find.specs.Finding.{Achieves, AfterDefence, AgreesWith, HasOnly, HasOnlyMove, HasOnlyResult, IsAchievedBy, IsAskedFor, IsFitting, IsMatch}
+pub use Rattle.gm_find.specs.Finding.{Achieves, AfterDefence, AgreesWith, HasOnly, HasOnlyMove, HasOnlyResult, IsAchievedBy, IsAskedFor, IsMatch}
 pub use Rattle.gm_find.specs.Finding.{IsOnlyAfter, IsOnlyDefence, IsOnlyLine, IsOnlyWin, IsValueOf, all_positions, kept_by, level_of, place_for, positions_in}
 pub use Rattle.gm_find.specs.Founds.{AreChosen, IsFound, IsKnownAt, position_of}
 pub use Rattle.gm_find.specs.Lists.{Adds, AreThose, IsFirst}

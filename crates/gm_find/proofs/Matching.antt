@@ -2,7 +2,7 @@
 use Rattle.gm_find.proofs.Lower.{◌≡◌, ℕ, suc, ◌↔◌, inl, inr, eqb-true, Bool, true, false, List, ◌∷◌, [], length, refl, sym, ap, ◌∙◌, subst, arith, Option, None}
 use Rattle.gm_find.proofs.Lower.{Some, Contains, Position, Solved, Value, Win, IsGame, Rules, at, IsAscending, HasValue, IsTrueValue, HasValue_once, TableData}
 use Rattle.gm_find.proofs.Lower.{Aim, Keep, WinIn, Sought, AreThose, IsMatch, Achieves, ◌==◌, if◌then◌else◌, same_Some, Phase, WinLose, Ties, Lose, Draw, Tie}
-use Rattle.gm_find.proofs.Lower.{StandsAt, IsCanonical, IsHeld, Span, IsAskedFor, IsValueOf, IsFitting, level_of, place_for, kept_by, IsAchievedBy, HasOnlyMove}
+use Rattle.gm_find.proofs.Lower.{StandsAt, IsCanonical, IsHeld, Span, IsAskedFor, IsValueOf, level_of, place_for, kept_by, IsAchievedBy, HasOnlyMove}
 use Rattle.gm_play.specs.BestMoves.{wanted_from}
 use Rattle.gm_find.proofs.ListLemmas.{those_once, IsRun}
 
@@ -44,15 +44,12 @@ run_has r g entries q reached tier level phase is e held up exact = record {
   );
 }
 
+-- what is sought has the value that is sought
 pub match_value : (r : Rules) (q : Sought) (reached : Bool) (p : Position) (s : Solved) → IsTrueValue r p s → IsMatch r q reached p → IsValueOf q s
 match_value r q reached p s h m =
     let (t, is, of) = m.value in
     let same = HasValue_once r p t.value s.value t.remoteness s.remoteness is h in
     (of.0 ∙ same.0, subst (IsAskedFor q.remoteness) same.1 of.1)
-
--- what is sought is fitting
-pub fitting : (r : Rules) (q : Sought) (reached : Bool) (p : Position) (s : Solved) → IsTrueValue r p s → IsMatch r q reached p → IsFitting r q reached p s
-fitting r q reached p s h m = (match_value r q reached p s h m, (m.choice, m.only, m.fastest), m.reaches)
 
 -- the value that keeps this one is that of the result of a best move
 kept_wanted : (v : Value) → wanted_from v ≡ kept_by v

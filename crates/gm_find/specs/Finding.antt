@@ -118,10 +118,6 @@ abbrev pub HasFittingMoves : Rules → Sought → Position → Type 0
 HasFittingMoves r q p = HasMoves r q.distinct q.min_moves p × (IsTrue q.only_move → HasOnly r q.distinct (Keep q.value) p)
     × (IsTrue q.only_fastest → HasOnlyFastest r q.distinct p)
 
--- p, which has this true value, is all that is wanted besides a whole line
-abbrev pub IsFitting : Rules → Sought → Bool → Position → Solved → Type 0
-IsFitting r q reached p s = IsValueOf q s × HasFittingMoves r q p × (IsTrue reached → IsReachedByPlay r p)
-
 -- a canonical position that is sought; where only reached positions are asked for, one that play reaches
 pub record IsMatch (r : Rules) (q : Sought) (reached : Bool) (p : Position) : Type 0 where
   pub canonical : IsCanonical r p

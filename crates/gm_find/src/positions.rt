@@ -1,8 +1,8 @@
 //! Positions of a value.
-ghost use Rattle.std.specs.Prelude.{◌≡◌, ◌<◌, ◌-◌, ◌∷◌, [], ◌↔◌, true, map, length, IsTrue, IfOk, OnOk, is_some, Some};
+ghost use Rattle.std.specs.Prelude.{◌≡◌, ◌↔◌, true, map, IsTrue, IfOk, OnOk, is_some, Some};
 ghost use Rattle.gm_find.specs.Lower.{Position, at, IsTrueValue, AreAllHeld, REMOTENESS, IsRecord, IsHeld};
 ghost use Rattle.gm_find.specs.Lists.{Adds, IsFirst};
-ghost use Rattle.gm_find.specs.Finding.{IsMatch, positions_in, all_positions, place_for, level_of, IsValueOf, IsFitting, HasFittingMoves};
+ghost use Rattle.gm_find.specs.Finding.{IsMatch, positions_in, all_positions, place_for, level_of, IsValueOf, HasFittingMoves};
 
 use crate::only::{Aim, has_moves, has_only, has_only_fastest};
 use crate::only_line::is_only_line;
@@ -45,28 +45,15 @@ pub fn find_positions<G: Game>(
     };
     let mut found = Vec::new(alloc);
     for tier in known.tiers {
-        add_tier(&mut found, &search, *tier)?;
+        match place(sought) {
+            Some((phase, level)) => {
+                let run = known.tables.run(*tier, phase, level);
+                add_run(&mut found, &search, *tier, run)?;
+            }
+            None => add_all(&mut found, &search, *tier)?,
+        }
     }
     Ok(found)
-}
-
-// Adds the positions of a tier, up to the limit.
-fn add_tier<G: Game>(
-    found: &mut Vec<Position>,
-    search: &Search<'_, G>,
-    tier: u64,
-) -> Result<(), AllocError>
-    requires { AreAllHeld G.rules search.now.tables.now tier }
-    ensures { OnOk result (Adds (IsMatch G.rules search.now.sought (is_some search.now.reached)) search.now.limit (positions_in G.rules tier)
-        found.old.items found.new.items) }
-{
-    match place(search.sought) {
-        Some((phase, level)) => {
-            let run = search.tables.run(tier, phase, level);
-            add_run(found, search, tier, run)
-        }
-        None => add_all(found, search, tier),
-    }
 }
 
 // Returns the place of the sought positions, if they have one place.
@@ -100,8 +87,13 @@ fn add_run<G: Game>(
         if search.limit <= found.len() {
             return Ok(());
         }
-        let index = u64::from(*i);
-        add_position(found, search, Position { tier, index })?;
+        let p = Position {
+            tier,
+            index: u64::from(*i),
+        };
+        if is_sought(search, p) {
+            found.push(p)?;
+        }
     }
     Ok(())
 }
@@ -121,24 +113,10 @@ fn add_all<G: Game>(
         if search.limit <= found.len() {
             return Ok(());
         }
-        add_position(found, search, Position { tier, index })?;
-    }
-    Ok(())
-}
-
-// Adds a position, if it is sought, below the limit.
-fn add_position<G: Game>(
-    found: &mut Vec<Position>,
-    search: &Search<'_, G>,
-    p: Position,
-) -> Result<(), AllocError>
-    requires room { length found.old.items < search.now.limit }
-    requires held { AreAllHeld G.rules search.now.tables.now p.tier }
-    ensures { OnOk result (Adds (IsMatch G.rules search.now.sought (is_some search.now.reached)) search.now.limit (p ∷ [])
-        found.old.items found.new.items) }
-{
-    if is_sought(search, p) {
-        found.push(p)?;
+        let p = Position { tier, index };
+        if is_sought(search, p) {
+            found.push(p)?;
+        }
     }
     Ok(())
 }
@@ -155,18 +133,17 @@ fn is_sought<G: Game>(search: &Search<'_, G>, p: Position) -> bool
         tables: search.tables,
         position: p,
     };
-    is_fitting(&known, solved, search)
-        && (!search.sought.whole_line || is_only_line(&known, solved, search.sought.distinct))
-}
-
-// Returns whether a position of this true value fits in everything but its line.
-fn is_fitting<G: Game>(known: &Known<'_, G>, solved: Solved, search: &Search<'_, G>) -> bool
-    requires { IsTrueValue G.rules known.now.position solved }
-    ensures { IsTrue result ↔ IsFitting G.rules search.now.sought (is_some search.now.reached) known.now.position solved }
-{
-    is_value(search.sought, solved)
-        && has_fitting_moves(known, solved, search.sought)
-        && is_in(search.reached, known.position)
+    let sought = search.sought;
+    if !is_value(sought, solved) {
+        return false;
+    }
+    if !has_fitting_moves(&known, solved, sought) {
+        return false;
+    }
+    if !is_in(search.reached, p) {
+        return false;
+    }
+    !sought.whole_line || is_only_line(&known, solved, sought.distinct)
 }
 
 // Returns whether a position has the moves that are sought.

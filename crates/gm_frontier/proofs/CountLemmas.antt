@@ -5,7 +5,7 @@ use Rattle.gm_frontier.proofs.Lower.{Contains-append_cases, Position, Phase, Win
 use Rattle.gm_frontier.proofs.Lower.{canonical_children_of, IsLastLevel, contains_first, contains_later, map_from, HasNoRepeats, no_longer, numbers_from}
 use Rattle.gm_frontier.proofs.Lower.{NoteData, IsLevel, positions, pairs_of, IsNumberBefore, canonical_children_listed}
 use Rattle.std.proofs.Common.{◌*◌}
-use Rattle.gm_frontier.proofs.Distinct.{no_repeats_from, no_repeats_to, no_repeats_append, flat_map_has}
+use Rattle.gm_table.proofs.Distinct.{no_repeats_from, no_repeats_to, no_repeats_append, flat_map_has}
 use Rattle.gm_frontier.proofs.ForGame.{stands_now, now_stands, not_before_and_at, before_later, before_ties, ties_after, canonical_children_few}
 use Rattle.gm_frontier.proofs.PairLemmas.{near_of_pair, bare_pairs, length-bare_pairs, bare_pairs_once, in_bare_pairs, positions_once, canonical_notes}
 use Rattle.gm_frontier.proofs.PairLemmas.{level_pairs_exact}

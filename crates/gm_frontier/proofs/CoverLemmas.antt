@@ -6,7 +6,7 @@ use Rattle.gm_frontier.proofs.Lower.{HasNoRepeats, IsTrueValue_once, NoteData, I
 use Rattle.gm_frontier.proofs.Lower.{numbers_from, ◌%◌, div-mul-add, length-take, get_or-drop, get_or-take, IsPairAt, tiled_pairs}
 use Rattle.std.proofs.Common.{◌*◌}
 use Rattle.gm_frontier.proofs.CountLemmas.{numbers_have}
-use Rattle.gm_frontier.proofs.Distinct.{in_flat_map, flat_map_has, no_repeats_flat_map, no_repeats_before, no_repeats_to}
+use Rattle.gm_table.proofs.Distinct.{in_flat_map, flat_map_has, no_repeats_flat_map, no_repeats_before, no_repeats_to}
 use Rattle.gm_frontier.proofs.PairLemmas.{near_of_pair, in_pairs, pairs_have, pairs_once, in_piece, positions_once, canonical_notes, piece_positions_once}
 use Rattle.gm_frontier.proofs.PairLemmas.{piece_canonical}
 use Rattle.gm_frontier.proofs.SumLemmas.{numbers_once}

@@ -4,7 +4,7 @@ use Rattle.gm_frontier.proofs.Lower.{length-map, Position, Place, TIER_SIZE, Rul
 use Rattle.gm_frontier.proofs.Lower.{numbers_from, NoteData, RunData, positions, IsLevel, IsChildPart, AreRuns, AreTiles, notes_of_tier, mul-le-mul_left}
 use Rattle.gm_frontier.proofs.Lower.{CHILD_TIERS, IsTierOrChild}
 use Rattle.std.proofs.Common.{◌*◌}
-use Rattle.gm_frontier.proofs.Distinct.{flat_map_has}
+use Rattle.gm_table.proofs.Distinct.{flat_map_has}
 use Rattle.gm_frontier.proofs.CountLemmas.{length-numbers_from, numbers_have, flat_map_few}
 use Rattle.gm_frontier.proofs.LevelLemmas.{tiled_run, level_joined}
 use Rattle.gm_frontier.proofs.PairLemmas.{positions_once}

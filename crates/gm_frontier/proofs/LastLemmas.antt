@@ -3,7 +3,7 @@ use Rattle.gm_frontier.proofs.Lower.{◌≡◌, ℕ, ◌<◌, ◌≤◌, ◌↔�
 use Rattle.gm_frontier.proofs.Lower.{Contains, cases_lt, nat_tests, Position, Place, Rules, at, IsCanonical, IsGame, StandsAt, IsLastLevel, contains_none}
 use Rattle.gm_frontier.proofs.Lower.{contains_first, TableData, IsTable, table_of, AreTables, NoteData, positions, IsLevel, IsBelow, AreBelow, IsTrue}
 use Rattle.gm_frontier.proofs.Lower.{none_from_last, HasLevel, IsGreatestLevel, level_stands}
-use Rattle.gm_frontier.proofs.Distinct.{stands_there}
+use Rattle.gm_table.proofs.Distinct.{stands_there}
 use Rattle.gm_frontier.proofs.PieceLemmas.{all_taken}
 
 -- a table, by the greatest level of the phase

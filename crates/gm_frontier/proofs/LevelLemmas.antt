@@ -4,7 +4,7 @@ use Rattle.gm_frontier.proofs.Lower.{Contains, flat_map, Contains-append_left, C
 use Rattle.gm_frontier.proofs.Lower.{Place, Rules, IsCanonical, IsAscending, IsGame, is_before, StandsAt, contains_none, contains_first, contains_later}
 use Rattle.gm_frontier.proofs.Lower.{contains_cases, NoteData, RunData, positions, IsInTier, AreInOrder, AreNotesOf, comes_first, IsRun, IsLevel, AreRuns}
 use Rattle.gm_frontier.proofs.Lower.{AreTiles, map-append, IsAtLevel, IsInRun}
-use Rattle.gm_frontier.proofs.Distinct.{ascending_above}
+use Rattle.gm_table.proofs.Distinct.{ascending_above}
 use Rattle.gm_frontier.proofs.OrderLemmas.{in_order_append}
 
 -- the same list in another order that agrees with the first

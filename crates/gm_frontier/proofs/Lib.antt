@@ -1,7 +1,6 @@
 pub mod AllTallies
 pub mod CountLemmas
 pub mod CoverLemmas
-pub mod Distinct
 pub mod ExpectedLemmas
 pub mod ForGame
 pub mod GatherLemmas

@@ -5,7 +5,7 @@ use Rattle.gm_frontier.proofs.Lower.{Draw, Tie, Win, Phase, WinLose, Ties, Place
 use Rattle.gm_frontier.proofs.Lower.{is_before, StandsAt, contains_first, contains_later, map_from, map_in, HasValue_once, TableData, IsTable, record_at}
 use Rattle.gm_frontier.proofs.Lower.{table_of, AreTables, IsNote, IsNoteAt, phase_of, positions, IsInTier, AreInOrder, AreNotesOf, IsChildPart, note_of}
 use Rattle.gm_frontier.proofs.Lower.{notes_at, IsRecorded, AreRecorded, IsHeld}
-use Rattle.gm_frontier.proofs.Distinct.{ascending_above}
+use Rattle.gm_table.proofs.Distinct.{ascending_above}
 
 -- what the place of a position says of its value
 record Stands (s : Solved) (phase : Phase) (n : ℕ) : Type 0 where

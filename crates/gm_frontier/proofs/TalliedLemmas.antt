@@ -7,7 +7,7 @@ use Rattle.gm_frontier.proofs.Lower.{pairs_of_note, pairs_of, piece_of, TallyDat
 use Rattle.gm_frontier.proofs.Lower.{numbers_from, mul-div_cancel, flat_map-append}
 use Rattle.std.proofs.Common.{◌*◌}
 use Rattle.gm_frontier.proofs.CountLemmas.{notes_few, numbers_have}
-use Rattle.gm_frontier.proofs.Distinct.{no_repeats_from, no_repeats_to}
+use Rattle.gm_table.proofs.Distinct.{no_repeats_from, no_repeats_to}
 use Rattle.gm_frontier.proofs.LevelOnce.{level_once}
 use Rattle.gm_frontier.proofs.PairLemmas.{positions_once, canonical_notes, contains_taken}
 use Rattle.gm_frontier.proofs.SumLemmas.{sum_within, sum_same, numbers_in, numbers_once, sum_pieces}

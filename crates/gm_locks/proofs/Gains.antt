@@ -1,8 +1,7 @@
 -- What a delivery answers by where the shard stands, and by how much it raises the number of pairs.
-use Rattle.gm_locks.proofs.Lower.{◌≡◌, ℕ, ◌+◌, ◌≤◌, ◌⊎◌, ◌↔◌, inl, inr, List, sym, refl, ap, subst, ◌∙◌, arith, Result, Ok, Err, Contains, REMOTENESS, Position}
-use Rattle.gm_locks.proofs.Lower.{Rules, has_new, has_old, with_cases, NoteData, Delivery, Fresh, FreshSettled, Repeat, Refused, NotThisLevel, NotMine}
-use Rattle.gm_locks.proofs.Lower.{NotAParent, TooFar, ShardState, IsInRange, delivered_to, with_pair, pairs_in, IsPairHere, Delivers, IsAdded, Spot, spot_of}
-use Rattle.gm_locks.proofs.Lower.{gain, IsAnswer, count_same, cases_at, pairs_more, outcome}
+use Rattle.gm_locks.proofs.Lower.{◌≡◌, ℕ, ◌+◌, ◌≤◌, ◌⊎◌, ◌↔◌, inl, inr, List, sym, refl, ap, ◌∙◌, arith, Result, Ok, Err, Contains, Position, Rules, has_new}
+use Rattle.gm_locks.proofs.Lower.{has_old, with_cases, NoteData, Delivery, Fresh, FreshSettled, Repeat, Refused, ShardState, IsInRange, delivered_to, with_pair}
+use Rattle.gm_locks.proofs.Lower.{pairs_in, IsPairHere, Delivers, IsAdded, Spot, spot_of, gain, count_same, cases_at, pairs_more, outcome}
 
 -- what is delivered with a pair more: what was, and the pair
 pub delivered_more : (s : ShardState) (x : NoteData × ℕ) → IsInRange s x.1 → (y : NoteData × ℕ) → IsInRange s y.1
@@ -57,44 +56,3 @@ pub ok_added : (r : Rules) (x : NoteData × ℕ) (s t : ShardState) (answer : De
 ok_added r x s t Fresh new d = tt
 ok_added r x s t FreshSettled new d = tt
 ok_added r x s t Repeat new d = absurd (new d.2)
-
--- a pair that passes the first three tests is refused by none of them
-passed : (r : Rules) (s : ShardState) (note : NoteData) (parent : ℕ) (answer : Result Delivery Refused) → IsPairHere r s note parent
-    → (answer ≡ Err NotThisLevel → ⊥) → (answer ≡ Err NotMine → ⊥) → (answer ≡ Err NotAParent → ⊥)
-    → (answer ≡ Err TooFar → REMOTENESS ≤ s.level) → IsAnswer r (spot_of s) note parent answer
-passed r s note parent answer here a b c far = record {
-  not_this_level = ((λ e. absurd (a e)), (λ n. absurd (n here.is_level)));
-  not_mine = ((λ e. absurd (b e)), (λ n. absurd (n.1 here.is_mine)));
-  not_a_parent = ((λ e. absurd (c e)), (λ n. absurd (n.2 here.is_parent)));
-  too_far = far;
-}
-
--- the refusals by where the shard stands
-answered_here : (r : Rules) (note : NoteData) (parent : ℕ) (s t : ShardState) (answer : Result Delivery Refused) → Delivers r note parent s t answer
-    → IsAnswer r (spot_of s) note parent answer
-answered_here r note parent s t (Err NotThisLevel) h = record {
-  not_this_level = ((λ e. h.1), (λ n. refl));
-  not_mine = ((λ e. absurd (cc)), (λ n. absurd (h.1 n.0)));
-  not_a_parent = ((λ e. absurd (cc)), (λ n. absurd (h.1 n.0)));
-  too_far = λ e. absurd (cc);
-}
-answered_here r note parent s t (Err NotMine) h = record {
-  not_this_level = ((λ e. absurd (cc)), (λ n. absurd (n h.1)));
-  not_mine = ((λ e. (h.1, h.2)), (λ n. refl));
-  not_a_parent = ((λ e. absurd (cc)), (λ n. absurd (h.2 n.1)));
-  too_far = λ e. absurd (cc);
-}
-answered_here r note parent s t (Err NotAParent) h = record {
-  not_this_level = ((λ e. absurd (cc)), (λ n. absurd (n h.1)));
-  not_mine = ((λ e. absurd (cc)), (λ n. absurd (n.1 h.2)));
-  not_a_parent = ((λ e. (h.1, h.2, h.3)), (λ n. refl));
-  too_far = λ e. absurd (cc);
-}
-answered_here r note parent s t (Err TooFar) h = passed r s note parent (Err TooFar) h.1 (λ e. cc) (λ e. cc) (λ e. cc) (λ e. (let far = h.4 in omega arith))
-answered_here r note parent s t (Ok Repeat) h = passed r s note parent (Ok Repeat) h.1 (λ e. cc) (λ e. cc) (λ e. cc) (λ e. absurd (cc))
-answered_here r note parent s t (Ok Fresh) h = passed r s note parent (Ok Fresh) h.1 (λ e. cc) (λ e. cc) (λ e. cc) (λ e. absurd (cc))
-answered_here r note parent s t (Ok FreshSettled) h = passed r s note parent (Ok FreshSettled) h.1 (λ e. cc) (λ e. cc) (λ e. cc) (λ e. absurd (cc))
-
-pub answered : (r : Rules) (note : NoteData) (parent : ℕ) (s t : ShardState) (answer : Result Delivery Refused) (spot : Spot) → spot_of s ≡ spot
-    → Delivers r note parent s t answer → IsAnswer r spot note parent answer
-answered r note parent s t answer spot e h = subst (λ (x : Spot). IsAnswer r x note parent answer) e (answered_here r note parent s t answer h)

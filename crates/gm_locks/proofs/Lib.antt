@@ -1,6 +1,5 @@
-pub mod Places
 pub mod Gains
-pub mod RoundLemmas
 pub mod PieceLemmas
-pub mod FullLemmas
+pub mod Places
+pub mod RoundLemmas
 pub mod Lower

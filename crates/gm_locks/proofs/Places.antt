@@ -1,7 +1,7 @@
 -- Where positions stand, by their values.
 use Rattle.gm_locks.proofs.Lower.{◌≡◌, ℕ, inl, inr, subst, Position, Solved, Value, Lose, Draw, Tie, Win, Phase, WinLose, Ties, Rules, StandsAt, HasValue_once}
 use Rattle.gm_game.specs.Values.{HasValue, IsTrueValue}
-pub use Rattle.gm_shard.proofs.AddedLemmas.{value_stands}
+pub use Rattle.gm_counters.proofs.AddedLemmas.{value_stands}
 
 -- what is at a level has that remoteness
 pub stands_remoteness : (r : Rules) (p : Position) (phase : Phase) (n : ℕ) (x : Solved) → StandsAt r phase n p → IsTrueValue r p x → x.remoteness ≡ n

@@ -1,12 +1,11 @@
 -- A shard to which the pairs of a level are delivered in their order.
 use Rattle.gm_locks.proofs.Lower.{◌≡◌, ℕ, zero, suc, ◌+◌, ◌<◌, inl, inr, List, [], ◌∷◌, length, slice_get, refl, sym, ap, ap₂, subst, ◌∙◌, arith, Some, Result}
-use Rattle.gm_locks.proofs.Lower.{Ok, Err, Option, true, false, Contains, SkipsThenYields, YieldsFirst, nth_from_yields_List, YieldsList-from_first}
-use Rattle.gm_locks.proofs.Lower.{option_map_id, cases_lt, slice_get_within, get_or_from_slice_get, Contains-get_or, Place, Rules, at, IsParent, IsGame}
-use Rattle.gm_locks.proofs.Lower.{HasNoRepeats, NoteData, IsNoteAt, LevelData, IsLevel, positions, pairs_once, in_pairs, in_piece, positions_once}
-use Rattle.gm_locks.proofs.Lower.{piece_positions_once, pairs_of, piece_of, ExpectedData, IsExpected, same_image, now_stands, Delivery, Fresh, FreshSettled}
-use Rattle.gm_locks.proofs.Lower.{Repeat, Refused, NotThisLevel, NotMine, NotAParent, TooFar, ShardState, IsInRange, delivered_to, with_pair, pairs_in, IsGood}
-use Rattle.gm_locks.proofs.Lower.{Delivers, IsWhole, whole_from, Spot, spot_of, gain, IsDeliverable, pairs_into, place_of_spot, AreFirst, IsRound, HasNoneHere}
-use Rattle.gm_locks.proofs.Lower.{IsForSpot, IsLevelAt, IsNextAnswer, note_stands, slice_get_cases, is_err, outcome, IsAdded, IsRefusedAt}
+use Rattle.gm_locks.proofs.Lower.{Ok, Err, true, false, Contains, cases_lt, slice_get_within, get_or_from_slice_get, Contains-get_or, Place, Rules, at}
+use Rattle.gm_locks.proofs.Lower.{IsParent, IsGame, HasNoRepeats, NoteData, IsNoteAt, LevelData, IsLevel, positions, pairs_once, in_pairs, in_piece}
+use Rattle.gm_locks.proofs.Lower.{positions_once, piece_positions_once, pairs_of, piece_of, same_image, now_stands, Delivery, Fresh, FreshSettled, Repeat}
+use Rattle.gm_locks.proofs.Lower.{Refused, NotThisLevel, NotMine, NotAParent, TooFar, ShardState, IsInRange, delivered_to, with_pair, pairs_in, IsGood}
+use Rattle.gm_locks.proofs.Lower.{Delivers, IsWhole, Spot, spot_of, gain, IsDeliverable, pairs_into, place_of_spot, AreFirst, IsRound, HasNoneHere, IsLevelAt}
+use Rattle.gm_locks.proofs.Lower.{IsNextAnswer, note_stands, slice_get_cases, is_err, outcome, IsAdded, IsRefusedAt}
 use Rattle.gm_locks.proofs.Gains.{gained, delivered_more, gain_is, ok_added}
 
 -- the item at a place of a list without repeats is at no other place
@@ -169,22 +168,9 @@ pub level_into : (r : Rules) (l : LevelData) (spot : Spot) (notes : List NoteDat
     → IsLevel r (place_of_spot spot) notes
 level_into r l spot notes at level = subst (λ (p : Place). IsLevel r p notes) at.place (subst (λ (ns : List NoteData). IsLevel r l.place ns) at.notes_are level)
 
--- as many pairs as a count for the spot says: the level is whole
-pub round_whole : (r : Rules) → IsGame r → (spot : Spot) (s : ShardState) → spot_of s ≡ spot → IsGood r s → (e : ExpectedData) → IsExpected r e
-    → IsForSpot e spot → e.number ≡ pairs_in s → IsWhole r s
-round_whole r g spot s at good e exact f n =
-    let here = subst (IsForSpot e) (sym at) f in
-    whole_from g good exact (record { tier = here.tier; lo = here.lo; hi = here.hi; last = here.last }) (omega arith)
-
 -- the pairs of all notes of a level at the spot into its range
 pub pairs_are_into : (r : Rules) (l : LevelData) (spot : Spot) (notes : List NoteData) → IsLevelAt l spot notes → (lo hi : ℕ) → lo ≡ spot.lo → hi ≡ spot.hi
     → (pairs : List (NoteData × ℕ)) → pairs ≡ pairs_of r l.place.tier lo hi l.notes → pairs ≡ pairs_into r spot notes
 pairs_are_into r l spot notes at lo hi from to pairs is =
     let tier : l.place.tier ≡ spot.tier = ap (λ (p : Place). p.tier) at.place in
     is ∙ rw (tier, from, to, at.notes_are) refl
-
--- the item that a walk of n calls comes to
-pub nth_is : {X : Type 0} (xs : List X) (found : Option X) (n : ℕ) (left : List X) → SkipsThenYields (YieldsFirst (λ (ys : List X). ys)) xs n found left
-    → slice_get xs n ≡ found
-nth_is {X} xs found n left ran =
-    sym (nth_from_yields_List {v = λ (x : X). x} found left n ran (YieldsList-from_first (λ (x : X). x) (λ (ys : List X). ys) xs refl)) ∙ option_map_id found

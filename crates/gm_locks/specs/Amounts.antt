@@ -1,17 +1,11 @@
 -- Parts of ledgers and their amounts, and a shard with its book.
 use Rattle.std.specs.Prelude.{ℕ, ◌+◌, ◌-◌, ◌==◌, if◌then◌else◌}
-use Rattle.gm_locks.specs.Lower.{ShardState}
 use Rattle.gm_locks.specs.Spots.{choose}
 
 -- some parts of a ledger and an amount
 pub record Part : Type 0 where
   pub parts : ℕ
   pub amount : ℕ
-
--- a shard and the total of its book
-pub record HeldData : Type 0 where
-  pub shard : ShardState
-  pub book : ℕ
 
 -- the same number of parts of each of four ledgers, and the amount of each
 pub record Amounts : Type 0 where

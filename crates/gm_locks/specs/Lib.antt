@@ -1,5 +1,5 @@
-pub mod Spots
-pub mod Rounds
-pub mod Pieces
 pub mod Amounts
+pub mod Pieces
+pub mod Rounds
+pub mod Spots
 pub mod Lower

@@ -2,7 +2,7 @@
 use Rattle.std.specs.Prelude.{◌≡◌, ℕ, ◌+◌, ◌<◌, ◌≤◌, ◌==◌, max, Bool, true, false, List, [], ◌∷◌, take, drop, length, slice_index, slice_index_or, slice_set}
 use Rattle.std.specs.Prelude.{Result, Err}
 use Rattle.gm_locks.specs.Lower.{div_ceil, IsOk, Rules, NoteData, LevelData, IsLevel, piece_of, Delivery, Refused, TooFar, ShardState, pairs_in, IsGood}
-use Rattle.gm_locks.specs.Lower.{Delivers, IsAdded}
+use Rattle.gm_locks.specs.Lower.{Delivers, IsAdded, Status, StatusIs}
 use Rattle.gm_locks.specs.Spots.{Spot, spot_of, IsDeliverable}
 use Rattle.gm_locks.specs.Rounds.{pairs_into, place_of_spot, AreFirst, HasNoneHere, IsLevelAt}
 
@@ -66,3 +66,10 @@ pub record IsReadyFor (r : Rules) (t : ShardState) (level : LevelData) (s : Spot
   pub level_at : IsLevelAt level s notes
   pub number : pairs_in t ≡ base
   pub none : HasNoneHere r t
+
+-- a good shard at the spot has this status at an index
+pub record IsShownAt (r : Rules) (s : Spot) (index : ℕ) (status : Status) : Type 0 where
+  pub state : ShardState
+  pub good : IsGood r state
+  pub spot : spot_of state ≡ s
+  pub status_is : StatusIs r state index status

@@ -1,23 +1,22 @@
 //! Deliveries of a level's pieces to one shard, each piece once: under the shard's lock a bit for each piece shows whether its pairs are delivered.
 ghost use Rattle.std.specs.Prelude.{◌≡◌, ℕ, ◌+◌, ◌-◌, ◌<◌, ◌≤◌, true, false, take, drop, length, slice_index, slice_index_or, IfOk, OnErr};
-ghost use Rattle.gm_locks.specs.Lower.{div_ceil, IsLevel, pairs_in, IsWhole};
-ghost use Rattle.gm_locks.specs.Spots.{spot_of};
+ghost use Rattle.gm_locks.specs.Lower.{div_ceil, IsGood, IsLevel, pairs_in, IsWhole};
+ghost use Rattle.gm_locks.specs.Spots.{spot_of, IsWithin};
 ghost use Rattle.gm_locks.specs.Rounds.{place_of_spot, AreFirst};
-ghost use Rattle.gm_locks.specs.Pieces.{piece_pairs, AreNew, IsRefusedAt, IsTurnAt, IsReadyFor};
+ghost use Rattle.gm_locks.specs.Pieces.{piece_pairs, AreNew, IsRefusedAt, IsTurnAt, IsReadyFor, IsShownAt};
 
-use crate::pass::PassLedger;
-use crate::share::Share;
+use crate::share::{LevelLedger, Share};
+use gm_counters::ordered::OrderedShard;
+use gm_counters::status::{Refused, Status};
 use gm_frontier::level::Level;
 use gm_frontier::note::Note;
 use gm_game::game::Game;
-use gm_shard::ordered::OrderedShard;
-use gm_shard::status::Refused;
 use std::alloc::{AllocError, Global};
 use std::marker::{Brand, Model};
 use std::sync::ledger::{Blank, Book};
 
 /// The name of a shard's ledger for one level that is delivered in pieces. It also fixes the number of notes in a piece.
-pub trait PieceLedger: PassLedger {
+pub trait PieceLedger: LevelLedger {
     /// The number of notes in a piece.
     ghost size: { ℕ };
 }
@@ -58,7 +57,7 @@ fn deliver_from<G: Game, L: PieceLedger>(
 
 /// The contents of one lock: a shard, the number of delivered pairs of each piece, and a bit for each piece that is set when these are all.
 #[derive(Drop)]
-pub(crate) struct Pieced<G: Game, L: PieceLedger> {
+pub struct Pieced<G: Game, L: PieceLedger> {
     shard: OrderedShard<G>,
     counts: Vec<usize>,
     whole: Vec<bool>,
@@ -104,6 +103,26 @@ impl<G: Game, L: PieceLedger> Pieced<G, L> {
             book,
         };
         Ok((pieced, share))
+    }
+
+    /// Returns the shard. It is good, it is at the place that its name fixes, and it has as many pairs as before the level and the book together.
+    pub fn shard(&self) -> &OrderedShard<G>
+        ensures shard { result.now ≡ self.now.shard }
+        ensures good { IsGood G.rules self.now.shard }
+        ensures spot { spot_of self.now.shard ≡ L.spot }
+        ensures book { pairs_in self.now.shard ≡ L.base + self.now.book }
+    {
+        let _good = self.shard.range();
+        &self.shard
+    }
+
+    /// Returns what is known of an index of the shard.
+    pub fn status(&self, index: u64) -> Status
+        requires { IsWithin L.spot index }
+        ensures { IsShownAt G.rules L.spot index result }
+    {
+        let _good = self.shard.range();
+        self.shard.status(index)
     }
 
     /// Returns the index range of the shard: the first index, and the one past the last.

@@ -1,18 +1,19 @@
 //! Four shards of a tier, each under a lock of its own, to which a level is delivered piece by piece.
 ghost use Rattle.std.specs.Prelude.{◌≡◌, ℕ, ◌+◌, ◌<◌, ◌≤◌, true, false, length, slice_index_or, IfOk, OnOk, OnErr};
 ghost use Rattle.gm_locks.specs.Lower.{div_ceil, pairs_in, IsWhole};
-ghost use Rattle.gm_locks.specs.Spots.{spot_of, choose};
+ghost use Rattle.gm_locks.specs.Spots.{spot_of, choose, IsWithin};
 ghost use Rattle.gm_locks.specs.Amounts.{raised};
-ghost use Rattle.gm_locks.specs.Pieces.{PiecedData, piece_pairs, IsRefusedAt, IsTurnAt, IsReadyFor};
+ghost use Rattle.gm_locks.specs.Pieces.{PiecedData, piece_pairs, IsRefusedAt, IsTurnAt, IsReadyFor, IsShownAt};
 
-use crate::board::{Four, Shares};
+use crate::four::Four;
 use crate::piece::{PieceLedger, Pieced};
 use crate::share::Share;
+use crate::shares::Shares;
+use gm_counters::ordered::OrderedShard;
+use gm_counters::status::{Refused, Status};
 use gm_frontier::level::Level;
 use gm_frontier::note::Note;
 use gm_game::game::Game;
-use gm_shard::ordered::OrderedShard;
-use gm_shard::status::Refused;
 use std::alloc::{AllocError, Global};
 use std::marker::Model;
 use std::sync::ledger::Blank;
@@ -28,26 +29,6 @@ pub struct PieceBoard<G: Game, A: PieceLedger, B: PieceLedger, C: PieceLedger, D
     d: Mutex<Pieced<G, D>>,
     ghost notes_are: { (B.notes ≡ A.notes) × (C.notes ≡ A.notes) × (D.notes ≡ A.notes) },
     ghost sizes_are: { (B.size ≡ A.size) × (C.size ≡ A.size) × (D.size ≡ A.size) },
-}
-
-// Delivers pairs of a piece under one lock.
-fn deliver_under<G: Game, L: PieceLedger, R: Wait>(
-    rt: &R,
-    lock: &Mutex<Pieced<G, L>>,
-    piece: usize,
-    pairs: &[(Note<G>, u64)],
-    to: usize,
-    share: &mut Share<L>,
-) -> Result<(), Refused>
-    requires piece { piece < div_ceil (length L.notes) L.size }
-    requires pairs { pairs.now ≡ piece_pairs G.rules L.spot L.notes L.size piece }
-    requires to { to ≤ length pairs.now }
-    requires parts { 0 < share.old.parts }
-    ensures turn { (n : ℕ) × (d : PiecedData) × (e : PiecedData) × IsTurnAt G.rules L.spot L.notes L.size L.base piece to n result d e
-        × (share.new ≡ record { parts = share.old.parts; amount = share.old.amount + n }) }
-    ensures far { OnErr result (IsRefusedAt G.rules L.spot) }
-{
-    lock.lock(rt).deliver(piece, pairs, to, share)
 }
 
 impl<G: Game, A: PieceLedger, B: PieceLedger, C: PieceLedger, D: PieceLedger> PieceBoard<
@@ -91,6 +72,40 @@ impl<G: Game, A: PieceLedger, B: PieceLedger, C: PieceLedger, D: PieceLedger> Pi
         Ok((board, Shares { parts, a, b, c, d }))
     }
 
+    /// Returns what is known of an index of a shard while its lock is held. The shard behind the lock is good, and at the place that its name fixes.
+    pub fn status<R: Wait>(&self, rt: &R, shard: usize, index: u64) -> Status
+        requires shard { shard < 4 }
+        requires index { IsWithin (choose shard A.spot B.spot C.spot D.spot) index }
+        ensures { IsShownAt G.rules (choose shard A.spot B.spot C.spot D.spot) index result }
+    {
+        match shard {
+            0 => self.a.lock(rt).status(index),
+            1 => self.b.lock(rt).status(index),
+            2 => self.c.lock(rt).status(index),
+            _ => self.d.lock(rt).status(index),
+        }
+    }
+
+    /// Returns the lock of shard 0.
+    pub fn a(&self) -> &Mutex<Pieced<G, A>> {
+        &self.a
+    }
+
+    /// Returns the lock of shard 1.
+    pub fn b(&self) -> &Mutex<Pieced<G, B>> {
+        &self.b
+    }
+
+    /// Returns the lock of shard 2.
+    pub fn c(&self) -> &Mutex<Pieced<G, C>> {
+        &self.c
+    }
+
+    /// Returns the lock of shard 3.
+    pub fn d(&self) -> &Mutex<Pieced<G, D>> {
+        &self.d
+    }
+
     /// Delivers the pairs of a piece up to number `to` to one shard, under its lock, as `Pieced::deliver` does. The caller's amount for this shard rises by the
     /// number of new pairs, and the other amounts stay.
     pub fn deliver<R: Wait>(
@@ -112,10 +127,10 @@ impl<G: Game, A: PieceLedger, B: PieceLedger, C: PieceLedger, D: PieceLedger> Pi
         ensures far { OnErr result (IsRefusedAt G.rules (choose shard A.spot B.spot C.spot D.spot)) }
     {
         match shard {
-            0 => deliver_under(rt, &self.a, piece, pairs, to, &mut shares.a),
-            1 => deliver_under(rt, &self.b, piece, pairs, to, &mut shares.b),
-            2 => deliver_under(rt, &self.c, piece, pairs, to, &mut shares.c),
-            _ => deliver_under(rt, &self.d, piece, pairs, to, &mut shares.d),
+            0 => self.a.lock(rt).deliver(piece, pairs, to, &mut shares.a),
+            1 => self.b.lock(rt).deliver(piece, pairs, to, &mut shares.b),
+            2 => self.c.lock(rt).deliver(piece, pairs, to, &mut shares.c),
+            _ => self.d.lock(rt).deliver(piece, pairs, to, &mut shares.d),
         }
     }
 

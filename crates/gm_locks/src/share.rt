@@ -1,9 +1,9 @@
 //! Parts of a shard's ledger.
-ghost use Rattle.std.specs.Prelude.{◌≡◌, ◌+◌, ◌-◌, ◌^◌, ◌<◌, ◌≤◌, min};
-ghost use Rattle.gm_locks.specs.Spots.{Spot, first_spot, gain};
+ghost use Rattle.std.specs.Prelude.{◌≡◌, ℕ, ◌+◌, ◌-◌, ◌^◌, ◌<◌, ◌≤◌, List, [], min};
+ghost use Rattle.gm_locks.specs.Lower.{NoteData};
+ghost use Rattle.gm_locks.specs.Spots.{Spot, first_spot};
 ghost use Rattle.gm_locks.specs.Amounts.{Part};
 
-use gm_shard::status::{Delivery, Refused};
 use std::marker::{Brand, Model};
 use std::sync::ledger;
 use std::sync::ledger::{Book, Ledger};
@@ -17,6 +17,20 @@ pub trait ShardLedger: Ledger {
 // A brand is a name that is picked at a call, with the place that it fixes.
 impl ShardLedger for Brand {
     ghost spot = { first_spot };
+}
+
+/// The name of a shard's ledger for one level. It also fixes how many pairs were delivered before, and the notes of the level.
+pub trait LevelLedger: ShardLedger {
+    /// How many pairs were delivered before.
+    ghost base: { ℕ };
+    /// The notes of the level.
+    ghost notes: { List NoteData };
+}
+
+impl LevelLedger for Brand {
+    ghost base = { 0 };
+
+    ghost notes = { [] };
 }
 
 /// A share of one shard's ledger: some of its parts, with the number of pairs that were delivered by them.
@@ -39,7 +53,7 @@ impl<L: ShardLedger> Model for Share<L> {
 
 impl<L: ShardLedger> Share<L> {
     /// Returns a share by which nothing was delivered yet.
-    pub(crate) fn whole(mark: ledger::Share<L>) -> Share<L>
+    pub fn whole(mark: ledger::Share<L>) -> Share<L>
         requires { mark.amount ≡ 0 }
         ensures { result ≡ record { parts = mark.parts; amount = 0 } }
     {
@@ -54,7 +68,7 @@ impl<L: ShardLedger> Share<L> {
     }
 
     /// Raises the total of the book and the amount of the share.
-    pub(crate) fn raise(&mut self, book: &mut Book<L>, by: u64)
+    pub fn raise(&mut self, book: &mut Book<L>, by: u64)
         requires { 0 < self.old.parts }
         ensures book { book.new.total ≡ book.old.total + by }
         ensures share { self.new ≡ record { parts = self.old.parts; amount = self.old.amount + by } }
@@ -64,7 +78,7 @@ impl<L: ShardLedger> Share<L> {
     }
 
     /// Shows that the amount is at most the book's total, and equal to it if the share has all parts.
-    pub(crate) fn audit(&mut self, book: &mut Book<L>)
+    pub fn audit(&mut self, book: &mut Book<L>)
         ensures same { (self.new ≡ self.old) × (book.new.total ≡ book.old.total) }
         ensures bound { self.old.amount ≤ book.old.total }
         ensures whole { self.old.parts ≡ L.parts → self.old.amount ≡ book.old.total }
@@ -88,15 +102,5 @@ impl<L: ShardLedger> Share<L> {
         let Share { mark, counted } = other;
         self.mark.merge(mark);
         self.counted = self.counted.saturating_add(counted);
-    }
-}
-
-/// Returns the number of pairs that a delivery adds.
-pub fn gained(answer: &Result<Delivery, Refused>) -> u64
-    ensures { result ≡ gain answer.now }
-{
-    match answer {
-        Ok(Delivery::Fresh | Delivery::FreshSettled) => 1,
-        Ok(Delivery::Repeat) | Err(_) => 0,
     }
 }

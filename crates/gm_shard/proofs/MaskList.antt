@@ -1,6 +1,6 @@
 -- The children that a list of masks stands for.
-use Rattle.gm_shard.proofs.Lower.{◌≡◌, ℕ, zero, suc, ◌+◌, ◌<◌, ◌≤◌, List, [], ◌∷◌, length, get_or, refl, ap, ◌∙◌, arith, replicate, sum_by, set, sum_by-cons}
-use Rattle.gm_shard.proofs.Lower.{mul-suc, Position, Rules, at, canonical_children_of, picked, picked_none, children_of_masks}
+use Rattle.gm_shard.proofs.Lower.{◌≡◌, ℕ, zero, suc, ◌+◌, ◌<◌, ◌≤◌, List, [], ◌∷◌, length, get_or, refl, ap, ◌∙◌, arith, replicate, set, Position, Rules, at}
+use Rattle.gm_shard.proofs.Lower.{canonical_children_of, picked, picked_none, children_of_masks}
 use Rattle.std.proofs.Common.{◌*◌}
 
 pub zero_plus : (k : ℕ) → 0 + k ≡ k
@@ -37,13 +37,3 @@ masks_none r tier i zero = refl
 masks_none r tier i (suc n) =
     ap (λ (d : List Position). d ∷ children_of_masks r tier (suc i) (replicate n 0)) (picked_none 0 (canonical_children_of r (at tier i)))
     ∙ ap (λ (ds : List (List Position)). [] ∷ ds) (masks_none r tier (suc i) n)
-
--- short lists make a small sum
-pub sum_small : (n : ℕ) (ds : List (List Position)) → ((k : ℕ) → k < length ds → length (get_or ds k []) ≤ n) → sum_by length ds ≤ n * length ds
-sum_small n [] f = omega arith
-sum_small n (d ∷ ds) f =
-    let e = sum_by-cons (length {A = Position}) d ds in
-    let here : length d ≤ n = f 0 (omega arith) in
-    let rest = sum_small n ds (λ k l. f (suc k) (omega arith)) in
-    let m : n * length (d ∷ ds) ≡ n * length ds + n = mul-suc n (length ds) in
-    omega arith

@@ -2,9 +2,11 @@
 use Rattle.gm_shard.proofs.Lower.{◌≡◌, ◌≢◌, ℕ, ◌+◌, ◌-◌, ◌<◌, ◌↔◌, inl, inr, ⊎_elim, List, [], length, get_or, map, replicate, ap, sym, subst, ◌∙◌, arith}
 use Rattle.gm_shard.proofs.Lower.{Result, Some, Contains, slice_get, set, get_or_read, bit_at, Position, Rules, at, children, with_position}
 use Rattle.gm_shard.proofs.Lower.{canonical_children_of, picked, ascending_set, bit_cases, picked_has, picked_lacks, picked_with, NoteData, Delivery, Refused}
-use Rattle.gm_shard.proofs.Lower.{first_state, IsPlaceOf, IsAdded, Delivers, ShardState, IsInRange, delivered_to, with_pair, children_of_masks}
-use Rattle.gm_shard.proofs.AddedLemmas.{outcome}
+use Rattle.gm_shard.proofs.Lower.{first_state, IsPlaceOf, IsAdded, Delivers, ShardState, IsInRange, delivered_to, with_pair, children_of_masks, ◌^◌, ◌≤◌, refl}
+use Rattle.gm_shard.proofs.Lower.{Ok, ◌==◌, Repeat, IsThisLevel, IsPairHere, at_place}
+use Rattle.gm_counters.proofs.AddedLemmas.{outcome}
 use Rattle.gm_shard.proofs.MaskList.{length-masks, masks_at, masks_set, masks_none, zero_plus}
+use Rattle.gm_counters.proofs.StepLemmas.{from_children_of}
 
 -- the masks mark what is delivered
 abbrev pub Tells : Rules → ShardState → List ℕ → Type 0
@@ -94,3 +96,18 @@ tells_more r s t masks c parent k m mask tells range place new is read same othe
         (subst (λ (i : ℕ). bit_at m i ≡ 1) (sym zk) same)
         (λ j ne. other j (λ z. ne (z ∙ sym zk)) ∙ ap (λ (n : ℕ). bit_at n j) is_old)
         ∙ ap (λ (xs : List Position). with_position c xs) (sym (told_at r s masks parent tells range))
+
+-- a pair of the range, where the child has a place
+pub pair_here : (r : Rules) (s : ShardState) (note : NoteData) (parent k : ℕ) → IsThisLevel s note → IsInRange s parent
+    → IsPlaceOf r note.position s.tier parent (Some k) → IsPairHere r s note parent
+pair_here r s note parent k level mine place = record {
+  is_level = level;
+  is_mine = mine;
+  is_parent = (place.0, from_children_of r (at s.tier parent) note.position (at_place (canonical_children_of r (at s.tier parent)) k note.position place.1));
+}
+
+-- a pair that is there
+pub out_repeat : (r : Rules) (s : ShardState) (note : NoteData) (parent k : ℕ) → IsThisLevel s note → IsInRange s parent
+    → IsPlaceOf r note.position s.tier parent (Some k) → Contains (delivered_to s parent) note.position
+    → Delivers r note parent s s (Ok Repeat)
+out_repeat r s note parent k level mine place there = (refl, pair_here r s note parent k level mine place, there)

@@ -5,8 +5,8 @@ use Rattle.gm_shard.proofs.Lower.{get_or_from_slice_get, same_Some, set-get_or, 
 use Rattle.gm_shard.proofs.Lower.{FreshSettled, Repeat, Refused, NotThisLevel, NotMine, NotAParent, TooFar, ShardState, IsInRange, delivered_to, with_pair}
 use Rattle.gm_shard.proofs.Lower.{StatusIs, IsGood, IsPairHere, IsAdded, Delivers, CanDeliver, shard_of, Takes, Changes, Runs}
 use Rattle.std.proofs.Common.{slice_get}
-use Rattle.gm_shard.proofs.AddedLemmas.{note_stands, still_mine, outcome}
-use Rattle.gm_shard.proofs.FreshLemmas.{place_is}
+use Rattle.gm_counters.proofs.AddedLemmas.{note_stands, still_mine, outcome}
+use Rattle.gm_counters.proofs.FreshLemmas.{place_is}
 
 -- a note that passes the first three tests, whose pair is new and leaves a good shard
 can_deliver : (r : Rules) (note : NoteData) (parent : ℕ) (s t : ShardState) → IsNote r note.position note.solved → IsGood r t → IsInRange t parent

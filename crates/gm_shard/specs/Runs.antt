@@ -1,8 +1,9 @@
 -- Runs of events over the states of shards, in any order of the events.
 use Rattle.std.specs.Prelude.{◌≡◌, ℕ, suc, ◌⊎◌, List, [], ◌∷◌, Some, slice_get, slice_set}
 use Rattle.gm_shard.specs.Lower.{Rules}
-use Rattle.gm_shard.specs.State.{ShardState, with_pair}
-use Rattle.gm_shard.specs.Steps.{CanDeliver, CanClose, CanTurn, next_level, first_ties}
+use Rattle.gm_counters.specs.State.{ShardState, with_pair}
+use Rattle.gm_counters.specs.Steps.{CanDeliver, CanTurn, next_level, first_ties}
+use Rattle.gm_shard.specs.Closing.{CanClose}
 use Rattle.gm_shard.specs.declared.event.Event.{Event}
 use Rattle.gm_shard.specs.declared.event.Event.TheVariants.{Deliver, Close, NextPhase}
 

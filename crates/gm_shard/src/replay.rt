@@ -1,8 +1,8 @@
 //! Runs of events over shards.
 ghost use Rattle.std.specs.Prelude.{◌≡◌, List, MatchBool, All};
-ghost use Rattle.gm_shard.specs.State.{ShardState, with_pair};
-ghost use Rattle.gm_shard.specs.Good.{IsGood};
-ghost use Rattle.gm_shard.specs.Steps.{CanDeliver};
+ghost use Rattle.gm_counters.specs.State.{ShardState, with_pair};
+ghost use Rattle.gm_counters.specs.Good.{IsGood};
+ghost use Rattle.gm_counters.specs.Steps.{CanDeliver};
 ghost use Rattle.gm_shard.specs.Runs.{shard_of, Takes, Changes, Runs};
 
 use crate::event::Event;

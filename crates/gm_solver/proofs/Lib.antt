@@ -1,13 +1,4 @@
-pub mod Far
-pub mod SplitLemmas
-pub mod FinishLemmas
-pub mod Final
-pub mod TilingLemmas
-pub mod RoundLemmas
-pub mod BlockLemmas
-pub mod InOrderLemmas
-pub mod Deliveries
-pub mod Values
-pub mod Parts
-pub mod OnceLemmas
+pub mod AnswerLemmas
+pub mod DeskLemmas
+pub mod FullLemmas
 pub mod Lower

@@ -1,10 +1,3 @@
-pub mod Solving
-pub mod Plans
-pub mod Cuts
-pub mod Tiling
-pub mod Covered
-pub mod Blocks
-pub mod Split
-pub mod Gathered
-pub mod Passes
+pub mod Boards
+pub mod Desks
 pub mod Lower

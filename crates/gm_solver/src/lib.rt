@@ -1,40 +1,24 @@
-//! Solves tiers: level after level, until every position of a tier has its true value, or in one pass if no move stays in the tier.
+//! For callers with workers of their own: a tier by workers (`solve_tier`), by passes or by one thread, and boards and desks with locks.
 //!
 //! `specs/` has the definitions that contracts cite, and `proofs/` what follows from them.
 #![tactic(auto)]
 
-pub mod alone;
-mod begin;
-mod by_workers;
-mod context;
-mod crew;
-mod cuts;
+pub mod board;
 pub mod error;
-mod finish;
-mod frame;
-pub mod gate;
-mod in_order;
-mod level_job;
-mod levels;
-pub mod observer;
-mod once;
+pub mod held;
+pub mod pass;
 mod passes;
-mod pieces;
-pub mod plan;
-mod position;
-mod range;
-mod round;
-mod scan;
-pub mod settle;
-pub mod solve;
-pub mod source;
 pub mod starts;
-pub mod stop;
 pub mod tier;
-mod tiles;
 mod workplace;
 
-pub use gm_locks::board::{Board, Four, Shares};
-pub use gm_locks::held::Held;
-pub use gm_locks::pass::{Pass, PassDesk, PassLedger};
-pub use gm_locks::share::{ShardLedger, Share};
+pub use crate::board::Board;
+pub use crate::held::Held;
+pub use crate::pass::{Pass, PassDesk};
+pub use gm_backward::{
+    alone as alone, gate as gate, plan as plan, solve as solve, source as source,
+};
+pub use gm_immediate::{observer as observer, settle as settle, stop as stop};
+pub use gm_locks::four::Four;
+pub use gm_locks::share::{LevelLedger, ShardLedger, Share};
+pub use gm_locks::shares::Shares;

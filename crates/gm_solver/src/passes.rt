@@ -1,20 +1,28 @@
-//! One level by passes: each shard has one pass, which delivers the level's pairs to it in their order.
-ghost use Rattle.std.specs.Prelude.{◌≡◌, ◌<◌, ◌≤◌, IfOk, IfErr};
-ghost use Rattle.gm_solver.specs.Lower.{IsReadyFor};
-ghost use Rattle.gm_solver.specs.Solving.{IsError};
-ghost use Rattle.gm_solver.specs.Tiling.{AreShardsAt, AreWhole, HaveNoneHere};
+//! A tier solved level by level by passes: at each level each shard has one pass, which delivers the level's pairs to it in their order.
+ghost use Rattle.std.specs.Prelude.{◌≡◌, ◌<◌, ◌≤◌, IfOk, IfErr, OnOk};
+ghost use Rattle.gm_solver.specs.Lower.{IsReadyFor, AreDeliveries, AreHeld, IsTable, IsTooFar, place_of};
+ghost use Rattle.gm_backward.specs.Solving.{IsError};
+ghost use Rattle.gm_backward.specs.Tiling.{AreShardsAt, AreWhole, HaveNoneHere, IsLaterPlace, next_place};
 
-use crate::context::SolveContext;
-use crate::gate::Gate;
-use crate::level_job::{LevelEnd, LevelJob};
-use crate::observer::Observer;
-use crate::source::Source;
 use crate::workplace::Workplace;
+use gm_backward::context::SolveContext;
+use gm_backward::error::SolveError;
+use gm_backward::gate::Gate;
+use gm_backward::level_job::{LevelEnd, LevelJob};
+use gm_backward::levels::{fresh, next_level, table_of};
+use gm_backward::report::Report;
+use gm_backward::source::Source;
+use gm_backward::tiles::{Tiles, close_all};
+use gm_counters::ordered::OrderedShard;
+use gm_frontier::last::Last;
+use gm_frontier::level::Level;
 use gm_game::game::Game;
-use gm_game::limits::REMOTENESS;
-use gm_locks::board::Four;
-use gm_locks::pass::PassLedger;
-use gm_shard::ordered::OrderedShard;
+use gm_game::limits::{REMOTENESS, TIER_SIZE};
+use gm_immediate::observer::Observer;
+use gm_locks::four::Four;
+use gm_locks::share::LevelLedger;
+use gm_table::table::Table;
+use gm_table::tables::Tables;
 use std::marker::Brand;
 use std::sync::Wait;
 use std::sync::ledger::Blank;
@@ -26,10 +34,10 @@ use std::thread::Threads;
 struct Workplaces<
     'a,
     G: Game,
-    A: PassLedger,
-    B: PassLedger,
-    C: PassLedger,
-    D: PassLedger,
+    A: LevelLedger,
+    B: LevelLedger,
+    C: LevelLedger,
+    D: LevelLedger,
     T: Gate,
     S: Source,
 > {
@@ -44,10 +52,10 @@ struct Workplaces<
 impl<
     'a,
     G: Game,
-    A: PassLedger,
-    B: PassLedger,
-    C: PassLedger,
-    D: PassLedger,
+    A: LevelLedger,
+    B: LevelLedger,
+    C: LevelLedger,
+    D: LevelLedger,
     T: Gate,
     S: Source,
 > Workplaces<'a, G, A, B, C, D, T, S> {
@@ -73,10 +81,10 @@ impl<
 fn run_workers<
     'a,
     G: Game + Send + Sync,
-    A: PassLedger + Send,
-    B: PassLedger + Send,
-    C: PassLedger + Send,
-    D: PassLedger + Send,
+    A: LevelLedger + Send,
+    B: LevelLedger + Send,
+    C: LevelLedger + Send,
+    D: LevelLedger + Send,
     R: Threads + Wait + Sync,
     T: Gate,
     S: Source,
@@ -92,16 +100,16 @@ fn run_workers<
 // Runs a level at desks with these ledgers' names.
 fn run_at_desks<
     G: Game + Send + Sync,
-    A: PassLedger + Send,
-    B: PassLedger + Send,
-    C: PassLedger + Send,
-    D: PassLedger + Send,
+    A: LevelLedger + Send,
+    B: LevelLedger + Send,
+    C: LevelLedger + Send,
+    D: LevelLedger + Send,
     R: Threads + Wait + Sync,
     T: Gate,
     S: Source,
     O: Observer,
 >(
-    context: &SolveContext<G, R, T, S, O>,
+    context: &SolveContext<R, T, S, O>,
     job: &LevelJob<G>,
     blanks: Four<Blank>,
     shards: Four<OrderedShard<G>>,
@@ -149,15 +157,9 @@ fn run_at_desks<
     Ok((Four { a, b, c, d }, by_workers))
 }
 
-/// Runs a level, with one pass for each shard: workers deliver its pairs, and the coordinator the rest.
-pub(crate) fn run_passes<
-    G: Game + Send + Sync,
-    R: Threads + Wait + Sync,
-    T: Gate,
-    S: Source,
-    O: Observer,
->(
-    context: &SolveContext<G, R, T, S, O>,
+// Runs a level, with one pass for each shard: workers deliver its pairs, and the coordinator the rest.
+fn run_passes<G: Game + Send + Sync, R: Threads + Wait + Sync, T: Gate, S: Source, O: Observer>(
+    context: &SolveContext<R, T, S, O>,
     job: &LevelJob<G>,
     shards: Four<OrderedShard<G>>,
 ) -> LevelEnd<G>
@@ -176,4 +178,87 @@ pub(crate) fn run_passes<
         d: Blank::new(1),
     };
     run_at_desks::<G, Brand, Brand, Brand, Brand, R, T, S, O>(context, job, blanks, shards)
+}
+
+// Delivers the pairs of a level by passes, and closes it. Returns the number of the workers' deliveries too.
+fn run_level<G: Game + Send + Sync, R: Threads + Wait + Sync, T: Gate, S: Source, O: Observer>(
+    context: &SolveContext<R, T, S, O>,
+    tiles: Tiles<G>,
+    level: &Level<G>,
+) -> Result<(Tiles<G>, u64), SolveError>
+    requires place { level.now.place ≡ place_of tiles.shards.a }
+    requires near { tiles.shards.a.level ≤ REMOTENESS }
+    ensures next { IfOk result (λ next. place_of next.0.shards.a ≡ next_place (place_of tiles.shards.a)) }
+    ensures error { IfErr result (IsError G.rules tiles.shards.a.tier) }
+{
+    let (shards, cuts) = tiles.into_parts();
+    let job = LevelJob {
+        level,
+        notes: context.plan.piece(),
+        cuts,
+    };
+    let (shards, by_workers) = run_passes(context, &job, shards)?;
+    let shards = close_all(level, cuts, shards);
+    Ok((Tiles { shards, cuts }, by_workers))
+}
+
+// Takes a tier through the levels of the present phase, until nothing of the phase is left in the tier or its child tiers. Returns the number of the workers'
+// deliveries too.
+fn finish_levels<G: Game + Send + Sync, R: Threads + Wait + Sync, T: Gate, S: Source, O: Observer>(
+    context: &SolveContext<R, T, S, O>,
+    tables: &Tables<G>,
+    tiles: Tiles<G>,
+) -> Result<(Tiles<G>, Last<G>, u64), SolveError>
+    requires held { AreHeld G.rules tables.now tiles.shards.a.tier }
+    ensures later { IfOk result (λ done. IsLaterPlace (place_of tiles.shards.a) (place_of done.0.shards.a)) }
+    ensures last { IfOk result (λ done. done.1 ≡ place_of done.0.shards.a) }
+    ensures error { IfErr result (IsError G.rules tiles.shards.a.tier) }
+{
+    let mut tiles = tiles;
+    let mut by_workers = 0u64;
+    loop {
+        let runs = fresh(context.alloc, &tiles)?;
+        let (level, last) = next_level(context.alloc, tables, &tiles, &runs)?;
+        if let Some(last) = last {
+            return Ok((tiles, last, by_workers));
+        }
+        let (next, more) = run_level(context, tiles, &level)?;
+        by_workers = by_workers.saturating_add(more);
+        tiles = next;
+    }
+}
+
+/// Solves a tier level by level, by passes.
+pub(crate) fn solve_by_passes<
+    G: Game + Send + Sync,
+    R: Threads + Wait + Sync,
+    T: Gate,
+    S: Source,
+    O: Observer,
+>(
+    context: &SolveContext<R, T, S, O>,
+    tier: u64,
+    tables: &Tables<G>,
+) -> Result<(Table<G>, Report), SolveError>
+    requires held { AreHeld G.rules tables.now tier }
+    requires small { G.rules.tier_size tier ≤ TIER_SIZE }
+    ensures tier { IfOk result (λ answer. answer.0.tier ≡ tier) }
+    ensures table { IfOk result (λ answer. IsTable G.rules answer.0) }
+    ensures deliveries { IfOk result (λ answer. AreDeliveries G.rules tier answer.1.deliveries) }
+    ensures by_hand { IfOk result (λ answer. answer.1.by_hand ≤ answer.1.deliveries) }
+    ensures near { OnOk result (IsTooFar G.rules tier → ⊥) }
+    ensures error { IfErr result (IsError G.rules tier) }
+{
+    let tiles = context.begin::<G>(tier)?;
+    let (mut tiles, last, wins) = finish_levels(context, tables, tiles)?;
+    tiles.next_phase(&last);
+    let (tiles, last, ties) = finish_levels(context, tables, tiles)?;
+    let number = tiles.number();
+    let records = tiles.finish(context.rt, context.alloc, &last, context.plan.workers())?;
+    let (table, deliveries) = table_of(tier, tables, &last, records, number);
+    let report = Report {
+        deliveries,
+        by_hand: deliveries.saturating_sub(wins.saturating_add(ties)),
+    };
+    Ok((table, report))
 }

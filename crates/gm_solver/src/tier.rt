@@ -1,43 +1,23 @@
 //! A tier solved by workers.
 ghost use Rattle.std.specs.Prelude.{◌≡◌, ◌≤◌, ℕ, IfOk, IfErr, OnOk};
 ghost use Rattle.gm_solver.specs.Lower.{AreHeld, IsTable, IsTooFar, AreDeliveries};
-ghost use Rattle.gm_solver.specs.Solving.{IsError};
+ghost use Rattle.gm_backward.specs.Solving.{IsError};
 
-use crate::context::{Schedule, SolveContext};
-use crate::error::SolveError;
-use crate::gate::Gate;
-use crate::observer::NoObserver;
-use crate::plan::Plan;
-use crate::source::Source;
+use crate::passes::solve_by_passes;
+use gm_backward::context::SolveContext;
+use gm_backward::error::SolveError;
+use gm_backward::gate::Gate;
+use gm_backward::plan::Plan;
+pub use gm_backward::report::Report;
+use gm_backward::source::Source;
 use gm_game::game::Game;
 use gm_game::limits::TIER_SIZE;
+use gm_immediate::observer::NoObserver;
 use gm_table::table::Table;
 use gm_table::tables::Tables;
 use std::alloc::Global;
 use std::sync::Wait;
 use std::thread::Threads;
-
-/// The cost of a solved tier.
-#[derive(Clone, Copy, Debug, PartialEq, Eq)]
-pub struct Report {
-    /// The number of deliveries. It depends on the tier only.
-    pub deliveries: u64,
-    /// The number of deliveries that the coordinator made itself.
-    pub by_hand: u64,
-}
-
-impl Report {
-    /// Returns the report of a tier that no worker solved.
-    pub(crate) fn of_one_pass(deliveries: u64) -> Self
-        ensures deliveries { result.deliveries ≡ deliveries }
-        ensures by_hand { result.by_hand ≡ 0 }
-    {
-        Report {
-            deliveries,
-            by_hand: 0,
-        }
-    }
-}
 
 /// Solves a tier by workers. Returns its true table and a report. Neither the table nor the number of deliveries depends on the plan, the gate or the source,
 /// or on the order in which threads take the locks.
@@ -69,14 +49,12 @@ pub fn solve_tier<G: Game + Send + Sync, R: Threads + Wait + Sync, T: Gate, S: S
     let context = SolveContext {
         rt,
         alloc,
-        tables,
-        schedule: Schedule::Pieces,
         plan,
         gate,
         source,
         observer: &NoObserver,
     };
-    context.solve(tier)
+    context.solve(tier, tables)
 }
 
 /// Solves a tier as `solve_tier` does, but with one pass for each shard: at each level a worker takes the pass of a shard that the source names, and delivers
@@ -103,14 +81,12 @@ pub fn solve_passes<G: Game + Send + Sync, R: Threads + Wait + Sync, T: Gate, S:
     let context = SolveContext {
         rt,
         alloc,
-        tables,
-        schedule: Schedule::Passes,
         plan,
         gate,
         source,
         observer: &NoObserver,
     };
-    context.solve(tier)
+    solve_by_passes(&context, tier, tables)
 }
 
 /// Has no effect; its contract states that the number of deliveries of a tier depends on the game only: there is one such number.

@@ -1,28 +1,29 @@
 //! A desk with its pass in a slot, and the work at it.
 ghost use Rattle.std.specs.Prelude.{◌≡◌, ◌<◌, ◌≤◌, length, IfOk, IfErr, IsTrue};
 ghost use Rattle.gm_solver.specs.Lower.{IsWhole, spot_of, pairs_into, IsLevelAt, IsReadyFor};
-ghost use Rattle.gm_solver.specs.Solving.{IsError};
+ghost use Rattle.gm_backward.specs.Solving.{IsError};
 
-use crate::error::SolveError;
-use crate::gate::Gate;
-use crate::in_order::deliver_rest;
+use crate::pass::{Pass, PassDesk};
+use gm_backward::error::SolveError;
+use gm_backward::gate::Gate;
+use gm_backward::in_order::deliver_rest;
+use gm_counters::ordered::OrderedShard;
 use gm_frontier::level::Level;
 use gm_game::game::Game;
 use gm_game::limits::REMOTENESS;
-use gm_locks::pass::{Pass, PassDesk, PassLedger};
-use gm_shard::ordered::OrderedShard;
+use gm_locks::share::LevelLedger;
 use std::marker::{Model, PhantomData};
 use std::sync::ledger::Blank;
 use std::sync::{Mutex, Wait};
 
 /// The number of a level's pairs into a desk's range, as a walk found it.
 #[derive(Drop)]
-pub(crate) struct PairCount<G: Game, L: PassLedger> {
+pub(crate) struct PairCount<G: Game, L: LevelLedger> {
     number: u64,
     of: PhantomData<(G, L)>,
 }
 
-impl<G: Game, L: PassLedger> Model for PairCount<G, L> {
+impl<G: Game, L: LevelLedger> Model for PairCount<G, L> {
     ghost use Rattle.std.specs.Prelude.{◌≡◌, ℕ, length};
     ghost use Rattle.gm_locks.specs.Rounds.{pairs_into};
 
@@ -33,7 +34,7 @@ impl<G: Game, L: PassLedger> Model for PairCount<G, L> {
     ghost invariant = { λ f. f.number ≡ length (pairs_into G.rules L.spot L.notes) };
 }
 
-impl<G: Game, L: PassLedger> PairCount<G, L> {
+impl<G: Game, L: LevelLedger> PairCount<G, L> {
     fn new(number: u64) -> PairCount<G, L>
         requires { number ≡ length (pairs_into G.rules L.spot L.notes) }
     {
@@ -52,14 +53,14 @@ impl<G: Game, L: PassLedger> PairCount<G, L> {
 
 /// The pass of a desk, unless a worker has it, and the number that a walk found.
 #[derive(Drop)]
-struct PassSlot<G: Game, L: PassLedger> {
+struct PassSlot<G: Game, L: LevelLedger> {
     pass: Option<Pass<L>>,
     found: Option<PairCount<G, L>>,
 }
 
 /// A desk with its pass in a slot, the level whose pairs are delivered, and how many pairs the shard had before.
 #[derive(Drop)]
-pub(crate) struct Workplace<'a, G: Game, L: PassLedger> {
+pub(crate) struct Workplace<'a, G: Game, L: LevelLedger> {
     desk: PassDesk<G, L>,
     slot: Mutex<PassSlot<G, L>>,
     level: &'a Level<'a, G>,
@@ -68,7 +69,7 @@ pub(crate) struct Workplace<'a, G: Game, L: PassLedger> {
     ghost before_is: { before ≡ L.base },
 }
 
-impl<'a, G: Game, L: PassLedger> Workplace<'a, G, L> {
+impl<'a, G: Game, L: LevelLedger> Workplace<'a, G, L> {
     /// Puts a shard under the lock of a desk, and its pass into the slot.
     pub(crate) fn around(
         blank: Blank,
@@ -150,7 +151,7 @@ impl<'a, G: Game, L: PassLedger> Workplace<'a, G, L> {
 }
 
 // Returns whether a walk found as many pairs.
-fn is_full<G: Game, L: PassLedger>(found: &Option<PairCount<G, L>>, number: u64) -> bool
+fn is_full<G: Game, L: LevelLedger>(found: &Option<PairCount<G, L>>, number: u64) -> bool
     ensures { IsTrue result → number ≡ length (pairs_into G.rules L.spot L.notes) }
 {
     match found {

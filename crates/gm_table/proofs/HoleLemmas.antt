@@ -1,4 +1,5 @@
 -- What indexes without a record leave unchanged.
+use Rattle.gm_table.specs.declared.number.TheConstants.{STEP}
 use Rattle.gm_table.proofs.Lower.{◌≡◌, ℕ, zero, suc, ◌+◌, ◌/◌, ◌<◌, ◌≤◌, List, [], ◌∷◌, Option, None, map, take, length, slice_get, IfSome, refl, sym, ap, ◌∙◌}
 use Rattle.gm_table.proofs.Lower.{arith, inl, inr, eq-eqb, cases_lt, Solved, Phase, record_at, wide, unpacked, indexes_at, greatest_of}
 use Rattle.gm_table.proofs.Lower.{Bool, true, replicate, subst, ◌++◌, ◌-◌, eqb, length-append, take_all, drop, length-drop, starts_with, starts_is, Decides-eqb}
@@ -6,7 +7,7 @@ use Rattle.gm_table.proofs.LevelLemmas.{greatest_without}
 use Rattle.gm_table.proofs.RunLemmas.{indexes_with}
 
 -- a short form of no record is that of a number of no record
-pub wide_holes : (shorts : List ℕ) (k : ℕ) → IfSome (slice_get shorts k) (λ short. short < 32) → IfSome (slice_get (map wide shorts) k) (λ number. number < 1048576)
+pub wide_holes : (shorts : List ℕ) (k : ℕ) → IfSome (slice_get shorts k) (λ short. short < 32) → IfSome (slice_get (map wide shorts) k) (λ number. number < STEP)
 wide_holes [] k h = h
 wide_holes (x ∷ xs) zero h = omega arith
 wide_holes (x ∷ xs) (suc k) h = wide_holes xs k h
@@ -40,9 +41,9 @@ eight_holes shorts i zeros inside is true_ =
     )
 
 -- a number of no record
-pub unpacked_holes : (numbers : List ℕ) (k : ℕ) → IfSome (slice_get numbers k) (λ number. number < 1048576) → record_at (map unpacked numbers) k ≡ None
+pub unpacked_holes : (numbers : List ℕ) (k : ℕ) → IfSome (slice_get numbers k) (λ number. number < STEP) → record_at (map unpacked numbers) k ≡ None
 unpacked_holes [] k h = refl
-unpacked_holes (n ∷ ns) zero h = rw (eq-eqb (n / 1048576) 0 (omega arith)) refl
+unpacked_holes (n ∷ ns) zero h = rw (eq-eqb (n / STEP) 0 (omega arith)) refl
 unpacked_holes (n ∷ ns) (suc k) h = unpacked_holes ns k h
 
 -- all indexes from one up to another have no record

@@ -1,6 +1,7 @@
 pub mod CacheLemmas
 pub mod CheckLemmas
 pub mod Dealt
+pub mod Distinct
 pub mod LevelLemmas
 pub mod HoleLemmas
 pub mod PlaceLemmas

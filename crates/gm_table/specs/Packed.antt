@@ -1,14 +1,15 @@
 -- Records as numbers of 32 bits.
 use Rattle.std.specs.Prelude.{◌≡◌, ℕ, ◌/◌, ◌%◌, ◌==◌, ◌≤◌, if◌then◌else◌, List, Option, None, Some, IfSome, slice_get}
+use Rattle.gm_table.specs.declared.number.TheConstants.{STEP}
 use Rattle.gm_table.specs.Lower.{Value, Lose, Draw, Tie, Win, Solved, REMOTENESS, solved}
 
 -- the value with this code
 abbrev pub value_of : ℕ → Value
 value_of code = if code == 1 then Lose else if code == 2 then Draw else if code == 3 then Tie else Win
 
--- the record with this number, which is the code of its value times 1,048,576 plus its remoteness; numbers below 1,048,576 stand for no record
+-- the record with this number, which is the code of its value times STEP plus its remoteness; numbers below STEP stand for no record
 abbrev pub unpacked : ℕ → Option Solved
-unpacked number = if number / 1048576 == 0 then None else Some (solved (value_of (number / 1048576)) (number % 1048576))
+unpacked number = if number / STEP == 0 then None else Some (solved (value_of (number / STEP)) (number % STEP))
 
 -- a record is within the greatest remoteness
 abbrev pub IsNear : Option Solved → Type 0

@@ -5,6 +5,7 @@ use Rattle.gm_game.specs.declared.limits.TheConstants.{REMOTENESS}
 use Rattle.gm_game.specs.declared.position.Value.{Value}
 use Rattle.gm_game.specs.declared.position.Value.TheVariants.{Lose, Draw, Tie, Win}
 use Rattle.gm_game.specs.declared.position.Solved.{Solved}
+use Rattle.gm_table.specs.declared.number.TheConstants.{STEP}
 use Rattle.gm_table.specs.declared.version.TheConstants.{REMOTENESS_1}
 use Rattle.gm_table.specs.declared.version.Version.{Version}
 use Rattle.gm_table.specs.declared.version.Version.TheVariants.{One, Two}
@@ -22,7 +23,7 @@ width Two = 4
 -- how many numbers there are for each code
 abbrev pub step : Version → ℕ
 step One = 4096
-step Two = 1048576
+step Two = STEP
 
 -- the greatest remoteness of a record
 abbrev pub most : Version → ℕ

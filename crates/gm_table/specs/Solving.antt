@@ -1,6 +1,6 @@
 -- The duties of a solver of a tier.
-use Rattle.std.specs.Prelude.{ℕ, ◌+◌}
-use Rattle.gm_table.specs.Lower.{REMOTENESS, Position, Value, Draw, Rules, at, IsCanonical, IsParent, HasValue, AreThere}
+use Rattle.std.specs.Prelude.{◌≡◌, ℕ, ◌+◌, List, Option, Some, slice_get}
+use Rattle.gm_table.specs.Lower.{REMOTENESS, Position, Value, Draw, Solved, Rules, at, IsCanonical, IsParent, IsRecord, IsTrueValue, HasValue, AreThere}
 
 -- a pair of the tier whose child is no draw
 pub record IsDelivery (r : Rules) (tier : ℕ) (pair : Position × ℕ) : Type 0 where
@@ -17,3 +17,7 @@ pub record IsTooFar (r : Rules) (tier : ℕ) : Type 0 where
   pub canonical : IsCanonical r (at tier index)
   pub value : Value
   pub far : HasValue r (at tier index) value (REMOTENESS + 1)
+
+-- the true records of a range of a tier
+pub record ArePart (r : Rules) (tier lo : ℕ) (records : List (Option Solved)) : Type 0 where
+  pub each : (k : ℕ) (o : Option Solved) → slice_get records k ≡ Some o → IsRecord r REMOTENESS (IsTrueValue r) (at tier (lo + k)) o

@@ -1,13 +1,10 @@
 //! Numbers of records, which take a byte each if all of them have short forms, and four otherwise.
-ghost use Rattle.std.specs.Prelude.{◌≡◌, ℕ, ◌++◌, [], ◌∷◌, ◌<◌, ◌≤◌, ◌/◌, ◌%◌, IsTrue, ◌↔◌, Some, map, take, replicate, slice_get, get_or, length, IfOk, IfSome, OnOk, OnErr};
-ghost use Rattle.gm_table.specs.Numbers.{wide, IsShort};
+ghost use Rattle.std.specs.Prelude.{◌≡◌, ℕ, ◌++◌, [], ◌∷◌, ◌<◌, ◌≤◌, Some, map, take, replicate, slice_get, get_or, length, IfOk, IfSome, OnOk, OnErr};
+ghost use Rattle.gm_table.specs.Numbers.{wide};
 
-use crate::packed::STEP;
+use crate::number::{SHORT_STEP, STEP, is_short, narrowed, wide};
 use std::alloc::{AllocError, Global};
 use std::marker::Model;
-
-/// One more than the greatest remoteness of a record whose number has a short form.
-const SHORT_STEP: u32 = 32;
 
 /// Numbers of records, in their order. Contracts see the numbers.
 #[derive(Drop)]
@@ -167,7 +164,7 @@ impl Numbers {
         requires { from ≤ length self.now }
         ensures low { from ≤ result }
         ensures high { result ≤ length self.now }
-        ensures holes { (k : ℕ) → from ≤ k → k < result → IfSome (slice_get self.now k) (λ number. number < 1048576) }
+        ensures holes { (k : ℕ) → from ≤ k → k < result → IfSome (slice_get self.now k) (λ number. number < STEP) }
     {
         match &self.stored {
             Stored::Short(numbers) => next_record(numbers.as_slice(), from),
@@ -222,28 +219,6 @@ fn skip_eights(shorts: &[u8], from: usize) -> usize
         index += 8;
     }
     index
-}
-
-// Returns whether a number has a short form.
-fn is_short(number: u32) -> bool
-    ensures { IsTrue result ↔ IsShort number }
-{
-    number / STEP < 8 && number % STEP < SHORT_STEP
-}
-
-// Returns the short form of a number.
-fn narrowed(number: u32) -> u8
-    requires { IsShort number }
-    ensures { wide result ≡ number }
-{
-    (number / STEP * SHORT_STEP + number % STEP) as u8
-}
-
-// Returns the number with this short form.
-fn wide(short: u8) -> u32
-    ensures { result ≡ wide short }
-{
-    u32::from(short) / SHORT_STEP * STEP + u32::from(short) % SHORT_STEP
 }
 
 // Returns the numbers with these short forms.

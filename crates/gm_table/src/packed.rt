@@ -1,5 +1,5 @@
 //! Records of one byte or four each.
-ghost use Rattle.std.specs.Prelude.{◌≡◌, ◌≢◌, ℕ, ◌*◌, ◌≤◌, ◌<◌, ◌++◌, [], ◌∷◌, None, map, replicate, take, IfSome, IfOk, length, get_or, OnOk, OnErr};
+ghost use Rattle.std.specs.Prelude.{◌≡◌, ℕ, ◌*◌, ◌≤◌, ◌<◌, ◌++◌, [], ◌∷◌, None, map, replicate, take, IfSome, IfOk, length, get_or, OnOk, OnErr};
 ghost use Rattle.gm_table.specs.Lower.{REMOTENESS};
 ghost use Rattle.gm_table.specs.declared.version.Version.TheVariants.{Two};
 ghost use Rattle.gm_table.specs.RecordCodes.{record_number};
@@ -8,14 +8,11 @@ ghost use Rattle.gm_table.specs.Packed.{unpacked, IsNear, AreNear};
 ghost use Rattle.gm_table.specs.Tables.{record_at};
 ghost use Rattle.gm_table.specs.Shorts.{record_of_short};
 
-use crate::number::code_of;
+use crate::number::{number_of, stored, unpacked};
 use crate::numbers::Numbers;
-use gm_game::position::{Solved, Value};
+use gm_game::position::Solved;
 use std::alloc::{AllocError, Global};
 use std::marker::Model;
-
-/// One more than the greatest remoteness: a record's number is the code of its value times this, plus its remoteness.
-pub(crate) const STEP: u32 = 1_048_576;
 
 /// Records of a byte each, or of four if one has a remoteness above 31. Contracts see the records.
 #[derive(Drop)]
@@ -163,45 +160,4 @@ impl Packed {
             None => 0,
         }
     }
-}
-
-/// Returns the number of a record within the greatest remoteness: that of a tier file of version 2 (docs/FORMATS.md, "Tier file"). It is never 1.
-pub fn number_of(known: Option<Solved>) -> u32
-    requires { IsNear known }
-    ensures stored { result ≡ record_number Two known }
-    ensures number { unpacked result ≡ known }
-    ensures apart { result ≢ 1 }
-{
-    match known {
-        None => 0,
-        Some(solved) => code_of(solved.value) * STEP + solved.remoteness,
-    }
-}
-
-// Returns the number of the record with this number: that of no record, or of a win, has several.
-fn stored(number: u32) -> u32
-    ensures { result ≡ record_number Two (unpacked number) }
-{
-    match number / STEP {
-        0 => 0,
-        1 | 2 | 3 => number,
-        _ => 4 * STEP + number % STEP,
-    }
-}
-
-/// Returns the record with this number.
-pub fn unpacked(number: u32) -> Option<Solved>
-    ensures { result ≡ unpacked number }
-{
-    let value = match number / STEP {
-        0 => return None,
-        1 => Value::Lose,
-        2 => Value::Draw,
-        3 => Value::Tie,
-        _ => Value::Win,
-    };
-    Some(Solved {
-        value,
-        remoteness: number % STEP,
-    })
 }

@@ -3,10 +3,11 @@ ghost use Rattle.std.specs.Prelude.{◌≡◌, ◌≤◌, ◌<◌, ◌+◌, map,
 ghost use Rattle.gm_table.specs.Lower.{MOVES, filter, lost_in, won_in, tied_in, lesser, greater};
 ghost use Rattle.gm_table.specs.Shorts.{IsSummary, record_of_short, is_decided, marked_short};
 
+use crate::number::SHORT_STEP;
 use crate::summary::Summary;
 
 /// One more than the greatest remoteness of a short form. As a mark it stands for none.
-const NONE: u8 = 32;
+const NONE: u8 = SHORT_STEP as u8;
 
 // A fold over short forms: the least remoteness of a loss, the greatest of a win if all are wins, and the least of a tie, each of them `NONE` if there is no such
 // record; and the number of records that are not draws.

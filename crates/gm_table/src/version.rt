@@ -2,6 +2,8 @@
 ghost use Rattle.std.specs.Prelude.{◌≡◌, ◌<◌, ◌≤◌};
 ghost use Rattle.gm_table.specs.RecordCodes.{width, step as step_of};
 
+use crate::number::STEP;
+
 /// The greatest remoteness of a record in a file of version 1.
 pub const REMOTENESS_1: u32 = 4095;
 
@@ -31,11 +33,11 @@ impl Version {
     pub fn step(self) -> u32
         ensures value { result ≡ step_of self }
         ensures some { 0 < result }
-        ensures few { result ≤ 1048576 }
+        ensures few { result ≤ STEP }
     {
         match self {
             Version::One => 1 << 12,
-            Version::Two => 1 << 20,
+            Version::Two => STEP,
         }
     }
 }

@@ -2,7 +2,7 @@
 use Rattle.std.specs.Prelude.{◌≡◌, length}
 use Rattle.gm_game.specs.Rules.{Rules}
 use Rattle.gm_frontier.specs.Counts.{ExpectedData}
-use Rattle.gm_shard.specs.State.{ShardState}
+use Rattle.gm_counters.specs.State.{ShardState}
 
 -- the shard has every index of its tier
 pub record IsOfTier (r : Rules) (s : ShardState) : Type 0 where

@@ -10,7 +10,7 @@ use byteorder::{ByteOrder, LittleEndian};
 use gm_game::game::Game;
 use gm_game::limits::TIER_SIZE;
 use gm_game::position::{Phase, Solved};
-use gm_table::number::number_of;
+use gm_table::number::number_in;
 use gm_table::table::Table;
 use gm_table::version::{REMOTENESS_1, Version};
 use sha2::{Digest, Sha256};
@@ -132,7 +132,7 @@ fn push_record<G: Game>(
 {
     match version {
         Version::One => {
-            let number = number_of(Version::One, table.at(index));
+            let number = number_in(Version::One, table.at(index));
             file.extend_from_slice(&(number as u16).to_le_bytes())
         }
         Version::Two => file.extend_from_slice(&table.number(index).to_le_bytes()),

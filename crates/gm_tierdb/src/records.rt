@@ -4,7 +4,7 @@ ghost use Rattle.gm_game.specs.declared.position.Solved.{Solved as SolvedSpec};
 ghost use Rattle.gm_tierdb.specs.Lower.{to_le_bytes, word, width, IsSync};
 ghost use Rattle.gm_tierdb.specs.Refusals.{IsFirstBad, AreRead};
 
-use gm_table::number::record_of;
+use gm_table::number::record_in;
 use gm_table::packed::Packed;
 use gm_table::version::Version;
 use std::alloc::Global;
@@ -88,7 +88,7 @@ pub(crate) fn read_records(
     let mut rest = bytes;
     for index in 0..size {
         let (record, more) = rest.split_at(version.record_len());
-        match record_of(version, number_at(version, record)) {
+        match record_in(version, number_at(version, record)) {
             None => return Err(index as u64),
             Some(found) => match records.push(found) {
                 Ok(()) => rest = more,
@@ -108,7 +108,7 @@ fn without_memory(version: Version, bytes: &[u8], size: usize) -> Result<Option<
     let mut rest = bytes;
     for index in 0..size {
         let (record, more) = rest.split_at(version.record_len());
-        match record_of(version, number_at(version, record)) {
+        match record_in(version, number_at(version, record)) {
             None => return Err(index as u64),
             Some(_found) => rest = more,
         }

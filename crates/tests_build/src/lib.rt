@@ -7,5 +7,6 @@
 mod builds;
 #[cfg(test)]
 mod expect;
+pub mod paths;
 #[cfg(test)]
 mod solver;

@@ -2,6 +2,7 @@
 mod boards;
 mod levels;
 mod parts;
+mod piece_boards;
 mod records;
 mod shards;
 mod workers;

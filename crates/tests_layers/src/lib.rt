@@ -8,5 +8,6 @@ mod countdowns;
 mod expect;
 #[cfg(test)]
 mod files;
+pub mod paths;
 #[cfg(test)]
 mod rules;

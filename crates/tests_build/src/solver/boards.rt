@@ -1,19 +1,20 @@
 //! Boards of four shards, used as by callers with workers of their own: by hand, and from two threads.
 ghost use Rattle.std.specs.Prelude.{◌≡◌, ◌<◌};
-ghost use Rattle.gm_locks.specs.Spots.{spot_of, AreFourTiles};
-ghost use Rattle.gm_shard.specs.Delivery.{IsPlaceOf};
+ghost use Rattle.gm_locks.specs.Spots.{spot_of};
+ghost use Rattle.gm_solver.specs.Boards.{AreFourTiles};
+ghost use Rattle.gm_shard.specs.Masks.{IsPlaceOf};
 
 use crate::expect::{Runtime, expect_eq, must};
 use crate::solver::shards::first_note;
 use gm_frontier::note::Note;
 use gm_game::game::Game;
 use gm_game::limits::TIER_SIZE;
-use gm_locks::board::{Board, Four, Shares};
-use gm_locks::share::{ShardLedger, gained};
 use gm_shard::place::place_of;
 use gm_shard::shard::Shard;
 use gm_shard::status::{Delivery, Refused};
+use gm_solver::held::gained;
 use gm_solver::starts::begin_range;
+use gm_solver::{Board, Four, ShardLedger, Shares};
 use gm_testing::hosts::Shared;
 use gm_toys::countdown::Countdown;
 use std::marker::Brand;
@@ -46,15 +47,15 @@ type Step = (Deed, usize, (u64, u64));
 // A note and a parent, with the place of the note's position among the parent's children.
 type Pair<'a, G> = (&'a Note<G>, u64, Option<u32>);
 
-// Two threads' marks: the counter is read, and the result of the delivery came.
+/// Two threads' marks: the counter is read, and the result of the delivery came.
 #[derive(Drop)]
-struct Marks {
-    read: Mutex<bool>,
-    answered: Mutex<bool>,
+pub(crate) struct Marks {
+    pub read: Mutex<bool>,
+    pub answered: Mutex<bool>,
 }
 
-// Waits for the other thread's mark, for at most a million turns. Returns whether it came.
-fn comes<R: Wait>(rt: &R, mark: &Mutex<bool>) -> bool {
+/// Waits for the other thread's mark, for at most a million turns. Returns whether it came.
+pub(crate) fn comes<R: Wait>(rt: &R, mark: &Mutex<bool>) -> bool {
     for _ in 0..1_000_000 {
         if *mark.lock(rt) {
             return true;

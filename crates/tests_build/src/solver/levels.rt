@@ -4,7 +4,7 @@ ghost use Rattle.gm_game.specs.declared.position.Phase.TheVariants.{WinLose};
 ghost use Rattle.gm_table.specs.Tables.{AreHeld};
 ghost use Rattle.gm_frontier.specs.Levels.{place_at, AreTiles};
 ghost use Rattle.gm_frontier.specs.Tallies.{IsTile};
-ghost use Rattle.gm_shard.specs.Steps.{place_of};
+ghost use Rattle.gm_counters.specs.Steps.{place_of};
 
 use crate::expect::{Runtime, expect, expect_eq, must};
 use crate::solver::records::{Known, below_the_last_stair, record};

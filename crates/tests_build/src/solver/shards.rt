@@ -2,11 +2,12 @@
 ghost use Rattle.std.specs.Prelude.{◌≡◌, ◌≤◌, ◌-◌, ◌<◌, IfOk};
 ghost use Rattle.gm_game.specs.declared.position.Phase.TheVariants.{Ties};
 ghost use Rattle.gm_table.specs.Tables.{AreHeld};
-ghost use Rattle.gm_shard.specs.Begin.{first_state};
+ghost use Rattle.gm_counters.specs.Begin.{first_state};
 ghost use Rattle.gm_testing.specs.ByHand.{IsOfTier};
-ghost use Rattle.gm_shard.specs.State.{pairs_in};
+ghost use Rattle.gm_counters.specs.State.{pairs_in};
 ghost use Rattle.gm_locks.specs.Spots.{spot_of};
-ghost use Rattle.gm_locks.specs.Rounds.{place_of_spot, HasNoneHere, IsForSpot, IsLevelAt};
+ghost use Rattle.gm_locks.specs.Rounds.{place_of_spot, HasNoneHere, IsLevelAt};
+ghost use Rattle.gm_solver.specs.Desks.{IsForSpot};
 
 use crate::expect::{Runtime, expect, expect_eq, must};
 use crate::solver::records::{Known, record};
@@ -16,13 +17,14 @@ use gm_frontier::note::Note;
 use gm_game::game::Game;
 use gm_game::limits::{REMOTENESS, TIER_SIZE};
 use gm_game::position::{Solved, Value};
-use gm_locks::pass::{Pass, PassDesk, PassLedger};
 use gm_shard::event::Event;
 use gm_shard::ordered::OrderedShard;
 use gm_shard::replay::replay;
 use gm_shard::shard::Shard;
-use gm_shard::status::{Delivery, Refused, Short, Status};
+use gm_shard::short::Short;
+use gm_shard::status::{Delivery, Refused, Status};
 use gm_solver::starts::starts;
+use gm_solver::{LevelLedger, Pass, PassDesk};
 use gm_table::packed::Packed;
 use gm_table::tables::Tables;
 use gm_testing::by_hand::{at_ties, begin_counted, begin_whole, finish_phase, last_of};
@@ -232,7 +234,7 @@ type Told = (Result<Delivery, Refused>, u64, bool);
 
 // Delivers the level's pairs into the desk's range, each as the next one of the pass. Returns whether these are the results, and
 // there are no more pairs.
-fn answers<G: Game, L: PassLedger, R: Wait>(
+fn answers<G: Game, L: LevelLedger, R: Wait>(
     rt: &R,
     desk: &PassDesk<G, L>,
     level: &Level<G>,
@@ -257,7 +259,7 @@ fn answers<G: Game, L: PassLedger, R: Wait>(
 
 // Delivers at a desk of this name round a shard. The pass is full at the end, and at once if nothing is to be delivered. Then the
 // shard has this many pairs, and closes.
-fn pass_named<G: Game, L: PassLedger, R: Wait + Abort>(
+fn pass_named<G: Game, L: LevelLedger, R: Wait + Abort>(
     rt: &R,
     blank: Blank,
     shard: OrderedShard<G>,

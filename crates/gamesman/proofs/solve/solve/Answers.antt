@@ -1,4 +1,4 @@
-use Rattle.gamesman.proofs.Lower.{None, inr, refl, sym, ◌∙◌, err_from_is_err_and, IsUnsearched, IsReport}
+use Rattle.gamesman.proofs.Lower.{None, inr, refl, sym, subst, ◌∙◌, err_from_is_err_and, Position, IsOrderFrom, IsUnbuilt, IsUnsearched, IsReport}
 use Rattle.gamesman.proofs.Telling.{unbuilt_told, put_told}
 use Rattle.gamesman.proofs.solve.solve.Goals as goal
 
@@ -6,7 +6,7 @@ pub returns-in_err-built : goal.returns-in_err-built
 returns-in_err-built g c =
     let r = g.G.Game.rules in
     let q = err_from_is_err_and c.from_residual.result c.from_residual.ensures.1 in
-    let is = c.in_err-built.ensures.unbuilt in
+    let is = subst (λ (p : Position). IsUnbuilt r p.tier c.in_err-built.field-0.0) c.initial.ensures c.in_err-built.ensures.unbuilt in
     rw (q.1, q.2) (unbuilt_told (IsReport r) _ (IsUnsearched r None) c.in_err-built.field-0.0 (inr is) r r.initial.tier is)
 
 pub returns-in_err-line : goal.returns-in_err-line
@@ -21,7 +21,7 @@ returns g c =
     let built = c.in_ok-built.built in
     let is : IsReport r c.as_slice.result.now = record {
       tiers = built.order;
-      order = c.in_ok-built.ensures.order;
+      order = subst (λ (p : Position). IsOrderFrom r p.tier built.order) c.initial.ensures c.in_ok-built.ensures.order;
       work = built.work;
       some_work = c.in_ok-built.ensures.work;
       text = c.as_slice.ensures.value ∙ c.in_ok-line.ensures;

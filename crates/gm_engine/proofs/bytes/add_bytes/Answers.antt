@@ -13,5 +13,5 @@ loop-index-preserved g c =
       more ++ c.in-Some.byte ∷ [],
       append_one c.args.bytes.now.items more c.loop-index.bytes.items c.push.new.self.items c.in-Some.byte is pushed,
       record_more c.args.table.now.records more c.loop-index.index c.in-Some.byte within same
-          (ap unpacked c.in-Some.ensures.byte ∙ c.number_of.ensures.number ∙ c.at.ensures.value),
+          (ap unpacked c.in-Some.ensures.short ∙ c.number_of.ensures.number ∙ c.at.ensures.value),
     )

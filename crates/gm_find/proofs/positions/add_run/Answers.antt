@@ -1,21 +1,32 @@
-use Rattle.gm_find.proofs.Lower.{◌∷◌, [], ℕ, List, map, take, get_or, ap, sym, subst, arith, ◌∙◌, is_some, take_more, take_all, map-append, Position, at, Adds}
+use Rattle.gm_find.proofs.Lower.{◌<◌, ◌∷◌, [], ℕ, List, map, take, length, get_or, ap, sym, subst, arith, ◌∙◌, is_some, take_more, take_all, map-append, Position, at, Adds}
 use Rattle.gm_find.proofs.Lower.{IsMatch, take-map}
-use Rattle.gm_find.proofs.ListLemmas.{adds_more, adds_full}
+use Rattle.gm_find.proofs.ListLemmas.{adds_more, adds_full, adds_none, adds_one}
+use Rattle.gm_find.proofs.positions.add_run.Goals.{then-is_sought+in_ok-push, else-is_sought}
 use Rattle.gm_find.proofs.positions.add_run.Goals as goal
 
 pub loop-i-preserved : goal.loop-i-preserved
 loop-i-preserved g c =
     let P : Position → Type 0 = IsMatch g.G.Game.rules c.args.search.now.sought (is_some c.args.search.now.reached) in
     let f : ℕ → Position = at c.args.tier in
+    let limit = c.args.search.now.limit in
+    let old = c.args.found.now.items in
     let cur = c.loop-i.found.items in
-    let new = c.add_position.new.found.items in
+    let new = c.if-is_sought.found.items in
     let run = c.args.run.now in
     let k = c.loop-i.i-index in
     let i = get_or run k 0 in
-    let here = subst (λ (j : ℕ). Adds P c.args.search.now.limit (f j ∷ []) cur new) c.from-index.ensures c.in_ok-add_position.ensures in
-    subst (λ (xs : List Position). Adds P c.args.search.now.limit xs c.args.found.now.items new)
+    let p = f c.from.result in
+    let below : length cur < limit = grind (arith, c.len.ensures, c.if-search-len.false) in
+    let one : Adds P limit (p ∷ []) cur new = elim c.if-is_sought.branch [
+      | then-is_sought+in_ok-push w ↦
+          rw w.found-is (adds_one P limit cur w.push.new.self.items p below (c.is_sought.ensures.0 w.if-is_sought.true) w.in_ok-push.ensures.items)
+      | else-is_sought w ↦
+          rw w.found-is (adds_none P limit cur p (λ m. let t = c.is_sought.ensures.1 m in let f = w.if-is_sought.false in cc))
+    ] in
+    let here = subst (λ (j : ℕ). Adds P limit (f j ∷ []) cur new) c.from.ensures one in
+    subst (λ (xs : List Position). Adds P limit xs old new)
     (sym (ap (map f) (take_more run k 0 c.loop-i-test.true) ∙ map-append f (take k run) (i ∷ [])))
-    (adds_more P c.args.search.now.limit c.args.found.now.items cur new (map f (take k run)) (f i ∷ []) c.loop-i.invariant here)
+    (adds_more P limit old cur new (map f (take k run)) (f i ∷ []) c.loop-i.invariant here)
 
 pub returns : goal.returns
 returns g c =

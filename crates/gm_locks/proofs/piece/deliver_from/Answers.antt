@@ -7,11 +7,11 @@ use Rattle.gm_locks.proofs.piece.deliver_from.Goals.{After-index-pairs-k}
 use Rattle.gm_locks.proofs.piece.deliver_from.Goals as goal
 
 -- the pair of an iteration is the shard's next one of the piece
-next : (g : Over) (c : After-index-pairs-k g) → IsNext g.G.Game.rules g.L.ShardLedger.spot (piece_of c.args.piece g.L.PieceLedger.size g.L.PassLedger.notes)
+next : (g : Over) (c : After-index-pairs-k g) → IsNext g.G.Game.rules g.L.ShardLedger.spot (piece_of c.args.piece g.L.PieceLedger.size g.L.LevelLedger.notes)
     c.loop-k.shard c.loop-k.k c.index-pairs-k.result
 next g c = record {
   lawful = g.met.G.Game.lawful;
-  here = of_piece g.G.Game.rules g.met.G.Game.lawful g.L.ShardLedger.spot g.L.PassLedger.notes c.requires.level c.args.piece g.L.PieceLedger.size;
+  here = of_piece g.G.Game.rules g.met.G.Game.lawful g.L.ShardLedger.spot g.L.LevelLedger.notes c.requires.level c.args.piece g.L.PieceLedger.size;
   at = c.loop-k.invariant.spot;
   there = subst (λ (ps : List (NoteData × ℕ)). slice_get ps c.loop-k.k ≡ Some c.index-pairs-k.result) c.requires.pairs
       (listed_at c.args.pairs.now c.loop-k.k _ c.index-pairs-k.result (let few = c.requires.within in omega arith) c.index-pairs-k.is refl);
@@ -42,6 +42,6 @@ loop-k-preserved g c =
       order = omega arith;
       spot = stays g.G.Game.rules x.0 x.1 c.loop-k.shard c.deliver_new.new.self c.deliver_new.result d ∙ h.spot;
       first = taken.1;
-      run = run_next g.G.Game.rules (piece_pairs g.G.Game.rules g.L.ShardLedger.spot g.L.PassLedger.notes g.L.PieceLedger.size c.args.piece) c.args.from
+      run = run_next g.G.Game.rules (piece_pairs g.G.Game.rules g.L.ShardLedger.spot g.L.LevelLedger.notes g.L.PieceLedger.size c.args.piece) c.args.from
           c.loop-k.k x c.args.shard.now c.loop-k.shard c.deliver_new.new.self c.deliver_new.result h.order is.there h.run d taken.0;
     }

@@ -1,4 +1,4 @@
-use Rattle.gm_build.proofs.Lower.{inl, Result, Ok, Err, OnErr, subst, IsOfTier, IsFoundIn}
+use Rattle.gm_build.proofs.Lower.{inl, rules, Result, Ok, Err, OnErr, subst, IsOfTier, IsFoundIn}
 use Rattle.gm_build.proofs.StoreLemmas.{may_have_text, text_kept}
 use Rattle.gm_build.proofs.tier.Builder.build_tier.Goals as goal
 
@@ -31,5 +31,5 @@ pub returns-in_err-ahead-in-Ok-Nothing-clause-here : goal.returns-in_err-ahead-i
 returns-in_err-ahead-in-Ok-Nothing-clause-here g c keeps =
     on_err c.from_residual-in_err-ahead-in-Ok-Nothing.result _
     (may_have_text g.G.Game.rules (g.S.Store.texts c.args.store.now) (g.S.Store.texts c.load_tier.new.store) (g.S.Store.texts c.keep-in-Ok-Nothing.new.store)
-    c.in_ok-table-in-Ok-Nothing.table.tier c.args.tier c.in_ok-table-in-Ok-Nothing.ensures.tier
+    c.match-solved_of.table.0.tier c.args.tier (search rules)
     (c.in-Ok-Nothing.ensures.same (g.S.Store.kept_is_read keeps)) (c.in_err-ahead-in-Ok-Nothing.ensures.here keeps))

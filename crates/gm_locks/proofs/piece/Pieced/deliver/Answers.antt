@@ -15,7 +15,7 @@ new g c = record {
 }
 
 turn : (g : Over) (c : After-range-after g) (answer : Result (Unit {0}) Refused) → (IsOk answer → c.max-end.result ≤ c.deliver_from-next.result)
-    → IsTurnAt g.G.Game.rules g.L.ShardLedger.spot g.L.PassLedger.notes g.L.PieceLedger.size g.L.PassLedger.base c.args.piece c.args.to
+    → IsTurnAt g.G.Game.rules g.L.ShardLedger.spot g.L.LevelLedger.notes g.L.PieceLedger.size g.L.LevelLedger.base c.args.piece c.args.to
     (c.deliver_from-next.result - c.index-from.result.now) answer c.args.self.now (new g c)
 turn g c answer done =
     let next = c.deliver_from-next in

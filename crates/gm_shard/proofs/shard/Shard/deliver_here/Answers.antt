@@ -1,6 +1,5 @@
 use Rattle.gm_shard.proofs.Lower.{◌≡◌, ℕ, ◌-◌, get_or, subst, sym, arith, Some, set, ShardState, IsInRange, IsPairHere, IsPlaceOf}
-use Rattle.gm_shard.proofs.StepLemmas.{out_repeat, pair_here}
-use Rattle.gm_shard.proofs.MaskedLemmas.{Tells, in_told, added_is, tells_more}
+use Rattle.gm_shard.proofs.MaskedLemmas.{out_repeat, pair_here, Tells, in_told, added_is, tells_more}
 use Rattle.gm_shard.proofs.shard.Shard.deliver_here.Goals as goal
 
 pub returns-then-has_pair : goal.returns-then-has_pair

@@ -1,0 +1,9 @@
+pub mod BlockLemmas
+pub mod Far
+pub mod Final
+pub mod FinishLemmas
+pub mod InOrderLemmas
+pub mod RoundLemmas
+pub mod SplitLemmas
+pub mod TilingLemmas
+pub mod Lower

@@ -1,0 +1,15 @@
+-- What the solver answers of a tier.
+use Rattle.std.specs.Prelude.{◌≡◌, ℕ}
+use Rattle.gm_backward.specs.Lower.{Rules, IsTooFar}
+use Rattle.gm_backward.specs.declared.error.SolveError.{SolveError}
+use Rattle.gm_backward.specs.declared.error.SolveError.TheVariants.{OutOfMemory, TooFar}
+
+-- the tier can't be solved for this reason
+abbrev pub IsError : Rules → ℕ → SolveError → Type 0
+IsError r tier OutOfMemory = Unit {0}
+IsError r tier (TooFar t) = (t ≡ tier) × IsTooFar r tier
+
+-- the numbers of the errors
+abbrev pub number_of : SolveError → ℕ
+number_of OutOfMemory = 1
+number_of (TooFar t) = 2

@@ -1,0 +1,23 @@
+//! A level that workers share in pieces.
+ghost use Rattle.std.specs.Prelude.{◌≡◌, ◌<◌, ◌≤◌};
+ghost use Rattle.gm_backward.specs.Cuts.{AreCuts};
+
+use crate::cuts::Cuts;
+use crate::error::SolveError;
+use gm_counters::ordered::OrderedShard;
+use gm_frontier::level::Level;
+use gm_game::game::Game;
+use gm_locks::four::Four;
+
+/// A level, the number of notes in a piece of it, and the cuts of its tier.
+#[derive(Drop)]
+pub struct LevelJob<'a, G: Game> {
+    pub level: &'a Level<'a, G>,
+    pub notes: usize,
+    pub cuts: Cuts,
+    ghost some: { 0 < notes },
+    ghost cuts_are: { AreCuts G.rules level.now.place.tier cuts },
+}
+
+/// The shards at the end of a level, after the workers and the coordinator, and the number of pairs that the workers delivered.
+pub type LevelEnd<G> = Result<(Four<OrderedShard<G>>, u64), SolveError>;

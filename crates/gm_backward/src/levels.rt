@@ -1,0 +1,86 @@
+//! The levels of both phases of a tier.
+ghost use Rattle.std.specs.Prelude.{◌≡◌, ◌≤◌, IfSome, IfNone, IfOk, IfErr};
+ghost use Rattle.gm_backward.specs.Lower.{Ties, IsNumberBefore, AreTiles, IsTooFar, IsTrueTable, AreDeliveries, AreHeld, IsTable, place_of};
+ghost use Rattle.gm_backward.specs.Solving.{IsError};
+ghost use Rattle.gm_backward.specs.Tiling.{IsFreshRun};
+
+use crate::error::SolveError;
+use crate::tiles::Tiles;
+use gm_counters::ordered::OrderedShard;
+use gm_frontier::last::Last;
+use gm_frontier::level::Level;
+use gm_frontier::run::Run;
+use gm_game::game::Game;
+use gm_game::limits::{REMOTENESS, TIER_SIZE};
+use gm_table::packed::Packed;
+use gm_table::table::Table;
+use gm_table::tables::Tables;
+use std::alloc::{AllocError, Global};
+
+// Returns the positions of the present place in two shards.
+fn fresh_of_two<G: Game>(
+    alloc: Global,
+    one: &OrderedShard<G>,
+    two: &OrderedShard<G>,
+) -> Result<(Run<G>, Run<G>), AllocError>
+    ensures one { IfOk result (λ runs. IsFreshRun one.now runs.0) }
+    ensures two { IfOk result (λ runs. IsFreshRun two.now runs.1) }
+{
+    Ok((one.fresh(alloc)?, two.fresh(alloc)?))
+}
+
+/// Returns the positions of the present place, shard after shard.
+pub fn fresh<G: Game>(alloc: Global, tiles: &Tiles<G>) -> Result<[Run<G>; 4], AllocError>
+    ensures { IfOk result (λ runs. AreTiles (place_of tiles.now.shards.a) 0 (G.rules.tier_size tiles.now.shards.a.tier) runs) }
+{
+    let (a, b) = fresh_of_two(alloc, &tiles.shards.a, &tiles.shards.b)?;
+    let (c, d) = fresh_of_two(alloc, &tiles.shards.c, &tiles.shards.d)?;
+    Ok([a, b, c, d])
+}
+
+/// Returns the present level of a tier, whose positions at its place are given, and the end of the phase if nothing of the phase is left in the tier or its
+/// child tiers.
+pub fn next_level<'a, G: Game>(
+    alloc: Global,
+    tables: &'a Tables<G>,
+    tiles: &Tiles<G>,
+    runs: &'a [Run<G>],
+) -> Result<(Level<'a, G>, Option<Last<G>>), SolveError>
+    requires held { AreHeld G.rules tables.now tiles.now.shards.a.tier }
+    requires runs { AreTiles (place_of tiles.now.shards.a) 0 (G.rules.tier_size tiles.now.shards.a.tier) runs.now }
+    ensures place { IfOk result (λ next. next.0.place ≡ place_of tiles.now.shards.a) }
+    ensures last { IfOk result (λ next. IfSome next.1 (λ last. last ≡ place_of tiles.now.shards.a)) }
+    ensures near { IfOk result (λ next. IfNone next.1 (tiles.now.shards.a.level ≤ REMOTENESS)) }
+    ensures error { IfErr result (IsError G.rules tiles.now.shards.a.tier) }
+{
+    let level = Level::gather(alloc, tiles.shards.a.place(), runs, tables)?;
+    let last = level.last(tables);
+    if last.is_none() {
+        tiles.show_near(tables);
+    }
+    Ok((level, last))
+}
+
+/// Returns the true table of a tier of its true records, and the number of all pairs whose child is no draw, when nothing is left to settle.
+pub fn table_of<G: Game>(
+    tier: u64,
+    tables: &Tables<G>,
+    last: &Last<G>,
+    records: Packed,
+    number: u64,
+) -> (Table<G>, u64)
+    requires held { AreHeld G.rules tables.now tier }
+    requires small { G.rules.tier_size tier ≤ TIER_SIZE }
+    requires tier_is { last.now.tier ≡ tier }
+    requires ties { last.now.phase ≡ Ties }
+    requires records { IsTrueTable G.rules REMOTENESS tier records }
+    requires number { IsNumberBefore G.rules last.now.tier 0 (G.rules.tier_size last.now.tier) last.now.phase last.now.level number }
+    ensures tier { result.0.tier ≡ tier }
+    ensures table { IsTable G.rules result.0 }
+    ensures deliveries { AreDeliveries G.rules tier result.1 }
+    ensures near { IsTooFar G.rules tier → ⊥ }
+{
+    let _end = last.place();
+    let _held = tables.has(tier);
+    (Table::from_packed(tier, records), number)
+}

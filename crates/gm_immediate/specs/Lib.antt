@@ -1,0 +1,3 @@
+pub mod Gathered
+pub mod OnePass
+pub mod Lower

@@ -1,8 +1,0 @@
-use Rattle.gm_shard.proofs.Lower.{arith, canonical_children_few}
-use Rattle.gm_shard.proofs.begin.start_of_canonical.Goals as goal
-
-pub overflow_cast-result : goal.overflow_cast-result
-overflow_cast-result g c =
-    let few = canonical_children_few g.G.Game.rules g.met.G.Game.lawful c.args.p c.requires.0 in
-    let n = c.count_children.ensures in
-    omega (arith, few, n)

@@ -1,8 +1,0 @@
-use Rattle.gm_shard.proofs.Lower.{status_of}
-use Rattle.gm_shard.proofs.FinishLemmas.{final_record}
-use Rattle.gm_shard.proofs.statuses.Statuses.final_number.Goals as goal
-
-pub returns : goal.returns
-returns c =
-    let n = c.number-number.result in
-    (status_of n, c.number-number.ensures, final_record n c.if-number-eq-UNDECIDED.false)

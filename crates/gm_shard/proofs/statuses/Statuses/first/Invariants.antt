@@ -1,5 +1,0 @@
-use Rattle.gm_shard.proofs.Lower.{◌≡◌, map, take, first_status, status_of}
-use Rattle.gm_shard.proofs.statuses.Statuses.first.Given as goal
-
-abbrev pub invariant-loop-start : goal.invariant-loop-start
-invariant-loop-start l = map status_of l.numbers.items ≡ map first_status (take l.start-index l.starts)

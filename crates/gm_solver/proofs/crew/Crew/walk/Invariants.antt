@@ -1,5 +1,0 @@
-use Rattle.gm_solver.proofs.Lower.{◌≡◌}
-use Rattle.gm_solver.proofs.crew.Crew.walk.Given as goal
-
-abbrev pub invariant-loop-turn : goal.invariant-loop-turn
-invariant-loop-turn g l = l.shares.parts ≡ l.fn.shares.parts

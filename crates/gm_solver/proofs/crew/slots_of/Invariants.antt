@@ -1,5 +1,0 @@
-use Rattle.gm_solver.proofs.Lower.{◌≡◌, ◌+◌, vec_len}
-use Rattle.gm_solver.proofs.crew.slots_of.Given as goal
-
-abbrev pub invariant-loop : goal.invariant-loop
-invariant-loop g l = (l.rest.parts + l.counter ≡ l.fn.rest.parts) × (vec_len l.slots ≡ l.counter)

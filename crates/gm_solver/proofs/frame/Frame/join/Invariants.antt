@@ -1,5 +1,0 @@
-use Rattle.gm_solver.proofs.Parts.{AreJoined}
-use Rattle.gm_solver.proofs.frame.Frame.join.Given as goal
-
-abbrev pub invariant-loop-block : goal.invariant-loop-block
-invariant-loop-block g l = AreJoined g.G.Game.rules l.self.tier l.block l.all l.number

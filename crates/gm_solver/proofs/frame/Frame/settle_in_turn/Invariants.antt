@@ -1,8 +1,0 @@
-use Rattle.gm_solver.proofs.Lower.{◌≡◌, length, block_in, EachAt, IsFound}
-use Rattle.gm_solver.proofs.frame.Frame.settle_in_turn.Given as goal
-
-abbrev pub invariant-loop-place : goal.invariant-loop-place
-invariant-loop-place g l = record {
-  long : length l.found.items ≡ l.place;
-  each : EachAt (λ place x. IsFound g.G.Game.rules l.self.tier (block_in l.self.dealing.rows place) x) l.found.items;
-}

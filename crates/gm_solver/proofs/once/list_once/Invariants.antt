@@ -1,5 +1,0 @@
-use Rattle.gm_solver.proofs.OnceLemmas.{AreListed}
-use Rattle.gm_solver.proofs.once.list_once.Given as goal
-
-abbrev pub invariant-loop-p : goal.invariant-loop-p
-invariant-loop-p l = AreListed l.list l.p-index l.once.items l.marks

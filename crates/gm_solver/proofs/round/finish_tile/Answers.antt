@@ -1,9 +1,0 @@
-use Rattle.gm_solver.proofs.Lower.{◌≡◌, List, length, ap, sym, ◌∙◌, arith, div_ceil, NoteData}
-use Rattle.gm_solver.proofs.round.finish_tile.Goals as goal
-
-pub into_whole-requires : goal.into_whole-requires
-into_whole-requires g c =
-    let pieces : c.pieces-piece-end.result ≡ div_ceil (length g.L.PassLedger.notes) g.L.PieceLedger.size =
-    c.pieces-piece-end.ensures.count ∙ ap (λ (ns : List NoteData). div_ceil (length ns) c.args.job.now.notes) c.requires.level.notes_are
-    ∙ ap (div_ceil (length g.L.PassLedger.notes)) (sym c.requires.size) in
-    λ p few. c.loop-piece.invariant p (let end = c.loop-piece-test.false in omega arith)

@@ -1,9 +1,0 @@
-use Rattle.gm_solver.proofs.Lower.{◌≡◌, min, length, AreStarts}
-use Rattle.std.proofs.Common.{◌*◌}
-use Rattle.gm_solver.proofs.scan.Frame.in_order_of.Given as goal
-
-abbrev pub invariant-loop-block : goal.invariant-loop-block
-invariant-loop-block g l = record {
-  long : length l.all.items ≡ min (l.block * 512) l.self.dealing.size;
-  starts : AreStarts g.G.Game.rules l.self.tier 0 l.all.items;
-}

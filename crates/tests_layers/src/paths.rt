@@ -1,0 +1,34 @@
+//! Each path of a public item below the solver on which callers rely, named once: this crate does not compile without one of them.
+
+pub use gm_board::arrangement::Arrangement;
+pub use gm_board::group::is_group;
+pub use gm_board::image::image;
+pub use gm_board::least::{least_arrangement, least_subset};
+pub use gm_board::pascal::binomial;
+pub use gm_board::radix::MixedRadix;
+pub use gm_board::subset::{rank_subset, unrank_subset};
+pub use gm_game::ahead::within;
+pub use gm_game::children::{canonical_children, child_place};
+pub use gm_game::game::Game;
+pub use gm_game::position::{End, Phase, Place, Position, Solved, Value};
+pub use gm_game::shown::{Line, Shown};
+pub use gm_game::text::value_text;
+pub use gm_play::answers::{AnswerError, answer};
+pub use gm_play::best_moves::best_move;
+pub use gm_play::session::session;
+pub use gm_play::session_error::SessionError;
+pub use gm_play::sides::Side;
+pub use gm_table::checker::{CheckError, check};
+pub use gm_table::table::Table;
+pub use gm_table::tables::Tables;
+pub use gm_tierdb::decode::{decode, decode_v1};
+pub use gm_tierdb::encode::{encode, encode_v1};
+pub use gm_tierdb::file_error::FileError;
+pub use gm_tierdb::flaky::Flaky;
+pub use gm_tierdb::folder_store::FolderStore;
+pub use gm_tierdb::mem_store::MemStore;
+pub use gm_tierdb::store::Store;
+pub use gm_tierdb::store_error::StoreError;
+pub use gm_tierdb::streams::{read_text, write_text};
+pub use gm_tiers::order::TierOrder;
+pub use gm_tiers::tier_error::TierError;
