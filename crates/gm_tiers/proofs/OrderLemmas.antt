@@ -3,6 +3,7 @@ use Rattle.gm_tiers.proofs.Lower.{◌≡◌, ◌≢◌, ℕ, suc, ◌<◌, ◌�
 use Rattle.gm_tiers.proofs.Lower.{Contains, AllPairs, IsSortedBy, IsPermutation, nat_cmp, ordering_then, is_lt, Ordering, IsTotalOrder, cases_lt, nat_tests}
 use Rattle.gm_tiers.proofs.Lower.{sorted_far, ranks_by, Contains-permutation, IsPermutation-sym, length_permutation, get_or_from_slice_get, slice_get_within}
 use Rattle.gm_tiers.proofs.Lower.{get_or-take, get_or_default_zero, TIERS, Rules, IsGame, IsReachedFrom, AreFound, IsBefore, IsOrderFrom, ComeChildrenFirst}
+use Rattle.gm_tiers.proofs.Lower.{[], ◌∷◌, ◌==◌, map, refl, get_or-map, length-map, IsPermutation-map, Contains-get_or}
 use Rattle.std.proofs.lemmas.Cmp.{nat_cmp_total, then_total, on_total}
 use Rattle.gm_tiers.proofs.SearchLemmas.{search_reached, reached_found}
 
@@ -62,3 +63,52 @@ order_is r first found tiers is same up = record {
   where
     back : (t : ℕ) → Contains tiers t → Contains found t
     back t has = Contains-permutation tiers found t (IsPermutation-sym found tiers same) has
+
+-- a tier after its rank
+abbrev pub ranked : Rules → ℕ → ℕ × ℕ
+ranked r t = (r.tier_rank t, t)
+
+abbrev pub tier_of : ℕ × ℕ → ℕ
+tier_of pair = pair.1
+
+tiers_of_ranked : (r : Rules) (tiers : List ℕ) → map tier_of (map (ranked r) tiers) ≡ tiers
+tiers_of_ranked r [] = refl
+tiers_of_ranked r (t ∷ ts) = ap (λ (us : List ℕ). t ∷ us) (tiers_of_ranked r ts)
+
+-- the tiers of the pairs of tiers, in any order
+pub same_tiers : (r : Rules) (tiers : List ℕ) (pairs : List (ℕ × ℕ)) → IsPermutation (map (ranked r) tiers) pairs → IsPermutation tiers (map tier_of pairs)
+same_tiers r tiers pairs same = subst (λ (ts : List ℕ). IsPermutation ts (map tier_of pairs)) (tiers_of_ranked r tiers)
+    (IsPermutation-map tier_of (map (ranked r) tiers) pairs same)
+
+is_ranked : (r : Rules) (tiers : List ℕ) (p : ℕ × ℕ) → Contains (map (ranked r) tiers) p → p.0 ≡ r.tier_rank p.1
+is_ranked r tiers p (k, inside, is) =
+    let within : k < length tiers = subst (λ n. k < n) (length-map tiers (ranked r)) inside in
+    let whole : p ≡ ranked r (get_or tiers k 0) = sym is ∙ get_or-map (ranked r) tiers k 0 p within in
+    subst (λ (q : ℕ × ℕ). q.0 ≡ r.tier_rank q.1) (sym whole) refl
+
+-- each of the pairs is ranked, in any order
+stays_ranked : (r : Rules) (tiers : List ℕ) (pairs : List (ℕ × ℕ)) → IsPermutation (map (ranked r) tiers) pairs → (k : ℕ) → k < length pairs →
+    (get_or pairs k (0, 0)).0 ≡ r.tier_rank (get_or pairs k (0, 0)).1
+stays_ranked r tiers pairs same k within =
+    let p = get_or pairs k (0, 0) in
+    is_ranked r tiers p (Contains-permutation pairs (map (ranked r) tiers) p (IsPermutation-sym (map (ranked r) tiers) pairs same) (Contains-get_or pairs k (0, 0) within))
+
+-- pairs in order have their tiers in order
+pub pairs_ordered : (r : Rules) (tiers : List ℕ) (pairs : List (ℕ × ℕ)) → AllPairs (λ (t u : ℕ). t ≢ u) (map tier_of pairs) →
+    IsPermutation (map (ranked r) tiers) pairs → IsSortedBy (λ x y. is_lt (pair_cmp x y)) pairs → AllPairs (IsBefore r) (map tier_of pairs)
+pairs_ordered r tiers pairs once same up i j d i<j j<n =
+    let p = get_or pairs i (0, 0) in
+    let q = get_or pairs j (0, 0) in
+    let j<m : j < length pairs = subst (λ n. j < n) (length-map pairs tier_of) j<n in
+    let i<m : i < length pairs = omega arith in
+    let here : get_or (map tier_of pairs) i d ≡ p.1 = get_or-map tier_of pairs i (0, 0) d i<m in
+    let there : get_or (map tier_of pairs) j d ≡ q.1 = get_or-map tier_of pairs j (0, 0) d j<m in
+    let differ : p.1 ≢ q.1 = λ s. once i j d i<j j<n (here ∙ s ∙ sym there) in
+    let is : IsBefore r p.1 q.1 =
+    subst (λ b. (r.tier_rank p.1 < b) ⊎ ((r.tier_rank p.1 ≡ b) × (p.1 < q.1))) (stays_ranked r tiers pairs same j j<m)
+    (subst (λ a. (a < q.0) ⊎ ((a ≡ q.0) × (p.1 < q.1))) (stays_ranked r tiers pairs same i i<m)
+    (not_after p.0 q.0 p.1 q.1 (sorted_far (λ x y. is_lt (pair_cmp x y)) (ranks_by pair_cmp_total (λ (x : ℕ × ℕ). x)) pairs up i j (0, 0) (omega arith) j<m) differ)) in
+    subst (λ t. IsBefore r t (get_or (map tier_of pairs) j d)) (sym here) (subst (λ u. IsBefore r p.1 u) (sym there) is)
+
+pub eqb_flips : (t u : ℕ) → (t == u) ≡ (u == t)
+eqb_flips t u = grind (arith, nat_tests)

@@ -1,5 +1,5 @@
 //! The order of tiers.
-ghost use Rattle.std.specs.Prelude.{◌≡◌, ℕ, List, Ok, IfOk, OnOk, OnErr, IsErrOf, IsPermutation};
+ghost use Rattle.std.specs.Prelude.{◌≡◌, ℕ, List, map, Ok, IfOk, OnOk, OnErr, IsErrOf, IsPermutation};
 ghost use Rattle.std.specs.List.{AllPairs};
 ghost use Rattle.gm_tiers.specs.Orders.{IsBefore, IsTierOrder, IsOrderFrom, IsSomeOrder, ComeChildrenFirst};
 ghost use Rattle.gm_tiers.specs.Reach.{IsReached, IsReachedFrom};
@@ -62,8 +62,8 @@ impl<G: Game> TierOrder<G> {
         ensures too_large { (tier : ℕ) → IsErrOf result (TierError.TierTooLarge tier) → IsTooLarge G.rules first tier }
         ensures reached { (tier : ℕ) → IsErrOf result (TierError.TierTooLarge tier) → IsReachedFrom G.rules first tier }
     {
-        let mut found = search::<G>(alloc, first)?;
-        match put_in_order::<G>(alloc, &mut found) {
+        let found = search::<G>(alloc, first)?;
+        match put_in_order::<G>(alloc, &found) {
             Ok(tiers) => Ok(TierOrder {
                 tiers,
                 game: PhantomData,
@@ -82,15 +82,34 @@ impl<G: Game> TierOrder<G> {
     }
 }
 
-// Sorts the tiers that were found by rank and then by number, and lists them.
-fn put_in_order<G: Game>(alloc: Global, found: &mut IndexSet<u64>) -> Result<Vec<u64>, AllocError>
-    ensures same { IfOk result (λ tiers. IsPermutation found.old.keys tiers.items) }
+// Lists the tiers that were found by rank and then by number. It sorts pairs, since a program then has one sort for all its games.
+fn put_in_order<G: Game>(alloc: Global, found: &IndexSet<u64>) -> Result<Vec<u64>, AllocError>
+    ensures same { IfOk result (λ tiers. IsPermutation found.now.keys tiers.items) }
     ensures ordered { IfOk result (λ tiers. AllPairs (IsBefore G.rules) tiers.items) }
 {
-    found.sort_unstable_by_key(
-        |tier: &u64| -> (u64, u64)
-            ensures { result ≡ (G.rules.tier_rank tier.now, tier.now) }
-        { (G::tier_rank(*tier), *tier) },
-    )?;
-    Vec::from_slice(alloc, found.as_slice())
+    let mut pairs = ranked::<G>(alloc, found.as_slice())?;
+    pairs.sort_unstable();
+    numbers(alloc, pairs.as_slice())
+}
+
+// Returns each tier after its rank.
+fn ranked<G: Game>(alloc: Global, tiers: &[u64]) -> Result<Vec<(u64, u64)>, AllocError>
+    ensures { IfOk result (λ pairs. pairs.items ≡ map (λ t. (G.rules.tier_rank t, t)) tiers.now) }
+{
+    let mut pairs = Vec::with_capacity(alloc, tiers.len())?;
+    for tier in tiers {
+        pairs.push((G::tier_rank(*tier), *tier))?;
+    }
+    Ok(pairs)
+}
+
+// Returns the tiers of these pairs.
+fn numbers(alloc: Global, pairs: &[(u64, u64)]) -> Result<Vec<u64>, AllocError>
+    ensures { IfOk result (λ tiers. tiers.items ≡ map (λ pair. pair.1) pairs.now) }
+{
+    let mut tiers = Vec::with_capacity(alloc, pairs.len())?;
+    for (_, tier) in pairs {
+        tiers.push(*tier)?;
+    }
+    Ok(tiers)
 }

@@ -1,13 +1,26 @@
-use Rattle.gm_tiers.proofs.Lower.{rules, ◌≡◌, ℕ, List, subst, sym, ◌∙◌, AllPairs, answers_always, Decides-eqb, AllPairs-from_IsDistinct, IfOk-weaker, IsBefore}
-use Rattle.gm_tiers.proofs.OrderLemmas.{ordered}
+use Rattle.gm_tiers.proofs.Lower.{◌≡◌, ◌≢◌, ℕ, List, map, ap, subst, sym, ◌∙◌, AllPairs, AllPairs-from_IsDistinct, Decides-eqb, IsBefore, IsPermutation, IfOk-weaker}
+use Rattle.gm_tiers.proofs.OrderLemmas.{ranked, tier_of, same_tiers, pairs_ordered, eqb_flips}
+use Rattle.gm_tiers.proofs.Lower.{IsDistinct-IsPermutation, ◌==◌}
+use Rattle.gm_tiers.proofs.order.put_in_order.Given.{Over}
 use Rattle.gm_tiers.proofs.order.put_in_order.Goals as goal
+
+-- the pairs that are sorted
+same_pairs : (g : Over) (c : goal.After-drop-pairs g) → IsPermutation (map (ranked g.G.Game.rules) c.args.found.now.keys) c.sort_unstable.new.self.items
+same_pairs g c = subst (λ xs. IsPermutation xs c.sort_unstable.new.self.items)
+    (c.in_ok-pairs.ensures ∙ ap (map (ranked g.G.Game.rules)) c.as_slice.ensures.keys) c.sort_unstable.ensures.permutation
+
+pub returns-clause-same : goal.returns-clause-same
+returns-clause-same g c = IfOk-weaker c.numbers.result _ _
+    (λ v e. subst (λ xs. IsPermutation c.args.found.now.keys xs) (sym (e ∙ ap (map tier_of) c.as_slice-2.ensures.value))
+    (same_tiers g.G.Game.rules c.args.found.now.keys c.sort_unstable.new.self.items (same_pairs g c))) c.numbers.ensures
 
 pub returns-clause-ordered : goal.returns-clause-ordered
 returns-clause-ordered g c =
-    let key : ℕ → ℕ × ℕ = λ t. (g.G.Game.rules.tier_rank t, t) in
-    let keys : List ℕ = c.sort_unstable_by_key.new.self.keys in
-    let is : AllPairs (IsBefore g.G.Game.rules) keys =
-    ordered g.G.Game.rules keys (AllPairs-from_IsDistinct Decides-eqb keys c.sort_unstable_by_key.ensures.unique)
-    (c.in_ok-sort_unstable_by_key.ensures.sorted key (answers_always _ (λ a s. s ≡ key a.0.now) _ (λ f a s q k. search rules))) in
-    IfOk-weaker c.from_slice.result _ _ (λ v e. subst (λ xs. AllPairs (IsBefore g.G.Game.rules) xs) (sym (e ∙ c.as_slice.ensures.keys)) is)
-    c.from_slice.ensures.items
+    let r = g.G.Game.rules in
+    let keys : List ℕ = c.args.found.now.keys in
+    let pairs : List (ℕ × ℕ) = c.sort_unstable.new.self.items in
+    let once : AllPairs (λ (t u : ℕ). t ≢ u) (map tier_of pairs) = AllPairs-from_IsDistinct Decides-eqb (map tier_of pairs)
+    (IsDistinct-IsPermutation (λ (t u : ℕ). t == u) eqb_flips keys (map tier_of pairs) (same_tiers r keys pairs (same_pairs g c)) c.as_slice.ensures.unique) in
+    IfOk-weaker c.numbers.result _ _
+    (λ v e. subst (λ xs. AllPairs (IsBefore r) xs) (sym (e ∙ ap (map tier_of) c.as_slice-2.ensures.value))
+    (pairs_ordered r keys pairs once (same_pairs g c) c.sort_unstable.ensures.sorted)) c.numbers.ensures
