@@ -3,11 +3,9 @@ its drawing."""
 import os
 import re
 
+from lib.games import LARGE
 from lib.paths import ROOT
 from lib.programs import Refused, told
-
-# Tac Tix on 5 by 5 takes too long for these calls.
-TOO_LARGE = {"tactix-5", "tactix-5-misere"}
 
 
 def listed():
@@ -19,7 +17,7 @@ def listed():
 
 FIRST, LATER = listed()
 
-GAMES = [game for game in FIRST + LATER if game not in TOO_LARGE]
+GAMES = [game for game in FIRST + LATER if game not in LARGE]
 
 # The most columns that a drawing takes.
 COLUMNS = 50

@@ -4,13 +4,19 @@ use Rattle.gm_command.specs.declared.names.GameName.{GameName}
 use Rattle.gm_command.specs.declared.names.GameName.TheVariants.{Countdown, Wheel, TacTix1, TacTix2, TacTix3, TacTix4, TacTix5, TacTix1Misere, TacTix2Misere}
 use Rattle.gm_command.specs.declared.names.GameName.TheVariants.{TacTix3Misere, TacTix4Misere, TacTix5Misere, TicTacToe, ThreeMens, Achi, MuTorere, Dao, Hare}
 use Rattle.gm_command.specs.declared.names.GameName.TheVariants.{PongHauKi, Shisima, Takeaway, Tapatan, Dodgem, Krk, Kqk, FoxHounds}
+use Rattle.gm_command.specs.declared.names.GameName.TheVariants.{TicTacToeMisere, Notakto, Hex3}
+use Rattle.gm_command.specs.declared.names.GameName.TheVariants.{Hexapawn, Picaria, Toads}
+use Rattle.gm_command.specs.declared.names.GameName.TheVariants.{Domineering4, Kayles}
 pub use Rattle.gm_draw.specs.GameSpecs.{GameSpec, game_spec}
 pub use Rattle.gm_dao.specs.DaoPicture.{dao_spec}
 pub use Rattle.gm_dodgem.specs.DodgemPicture.{dodgem_spec}
+pub use Rattle.gm_dominoes.specs.DominoPictures.{domineering_four_spec, kayles_spec}
 pub use Rattle.gm_hare.specs.HarePicture.{hare_spec}
 pub use Rattle.gm_morris.specs.NinePicture.{nine_spec}
 pub use Rattle.gm_mutorere.specs.RingPicture.{mutorere_spec}
+pub use Rattle.gm_placing.specs.PlacingPictures.{tictactoe_misere_spec, notakto_spec, hex_three_spec}
 pub use Rattle.gm_pong.specs.PongPicture.{pong_spec}
+pub use Rattle.gm_sliding.specs.SlidingPictures.{hexapawn_spec, picaria_spec, toads_spec}
 pub use Rattle.gm_squares.specs.Pictures.{chess_spec, foxhounds_spec}
 pub use Rattle.gm_tactix.specs.TactixPicture.{tactix_spec}
 pub use Rattle.gm_toys.specs.Pictures.{countdown_spec, takeaway_spec, wheel_spec}
@@ -44,3 +50,11 @@ spec_of Dodgem = dodgem_spec
 spec_of Krk = chess_spec false
 spec_of Kqk = chess_spec true
 spec_of FoxHounds = foxhounds_spec
+spec_of TicTacToeMisere = tictactoe_misere_spec
+spec_of Notakto = notakto_spec
+spec_of Hex3 = hex_three_spec
+spec_of Hexapawn = hexapawn_spec
+spec_of Picaria = picaria_spec
+spec_of Toads = toads_spec
+spec_of Domineering4 = domineering_four_spec
+spec_of Kayles = kayles_spec

@@ -1,6 +1,6 @@
 //! The games of the program and their names.
 ghost use Rattle.std.specs.Prelude.{◌≡◌};
-ghost use Rattle.gm_command.specs.Names.{game_of_name};
+ghost use Rattle.gm_command.specs.Names.{game_among, game_of_name};
 
 use std::alloc::{AllocError, Global};
 use strsim::jaro;
@@ -34,6 +34,14 @@ pub enum GameName {
     Krk,
     Kqk,
     FoxHounds,
+    TicTacToeMisere,
+    Notakto,
+    Hex3,
+    Hexapawn,
+    Picaria,
+    Toads,
+    Domineering4,
+    Kayles,
 }
 
 /// Calls a macro with all games: each has its name, its variant and its type. First come those that `list` prints, in its order,
@@ -73,6 +81,14 @@ macro_rules! with_games {
                 "krk" => Krk: gm_squares::chess::Krk,
                 "kqk" => Kqk: gm_squares::chess::Kqk,
                 "foxhounds" => FoxHounds: gm_squares::foxhounds::FoxHounds,
+                "tictactoe-misere" => TicTacToeMisere: gm_placing::rows::TicTacToeMisere,
+                "notakto" => Notakto: gm_placing::rows::Notakto,
+                "hex-3" => Hex3: gm_placing::hex::HexThree,
+                "hexapawn" => Hexapawn: gm_sliding::hexapawn::Hexapawn,
+                "picaria" => Picaria: gm_sliding::nine::Picaria,
+                "toads" => Toads: gm_sliding::toads::Toads,
+                "domineering-4" => Domineering4: gm_dominoes::domineering::DomineeringFour,
+                "kayles" => Kayles: gm_dominoes::kayles::Kayles,
             }
         }
     };
@@ -104,19 +120,18 @@ macro_rules! one {
     ($game:ident) => { 1 };
 }
 
-// Writes the match that reads a name.
+// Writes the match that reads a name of the first or of the later games, with what is returned for any other name.
 macro_rules! read {
-    (
-        [$text:ident]
-        { $($name:literal => $game:ident: $type:ty,)* }
-        { $($later:literal => $later_game:ident: $later_type:ty,)* }
-    ) => {
+    ([first $text:ident $other:expr] { $($name:literal => $game:ident: $type:ty,)* } $later:tt) => {
         match $text {
             $($name => Some(GameName::$game),)*
-            _ => match $text {
-                $($later => Some(GameName::$later_game),)*
-                _ => None,
-            },
+            _ => $other,
+        }
+    };
+    ([later $text:ident $other:expr] $first:tt { $($name:literal => $game:ident: $type:ty,)* }) => {
+        match $text {
+            $($name => Some(GameName::$game),)*
+            _ => $other,
         }
     };
 }
@@ -142,7 +157,14 @@ pub const LISTED_LATER: &str = with_games!(group later lines);
 pub fn game_named(name: &str) -> Option<GameName>
     ensures { result ≡ game_of_name name.now }
 {
-    with_games!(read name)
+    with_games!(read first name later_named(name))
+}
+
+// Returns the game of this name that only `list --all` prints, if there is one.
+fn later_named(name: &str) -> Option<GameName>
+    ensures { result ≡ game_among LATER_GAMES name.now }
+{
+    with_games!(read later name None)
 }
 
 /// The likeness above which a name is taken for a misspelled one. The command line uses the same limit for its commands.

@@ -1,3 +1,4 @@
 pub mod DominoRules
 pub mod KaylesRules
+pub mod DominoPictures
 pub mod laws

@@ -1,2 +1,3 @@
 -- What follows from the rules.
 pub mod DominoTables
+pub mod DominoPictured

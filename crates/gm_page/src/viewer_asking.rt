@@ -70,6 +70,27 @@ const RULES = {
   "foxhounds":
     "Four hounds hunt a fox on the dark squares of a chess board. A man moves one square diagonally to a free square: a hound only forwards, the fox " +
     "any way. The fox wins as soon as no hound is on a lower row. Who can't move loses.",
+  "tictactoe-misere":
+    "X and O take turns to fill a cell. Who gets three in a row, a column or a diagonal loses. A full board without such a line is a tie.",
+  "notakto":
+    "Both players put the same counters. Each in turn fills a cell. Who completes three in a row, a column or a diagonal loses.",
+  "hex":
+    "Each cell touches up to six others: those beside it in its row and its column, and those above it to the right and below it to the left. A move " +
+    "fills a cell. The side to move joins the first row to the last; rows and columns are exchanged after each move, so the other side joins the first " +
+    "column to the last. There is no draw.",
+  "hexapawn":
+    "A man goes one cell up to a free cell, or takes a man of the other side one cell up to the left or to the right. The board is turned by half after " +
+    "each move, so both sides go up. A man on the last row wins. Who can't move loses.",
+  "picaria":
+    "Each side puts three pieces on the board, one a turn. Then a move takes a piece to an empty cell beside it, in any of eight directions. Three in a " +
+    "row, a column or a diagonal win. Who can't move loses.",
+  "toads":
+    "Toads and frogs on a row of cells. A move takes a piece to the next cell to the right, if it is empty, or over one piece of the other side to the " +
+    "empty cell behind it. The row is turned after each move, so both sides go right. Who can't move loses.",
+  "domineering":
+    "Each player in turn covers two empty cells with a domino: the first player's stand upright, the second player's lie flat. Who can't move loses.",
+  "kayles":
+    "Twelve pins in a row. Each player in turn takes one pin, or two that are side by side. Who takes the last one wins.",
   "tactix":
     "Counters on a square board. Each player in turn takes one or more that lie side by side, without a gap, in one row or one column. Who takes " +
     "the last one wins.",

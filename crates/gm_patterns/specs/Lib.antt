@@ -3,6 +3,7 @@ pub mod Steps
 pub mod PatternGames
 pub mod PatternTables
 pub mod PatternTexts
+pub mod PatternPictures
 pub mod laws
 pub mod Lower
 pub mod Lesser

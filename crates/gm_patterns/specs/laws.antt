@@ -12,5 +12,6 @@ pub mod PatternMoves
 pub mod IndexFacts
 pub mod PatternLaws
 pub mod PatternTextLaws
+pub mod PatternPictured
 pub mod MaskFacts
 pub mod LesserFacts

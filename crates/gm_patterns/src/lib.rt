@@ -8,6 +8,7 @@ pub mod lesser;
 pub mod moves;
 pub mod on_patterns;
 pub mod pattern;
+pub mod picture;
 pub mod rows;
 pub mod rules;
 pub mod step;

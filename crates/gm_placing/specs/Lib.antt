@@ -1,4 +1,5 @@
 pub mod RowRules
 pub mod HexRules
 pub mod SimRules
+pub mod PlacingPictures
 pub mod laws

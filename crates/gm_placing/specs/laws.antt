@@ -1,2 +1,3 @@
 -- What follows from the rules.
 pub mod PlacingTables
+pub mod PlacingPictured

@@ -3,5 +3,6 @@
 #![tactic(auto)]
 
 pub mod hex;
+pub mod picture;
 pub mod rows;
 pub mod sim;

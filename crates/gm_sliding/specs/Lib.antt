@@ -3,4 +3,5 @@ pub mod NineRules
 pub mod ClobberRules
 pub mod KonoRules
 pub mod ToadsRules
+pub mod SlidingPictures
 pub mod laws

@@ -1,2 +1,3 @@
 -- What follows from the rules.
 pub mod SlidingTables
+pub mod SlidingPictured

@@ -1,5 +1,5 @@
 //! Games of dominoes and pins.
-use crate::worked::{Row, expect_move, expect_values};
+use crate::worked::{Row, expect_move, expect_start, expect_values};
 use gm_dominoes::cram::{CramFive, CramFour};
 use gm_dominoes::domineering::{DomineeringFive, DomineeringFour};
 use gm_dominoes::kayles::Kayles;
@@ -74,4 +74,25 @@ fn kayles_positions(rt: HostRuntime) {
     expect_values::<Kayles>(&rt, &rows);
     expect_move::<Kayles>(&rt, b"xxxxxxxxxxxx", b"f-g", b"xxxxx..xxxxx");
     expect_move::<Kayles>(&rt, b".....x.....x", b"f", b"...........x");
+}
+
+#[test]
+fn starts_of_dominoes(rt: HostRuntime) {
+    expect_start::<DomineeringFour>(
+        &rt,
+        b"    1 2 3 4\na   . . . .\nb   . . . .\nc   . . . .\nd   . . . .",
+    );
+    expect_start::<DomineeringFive>(
+        &rt,
+        b"    1 2 3 4 5\na   . . . . .\nb   . . . . .\nc   . . . . .\nd   . . . . .\ne   . . . . .",
+    );
+    expect_start::<CramFour>(
+        &rt,
+        b"    1 2 3 4\na   . . . .\nb   . . . .\nc   . . . .\nd   . . . .",
+    );
+    expect_start::<CramFive>(
+        &rt,
+        b"    1 2 3 4 5\na   . . . . .\nb   . . . . .\nc   . . . . .\nd   . . . . .\ne   . . . . .",
+    );
+    expect_start::<Kayles>(&rt, b"a b c d e f g h i j k l\nx x x x x x x x x x x x");
 }

@@ -1,5 +1,5 @@
 //! Games of placing.
-use crate::worked::{Row, expect_move, expect_values};
+use crate::worked::{Row, expect_move, expect_start, expect_values};
 use gm_game::position::Value;
 use gm_placing::hex::{HexFour, HexThree};
 use gm_placing::rows::{Notakto, TicTacToeFour, TicTacToeMisere};
@@ -82,4 +82,26 @@ fn sim_positions(rt: HostRuntime) {
     expect_values::<Sim>(&rt, &rows);
     expect_move::<Sim>(&rt, b"...............", b"16", b"....o..........");
     expect_move::<Sim>(&rt, b"xo..xxxooooox.x", b"46", b"ox..oooxxxxxooo");
+}
+
+#[test]
+fn starts_of_placing(rt: HostRuntime) {
+    expect_start::<TicTacToeMisere>(
+        &rt,
+        b"    1   2   3\na   . | . | .\n   ---+---+---\nb   . | . | .\n   ---+---+---\nc   . | . | .",
+    );
+    expect_start::<TicTacToeFour>(
+        &rt,
+        b"    1   2   3   4\na   . | . | . | .\n   ---+---+---+---\nb   . | . | . | .\n   ---+---+---+---\nc   . | . | . | .\n   ---+---+---+---\nd   . | . | . | .",
+    );
+    expect_start::<Notakto>(&rt, b"    1 2 3\na   . . .\nb   . . .\nc   . . .");
+    expect_start::<HexThree>(&rt, b"    1 2 3\na   . . .\nb    . . .\nc     . . .");
+    expect_start::<HexFour>(
+        &rt,
+        b"    1 2 3 4\na   . . . .\nb    . . . .\nc     . . . .\nd      . . . .",
+    );
+    expect_start::<Sim>(
+        &rt,
+        b"    2 3 4 5 6\n1   . . . . .\n2     . . . .\n3       . . .\n4         . .\n5           .",
+    );
 }

@@ -1,5 +1,5 @@
 //! Games of sliding and taking.
-use crate::worked::{Row, expect_move, expect_values};
+use crate::worked::{Row, expect_move, expect_start, expect_values};
 use gm_game::position::Value;
 use gm_sliding::clobber::Clobber;
 use gm_sliding::hexapawn::{Hexapawn, HexapawnFour};
@@ -91,4 +91,27 @@ fn kono_positions(rt: HostRuntime) {
     expect_values::<Kono>(&rt, &rows);
     expect_move::<Kono>(&rt, b"ooooooooxxxxxxxx", b"d1-b1", b"xxxxoxxxoooo.ooo");
     expect_move::<Kono>(&rt, b"xxo............o", b"a1-a3", b".oo............x");
+}
+
+#[test]
+fn starts_of_sliding(rt: HostRuntime) {
+    expect_start::<Hexapawn>(&rt, b"    1 2 3\na   o o o\nb   . . .\nc   x x x");
+    expect_start::<HexapawnFour>(
+        &rt,
+        b"    1 2 3 4\na   o o o o\nb   . . . .\nc   . . . .\nd   x x x x",
+    );
+    expect_start::<NineHoles>(
+        &rt,
+        b"    1   2   3\na   .---.---.\n    |   |   |\nb   .---.---.\n    |   |   |\nc   .---.---.",
+    );
+    expect_start::<Picaria>(&rt, b"    1 2 3\na   . . .\nb   . . .\nc   . . .");
+    expect_start::<Clobber>(
+        &rt,
+        b"    1 2 3 4\na   x o x o\nb   o x o x\nc   x o x o\nd   o x o x",
+    );
+    expect_start::<Kono>(
+        &rt,
+        b"    1 2 3 4\na   o o o o\nb   o o o o\nc   x x x x\nd   x x x x",
+    );
+    expect_start::<Toads>(&rt, b"a b c d e f g h i j k\nx x x x . . . o o o o");
 }

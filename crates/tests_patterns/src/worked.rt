@@ -1,5 +1,8 @@
 //! Worked positions and their values.
+use gm_draw::drawn::draw;
+use gm_draw::pictured::Pictured;
 use gm_game::ahead::within;
+use gm_game::game::laws;
 use gm_game::position::{Solved, Value};
 use gm_game::shown::Shown;
 use std::process::Abort;
@@ -33,4 +36,11 @@ pub(crate) fn expect_move<G: Shown>(rt: &impl Abort, text: &[u8], name: &[u8], w
     };
     assert_eq!(rt; result, G::read(wanted));
     assert!(rt; result.is_some());
+}
+
+/// Fails if the start of a game is drawn otherwise.
+pub(crate) fn expect_start<G: Pictured>(rt: &impl Abort, wanted: &[u8]) {
+    laws::<G>();
+    let drawing = draw::<G>(G::initial());
+    assert!(rt; drawing.as_slice() == wanted);
 }

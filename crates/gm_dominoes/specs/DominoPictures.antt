@@ -1,0 +1,50 @@
+-- What these games look like.
+use Rattle.std.specs.Prelude.{ℕ, List, [], ◌++◌, codes}
+use Rattle.gm_draw.specs.declared.pictured.Style.TheVariants.{Counters}
+use Rattle.gm_draw.specs.Pictures.{PictureSpec, player_moves}
+use Rattle.gm_draw.specs.GameSpecs.{GameSpec}
+use Rattle.gm_patterns.specs.PatternPictures.{pattern_spec, on_square, common_naming}
+use Rattle.gm_dominoes.specs.DominoRules.{domineering_four, domineering_five, cram_four, cram_five}
+use Rattle.gm_dominoes.specs.KaylesRules.{kayles}
+
+-- how dominoes are written
+abbrev pub domino_naming : List ℕ
+domino_naming = common_naming ++ codes "A move is the two cells of a domino.\n"
+
+unfoldable pub domineering_four_picture : PictureSpec
+domineering_four_picture = on_square 4 Counters (codes "Domineering 4 by 4") (codes "player") domino_naming
+
+abbrev pub domineering_four_spec : GameSpec
+domineering_four_spec = pattern_spec 16 domineering_four domineering_four_picture
+
+unfoldable pub domineering_five_picture : PictureSpec
+domineering_five_picture = on_square 5 Counters (codes "Domineering 5 by 5") (codes "player") domino_naming
+
+abbrev pub domineering_five_spec : GameSpec
+domineering_five_spec = pattern_spec 25 domineering_five domineering_five_picture
+
+unfoldable pub cram_four_picture : PictureSpec
+cram_four_picture = on_square 4 Counters (codes "Cram 4 by 4") (codes "player") domino_naming
+
+abbrev pub cram_four_spec : GameSpec
+cram_four_spec = pattern_spec 16 cram_four cram_four_picture
+
+unfoldable pub cram_five_picture : PictureSpec
+cram_five_picture = on_square 5 Counters (codes "Cram 5 by 5") (codes "player") domino_naming
+
+abbrev pub cram_five_spec : GameSpec
+cram_five_spec = pattern_spec 25 cram_five cram_five_picture
+
+unfoldable pub kayles_picture : PictureSpec
+kayles_picture = record {
+  title = codes "Kayles";
+  style = Counters;
+  board = codes "a b c d e f g h i j k l\nA B C D E F G H I J K L";
+  rows = [];
+  points = kayles.names;
+  mover = player_moves;
+  naming = codes "A pin is its letter.\nA position is the pins from a to l: x for a pin\nthat stands, . for one that is taken.\nA move is a pin, or two.\n";
+}
+
+abbrev pub kayles_spec : GameSpec
+kayles_spec = pattern_spec 12 kayles kayles_picture
