@@ -83,7 +83,7 @@ impl Arrangement {
 /// Returns the mask of the opponent's pieces on the cells without the mover's pieces, where these cells are numbered from 0 in ascending order.
 #[tactic(auto, using(crate::proofs::PackSteps::packing, crate::proofs::PackSteps::pack_turn))]
 #[inline(always)]
-fn pack(cells: u32, mine: u32, theirs: u32) -> u32
+pub fn pack(cells: u32, mine: u32, theirs: u32) -> u32
     requires cells { cells ≤ 32 }
     requires mine { mine < 2 ^ cells }
     requires theirs { theirs < 2 ^ cells }
@@ -105,7 +105,7 @@ fn pack(cells: u32, mine: u32, theirs: u32) -> u32
 
 /// Returns the mask of the opponent's pieces on all cells, from their mask on the cells without the mover's pieces.
 #[tactic(auto, using(crate::proofs::PackSteps::spreading))]
-fn spread(cells: u32, mine: u32, packed: u32) -> u32
+pub fn spread(cells: u32, mine: u32, packed: u32) -> u32
     requires cells { cells ≤ 32 }
     requires mine { mine < 2 ^ cells }
     requires packed { packed < 2 ^ (cells - count_ones mine) }

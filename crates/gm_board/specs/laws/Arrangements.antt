@@ -44,7 +44,8 @@ their_bits_merge (false ∷ ms) [] e = absurd (omega (arith, members_le ms))
 their_bits_merge (false ∷ ms) (true ∷ ts) e = ap (λ (bs : List Bool). true ∷ bs) (their_bits_merge ms ts (omega arith))
 their_bits_merge (false ∷ ms) (false ∷ ts) e = ap (λ (bs : List Bool). false ∷ bs) (their_bits_merge ms ts (omega arith))
 
-two_digits : (a n b w : ℕ) → a < n → b < w → a * w + b < n * w
+-- a number of two digits is below that of their ranges
+pub two_digits : (a n b w : ℕ) → a < n → b < w → a * w + b < n * w
 two_digits a n b w l k = let h : suc a * w ≤ n * w = mul-le-mul_right w l in omega arith
 
 -- a product above a number has no factor 0

@@ -1,0 +1,5 @@
+pub mod FewerRows
+pub mod ColumnSteps
+pub mod FilledSteps
+pub mod NumberingSteps
+pub mod StandingSteps

@@ -1,0 +1,6 @@
+-- What follows from the definitions.
+pub mod HeightRanks
+pub mod Sums
+pub mod Columns
+pub mod StackedBoards
+pub mod Mirrors
