@@ -1,26 +1,18 @@
 """What can be said of a page without a browser: its parts, its bytes, and that it names no other file."""
 import html.parser
-import os
 import re
 
-from lib.paths import ROOT
+from lib.viewer import SCRIPT, texts
 
-SOURCES = os.path.join(ROOT, "crates/gm_page/src")
 NAMESPACES = {"http://www.w3.org/1999/xhtml", "http://www.w3.org/2000/svg"}
 POLICY = b"""default-src 'none'; style-src 'unsafe-inline'; script-src 'unsafe-inline' 'wasm-unsafe-eval'; worker-src blob:; img-src data:; base-uri 'none';
   form-action 'none'"""
 ASKS = rb"\bsrc\s*=|url\(|\bfetch\b|\bimport\b|@font-face|XMLHttp|WebSocket|EventSource|sendBeacon|\beval\b|innerHTML"
 
-
-def constants(name):
-    """The texts of the raw strings of a file of the library."""
-    with open(os.path.join(SOURCES, f"{name}.rt"), "rb") as it:
-        return re.findall(rb'(?s)br##"(.*?)"##;', it.read())
-
-
-FRONT = b"".join(constants("front"))
-VIEWER = b"".join(constants(f"viewer_{name}")[0] for name in ("asking", "boards", "playing", "choosing", "drawing"))
-BETWEEN = constants("engine")[0]
+TEXTS = {name: text.encode() for name, text in texts().items()}
+FRONT = b"".join(TEXTS[name] for name in ("OPENING", "STYLE", "PARTS"))
+VIEWER = b"".join(TEXTS[name] for name, _, _ in SCRIPT)
+BETWEEN = TEXTS["BETWEEN"]
 
 
 def halves(page):

@@ -1,0 +1,98 @@
+"""The viewer of pages, as files that an editor reads: tools/web/viewer. gm_page has their texts as constants, which `tools/docs --write` makes of them.
+page.html and sheet.html are cut at their marks '<!-- here: .. -->', where the library puts what differs from page to page."""
+import os
+import re
+import shutil
+import subprocess
+from collections.abc import Iterator
+
+from lib.paths import ROOT, TOOLS
+
+FOLDER = os.path.join(TOOLS, "web/viewer")
+SOURCES = os.path.join(ROOT, "crates/gm_page/src")
+
+# The parts of the script, in the order in which a page has them: the constant, its module, and its files.
+SCRIPT = (
+    ("ASKING", "viewer_asking", ("lines.js", "games.js", "asking.js")),
+    ("BOARDS", "viewer_boards", ("boards.js",)),
+    ("PLAYING", "viewer_playing", ("playing.js",)),
+    ("CHOOSING", "viewer_choosing", ("choosing.js",)),
+    ("DRAWING", "viewer_drawing", ("drawing.js",)),
+)
+PAGE = {"OPENING": "front", "STYLE": "front", "PARTS": "front", "BETWEEN": "engine"}
+SHEET = ("SHEET_FRONT", "SHEET_DIAGRAMS", "SHEET_SOLUTIONS", "SHEET_BACK")
+
+# Each constant with its module.
+MODULES = PAGE | {name: module for name, module, _ in SCRIPT} | {name: "parts" for name in SHEET}
+
+# The most columns of a line of Rattle's layout.
+COLUMNS = 100
+
+
+def read(path: str) -> str:
+    with open(path, encoding="utf-8", newline="") as it:
+        return it.read()
+
+
+def text_of(name: str) -> str:
+    return read(os.path.join(FOLDER, name))
+
+
+def cut(name: str) -> list[str]:
+    """The texts between the marks of a file."""
+    return re.split(r"<!-- here: [^>]+ -->\n?", text_of(name))
+
+
+def texts() -> dict[str, str]:
+    """The text of each constant."""
+    opening, parts, between, before, after = cut("page.html")
+    found = {"OPENING": opening, "STYLE": text_of("style.css"), "PARTS": parts, "BETWEEN": between}
+    found |= {name: "".join(text_of(file) for file in files) for name, _, files in SCRIPT}
+    found["ASKING"] = before + found["ASKING"]
+    found["DRAWING"] += after
+    return found | dict(zip(SHEET, cut("sheet.html")))
+
+
+def with_text(source: str, name: str, text: str) -> str:
+    """A module with this text as its constant."""
+    head = f"pub const {name}: &[u8] ="
+    first = f' br##"{text}'.split("\n", 1)[0]
+    space = " " if len(head + first) <= COLUMNS else "\n    "
+    pieces = re.split(rf'(?s){re.escape(head)}\s+br##".*?"##;', source)
+    if len(pieces) != 2:
+        raise ValueError(f"gm_page has no constant {name}")
+    return f'{head}{space}br##"{text}"##;'.join(pieces)
+
+
+def modules() -> dict[str, str]:
+    """The modules with constants, by their paths, as the files of the viewer want them."""
+    made: dict[str, str] = {}
+    for name, text in texts().items():
+        path = os.path.join(SOURCES, f"{MODULES[name]}.rt")
+        made[path] = with_text(made.get(path) or read(path), name, text)
+    return made
+
+
+def write_modules() -> None:
+    for path, text in modules().items():
+        if read(path) != text:
+            with open(path, "w", encoding="utf-8", newline="") as it:
+                it.write(text)
+
+
+def bad_scripts() -> Iterator[str]:
+    """The scripts that node can't read, where it is."""
+    if shutil.which("node"):
+        for file in sorted(os.listdir(FOLDER)):
+            if file.endswith(".js"):
+                ran = subprocess.run(["node", "--check", os.path.join(FOLDER, file)], capture_output=True, text=True, check=False)
+                if ran.returncode:
+                    yield f"tools/web/viewer/{file}: {ran.stderr.strip().splitlines()[-1]}"
+
+
+def faults() -> Iterator[str]:
+    """What is wrong with the viewer: a module that differs from its files, a script that node can't read."""
+    for path, text in modules().items():
+        if read(path) != text:
+            yield f"{os.path.relpath(path, ROOT)} differs from tools/web/viewer: tools/docs --write"
+    yield from bad_scripts()

@@ -1,0 +1,170 @@
+// ---- A board, from its drawing, in which capital letters are the places of the bytes of a position's text. A column of
+// the drawing is one unit wide, a row two units high. Without capitals the points are in two rows.
+const UNIT = 20;
+function boardOf(of, small = false) {
+  const places = [], net = svg("g"), under = svg("g");
+  const inRow = !/[A-Z]/.test(of.board), crossed = of.board.includes("+"), netted = !crossed && of.board.includes("-");
+  const width = crossed || netted ? 4 * UNIT : 2 * UNIT, radius = width * .34;
+  const label = (x, y, text) => under.append(svg("text", { class: "name", x, y }, text));
+  // All strokes are one path, so that none is painted twice.
+  let ways = "";
+  const stroke = (x, y, dx, dy) => { ways += `M${x - dx * UNIT} ${y - dy * UNIT}l${2 * dx * UNIT} ${2 * dy * UNIT}`; };
+  const strokes = { "-": [[1, 0]], "|": [[0, 2]], "/": [[2, -2]], "\\": [[2, 2]], "+": [[1, 0], [0, 2]] };
+  const half = Math.ceil(of.points.length / 2);
+  if (inRow) for (const k of of.points.keys()) places.push({ x: 2 * UNIT * (k % half), y: 4 * UNIT * Math.floor(k / half) });
+  else of.board.split("\n").forEach((text, row) => [...text].forEach((byte, column) => {
+    const x = UNIT * column, y = 2 * UNIT * row;
+    if (/[A-Z]/.test(byte)) places[squared(of) ? places.length : byte.charCodeAt(0) - 65] = { x, y };
+    else if (strokes[byte]) for (const [dx, dy] of strokes[byte]) stroke(x, y, dx, dy);
+    else if (byte !== " ") label(column ? x : UNIT * text.search(/[A-Z]/) - width / 2 - 15, y, byte);
+  }));
+  net.append(svg("path", { class: "net", d: ways }));
+  // Where rows and columns have names, points have none of their own.
+  const lettered = !inRow && under.querySelector("text") !== null;
+  for (const [k, { x, y }] of places.entries()) {
+    const height = inRow ? 2 * width : width;
+    if (netted) under.append(svg("circle", { class: "point", cx: x, cy: y, r: lettered ? 6 : radius }));
+    else if (!crossed) {
+      const dark = squared(of) && (x + y) / (2 * UNIT) % 2 === 0;
+      net.append(svg("rect", { class: dark ? "cell dark" : "cell", x: x - width / 2, y: y - width / 2, width, height }));
+    }
+    if (!lettered) label(x, y, of.points[k]);
+  }
+  const xs = places.map(place => place.x), ys = places.map(place => place.y), edge = lettered && !small ? 30 : 6;
+  const left = Math.min(...xs) - width / 2 - edge, right = Math.max(...xs) + width / 2 + 6;
+  const top = Math.min(...ys) - width / 2 - edge, foot = Math.max(...ys) + (inRow ? 1.5 : .5) * width + 6;
+  return { of, places, net, under, inRow, crossed, netted, width, radius, box: [left, top, right - left, foot - top].join(" ") };
+}
+
+// ---- Men and values.
+// A man of the first or the second side, or of neither if there is only one kind of men.
+function man({ of, crossed }, who, x, y, r, letter = of.men.at(-who)) {
+  if (crossed && who) return [svg("circle", { class: "stroke", cx: x, cy: y, r })];
+  if (crossed) return [svg("path", { class: "stroke", d: `M${x - r} ${y - r}l${2 * r} ${2 * r}M${x - r} ${y + r}l${2 * r} ${-2 * r}` })];
+  const disc = colour => svg("circle", { class: "man " + colour, cx: x, cy: y, r });
+  if (of.men.length < 2) return [disc("plain")];
+  if (!of.swap) return [disc(who ? "black" : "white"), svg("text", { class: "letter", x, y, "font-size": r }, letter)];
+  return who ? [disc("white"), svg("circle", { class: "ring", cx: x, cy: y, r: r * .55 })] : [disc("black")];
+}
+// The letter of the man on the place k of a position.
+function letterIn(of, text, k) {
+  return squared(of) ? (text.split(" ").find(word => word.length === 3 && word.endsWith(of.points[k])) ?? " ")[0] : text[k];
+}
+// The side whose man is on the place k of a position: 0, 1 or -1. If sides swap, the first kind of men is that of the side to move. On a board of chess the last
+// kind is that of the second side.
+function ownerIn({ of, inRow }, text, who, k) {
+  const kind = inRow ? -1 : of.men.indexOf(letterIn(of, text, k));
+  if (squared(of) && kind >= 0) return kind < of.men.length - 1 ? 0 : 1;
+  return kind < 0 || !of.swap || who === 0 ? kind : 1 - kind;
+}
+// A small drawing of a game: its board with the first position.
+function drawing(of) {
+  const b = boardOf(of, true), men = svg("g");
+  b.places.forEach(({ x, y }, k) => {
+    const who = ownerIn(b, of.start, sideOf(of, of.start, 0), k);
+    if (who >= 0) men.append(...man(b, who, x, y, b.crossed ? b.radius * .8 : b.radius, squared(of) ? letterIn(of, of.start, k) : undefined));
+    if (b.inRow && of.points[k] === of.start) men.append(svg("rect", { class: "here", x: x - 15, y: y - 15, width: 30, height: 30, rx: 6 }));
+  });
+  // On an empty board of crosses and rings one of each shows what is played.
+  if (b.crossed) men.append(...man(b, 0, b.places[4].x, b.places[4].y, b.radius * .8), ...man(b, 1, b.places[2].x, b.places[2].y, b.radius * .8));
+  b.under.querySelectorAll("text").forEach(text => { if (!b.inRow) text.remove(); });
+  return svg("svg", { viewBox: b.box, "aria-hidden": "true" }, b.net, b.under, men);
+}
+let board = null;
+function swatch(who) {
+  if (game.men.length < 2) return "";
+  return svg("svg", { class: "swatch", viewBox: "-12 -12 24 24", "aria-hidden": "true" }, ...man(board, who, 0, 0, board.crossed ? 8 : 10));
+}
+const pill = value => html("span", { class: "value " + word(value) }, value);
+function badge(value, x, y, size) {
+  const name = word(value)[0].toUpperCase() + (value === "draw" ? "" : number(value)), w = size * (.6 + .65 * name.length);
+  return svg("g", { class: "badge " + word(value) },
+    svg("rect", { x: x - w / 2, y: y - size * .7, width: w, height: size * 1.4, rx: size * .4 }),
+    svg("text", { x, y, "font-size": size }, name));
+}
+
+// ---- Places.
+const last = svg("g", { class: "mark" }), hint = svg("g", { class: "mark hint" });
+let dragged = null;
+function layBoard() {
+  board = boardOf(game);
+  for (const [k, place] of board.places.entries()) {
+    const g = place.g = svg("g");
+    g.onclick = () => press(k);
+    g.onkeydown = e => { if (e.key === "Enter" || e.key === " ") { e.preventDefault(); press(k); } };
+    // On a touch screen the pressed element would keep the pointer, and a drag would end on its first place.
+    g.onpointerdown = e => { e.target.releasePointerCapture(e.pointerId); dragged = k; };
+    g.onpointerup = () => { if (dragged !== null && dragged !== k) { picked = dragged; press(k); } };
+  }
+  $("board").replaceChildren(board.net, last, hint, board.under, ...board.places.map(place => place.g));
+  $("board").setAttribute("viewBox", board.box);
+  // If moves are drags, the board does not scroll the page.
+  $("board").style.touchAction = game.men.length === 1 ? "none" : "manipulation";
+}
+addEventListener("pointerup", () => { dragged = null; });
+const letterAt = k => squared(game) ? letterIn(game, edited ?? textAt(at), k) : undefined;
+const owner = k => edited === null ? ownerIn(board, textAt(at), side(at), k) : ownerIn(board, edited, 0, k);
+// The moves that a press on the place k is about.
+function movesAt(k) {
+  if (edited !== null) return [];
+  return moves.filter(m => m.ends.includes(k) && (picked === null || (k === picked ? m.ends.length === 1 : m.ends.includes(picked))));
+}
+// The name of a place, with its man and the worth of a press on it.
+function nameOf(k, about) {
+  const who = owner(k), what = board.inRow ? "" : who < 0 ? "empty" : game.men.length < 2 ? "counter" : game.sides[who] + (squared(game) ? " " + letterAt(k) : "");
+  return [game.points[k], what, k === picked ? "chosen" : hidden || !about.length ? "" : about[0].worth].filter(Boolean).join(", ");
+}
+function drawPlace({ x, y, g }, k) {
+  const { inRow, crossed, netted, width, radius } = board;
+  const half = width / 2 - 2, about = movesAt(k), who = owner(k), live = about.length > 0 || k === picked || edited !== null;
+  g.replaceChildren(...(who < 0 ? [] : man(board, who, x, y, crossed ? radius * .8 : radius, letterAt(k))));
+  if (inRow && game.points[k] === (edited ?? textAt(at))) g.append(svg("rect", { class: "here", x: x - 15, y: y - 15, width: 30, height: 30, rx: 6 }));
+  g.append(svg("rect", { class: "hit", x: x - half, y: y - half, width: 2 * half, height: inRow ? 4 * half : 2 * half, rx: 6 }));
+  const size = crossed || netted ? 17 : inRow ? 14 : 12;
+  if (about.length && !hidden) g.append(badge(about[0].worth, x, inRow ? y + width : who < 0 ? y : y + radius, size));
+  g.setAttribute("class", (live ? "live" : "") + (k === picked ? " picked" : ""));
+  g.setAttribute("tabindex", k === cursor ? 0 : -1);
+  g.setAttribute("role", "button");
+  g.setAttribute("aria-disabled", !live);
+  g.setAttribute("aria-label", nameOf(k, about));
+}
+function drawPlaces() {
+  mark(last, at && edited === null && !board.inRow && movesOf(line[at - 1].row).find(m => m.name === line[at].name));
+  board.places.forEach(drawPlace);
+}
+// Marks a move on the board, or none.
+function mark(where, m) {
+  const a = m && board.places[m.ends[0]], b = m && board.places[m.ends.at(-1)];
+  if (!a || !b) where.replaceChildren();
+  else if (a === b) where.replaceChildren(svg("circle", { cx: a.x, cy: a.y, r: board.radius + 4 }));
+  else where.replaceChildren(svg("line", { x1: a.x, y1: a.y, x2: b.x, y2: b.y }));
+}
+// A press on a place: a move of one place, or the first or the second end of a move.
+function press(k) {
+  cursor = k;
+  if (edited !== null) return change(k);
+  const about = movesAt(k);
+  if (about.length && (picked !== null || about.every(m => m.ends.length === 1))) return play(about[0]);
+  const before = picked;
+  picked = null;
+  if (k !== before && movesAt(k).length) picked = k;
+  drawPlaces();
+}
+
+// The place that an arrow key leads to: the nearest one in its direction, or the same.
+function beside(k, [dx, dy]) {
+  let found = k, least = Infinity;
+  board.places.forEach((to, j) => {
+    const x = to.x - board.places[k].x, y = to.y - board.places[k].y, ahead = x * dx + y * dy, aside = Math.abs(x * dy) + Math.abs(y * dx);
+    if (ahead > 0 && aside <= 2 * ahead && ahead + 2 * aside < least) { found = j; least = ahead + 2 * aside; }
+  });
+  return found;
+}
+function steer(k, direction) {
+  const to = beside(k, direction);
+  board.places[cursor].g.setAttribute("tabindex", -1);
+  cursor = to;
+  board.places[to].g.setAttribute("tabindex", 0);
+  board.places[to].g.focus();
+}
+
