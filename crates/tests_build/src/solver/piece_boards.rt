@@ -205,7 +205,9 @@ fn at_first_level<G: Shared, R: Runtime>(rt: &R, counter: u32, new: u64) {
     };
     let tiles = must(rt, context.begin::<G>(0));
     let runs = must(rt, fresh(alloc, &tiles));
-    let (level, _last) = must(rt, next_level(alloc, &tables, &tiles, &runs));
+    let Ok((level, _last)) = next_level(alloc, &tables, &tiles, &runs) else {
+        panic!(rt; "a call failed");
+    };
     let (shards, cuts) = tiles.into_parts();
     on_brands(rt, cuts, shards, &level, counter, new);
     drop(level);
