@@ -8,12 +8,12 @@ import os
 import re
 import tarfile
 import zipfile
-from typing import Dict, List, Optional
+from typing import Collection, Dict, List, Optional
 
 HERE = os.path.dirname(os.path.abspath(__file__))
 NAME = "gamesman"
 DATE = (1980, 1, 1, 0, 0, 0)
-WHEEL = "Wheel-Version: 1.0\nGenerator: gamesman\nRoot-Is-Purelib: true\nTag: py3-none-any\n"
+ANY = "py3-none-any"
 
 
 def read(path: str) -> bytes:
@@ -58,19 +58,33 @@ def record_of(files: Dict[str, bytes], own: str) -> bytes:
     return "".join([*lines, f"{own},,\n"]).encode()
 
 
-def write_wheel(folder: str, files: Dict[str, bytes]) -> str:
-    """Writes a wheel with these files, and returns its name."""
+def wheel(files: Dict[str, bytes], tag: str = ANY, programs: Collection[str] = ()) -> bytes:
+    """Returns a wheel with these files for the machines of a tag, in the order of their names. With programs it is for one kind of machine, and is packed."""
     about = f"{NAME}-{version()}.dist-info"
-    files = {**files, f"{about}/METADATA": metadata(), f"{about}/WHEEL": WHEEL.encode()}
+    head = f"Wheel-Version: 1.0\nGenerator: {NAME}\nRoot-Is-Purelib: {'false' if programs else 'true'}\nTag: {tag}\n"
+    files = dict(sorted({**files, f"{about}/METADATA": metadata(), f"{about}/WHEEL": head.encode()}.items()))
     files[f"{about}/RECORD"] = record_of(files, f"{about}/RECORD")
-    name = f"{NAME}-{version()}-py3-none-any.whl"
-    with zipfile.ZipFile(os.path.join(folder, name), "w", zipfile.ZIP_STORED) as wheel:
+    made = io.BytesIO()
+    with zipfile.ZipFile(made, "w", zipfile.ZIP_DEFLATED if programs else zipfile.ZIP_STORED, compresslevel=9) as archive:
         for path, text in files.items():
             entry = zipfile.ZipInfo(path, DATE)
             entry.create_system = 3
-            entry.external_attr = 0o100644 << 16
-            wheel.writestr(entry, text)
-    return name
+            entry.external_attr = (0o100755 if path in programs else 0o100644) << 16
+            entry.compress_type = archive.compression
+            archive.writestr(entry, text)
+    return made.getvalue()
+
+
+def wheel_name(tag: str = ANY) -> str:
+    """Returns the name of a wheel."""
+    return f"{NAME}-{version()}-{tag}.whl"
+
+
+def write_wheel(folder: str, files: Dict[str, bytes]) -> str:
+    """Writes a wheel with these files, and returns its name."""
+    with open(os.path.join(folder, wheel_name()), "wb") as file:
+        file.write(wheel(files))
+    return wheel_name()
 
 
 def build_wheel(wheel_directory: str, config_settings: Optional[object] = None, metadata_directory: Optional[str] = None) -> str:

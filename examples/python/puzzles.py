@@ -23,8 +23,8 @@ figure { margin: 0; break-inside: avoid } svg { width: 100%; height: auto } h2 {
 
 def puzzles(game: Game, number: int, seed: int) -> List[Position]:
     """Returns some positions that only one move wins, in three moves or more, from quick to long."""
-    words = ["--only-move", "--remoteness", "3..1000", "--min-moves", "2", "--reached", "--random", str(number), "--seed", str(seed)]
-    return sorted(game.find("win", *words), key=lambda it: (it.remoteness, it.text))
+    found = game.find("win", only_move=True, remoteness=(3, 1000), min_moves=2, reached=True, random=number, seed=seed)
+    return sorted(found, key=lambda it: (it.remoteness, it.text))
 
 
 def figure(number: int, puzzle: Position) -> str:

@@ -7,9 +7,12 @@
     win 5 b1
 
 `Game` asks one process of the program, `Folder` reads the files that the program writes. Only Python's standard library is needed."""
+from .answers import Move, Place, Progress, Summary, value_text
 from .errors import BadFile, Failed, GamesmanError, NoSuchGame, NoSuchMove, NoSuchPlace, NoSuchPosition, ProgramMissing, Stopped
 from .folder import Folder, Record, Tier
-from .game import Game, Move, Place, Position, Progress, Summary, games, value_text
+from .game import Found, Game, games
+from .notebook import Page
+from .position import Position, Reply
 
 __version__ = "1.1.0"
 
@@ -17,6 +20,7 @@ __all__ = [
     "BadFile",
     "Failed",
     "Folder",
+    "Found",
     "Game",
     "GamesmanError",
     "Move",
@@ -24,11 +28,13 @@ __all__ = [
     "NoSuchMove",
     "NoSuchPlace",
     "NoSuchPosition",
+    "Page",
     "Place",
     "Position",
     "ProgramMissing",
     "Progress",
     "Record",
+    "Reply",
     "Stopped",
     "Summary",
     "Tier",

@@ -1,4 +1,5 @@
 """What can go wrong. Each error is a GamesmanError."""
+from typing import Any, Tuple
 
 
 class GamesmanError(Exception):
@@ -30,12 +31,19 @@ class BadFile(GamesmanError, ValueError):
 
 
 class Failed(GamesmanError):
-    """A command of the program failed. `fault` is what the program wrote, `status` its exit status (negative: the signal that ended it)."""
+    """A command of the program failed. Its text has the fault, and the reason where one is known."""
 
-    def __init__(self, fault: str, status: int) -> None:
-        super().__init__(fault)
+    def __init__(self, fault: str, status: int, reason: str = "") -> None:
+        super().__init__(f"{fault}: {reason}" if reason else fault)
         self.fault = fault
+        """What the program wrote to standard error, without its name; or how it ended, if it wrote nothing."""
         self.status = status
+        """The exit status; if negative, the signal that ended the program."""
+        self.reason = reason
+        """Why the fault came, if that is known: the command line of a bad line, a folder that is not there, further lines of the program."""
+
+    def __reduce__(self) -> Tuple[Any, ...]:
+        return type(self), (self.fault, self.status, self.reason)
 
 
 class Stopped(Failed):

@@ -1,26 +1,22 @@
-"""Games, their positions and moves, by a running `gamesman ask`."""
+"""Games: their positions, by a running `gamesman ask`, and what other commands say of them."""
+import csv
 import json
 import re
 import weakref
-from dataclasses import dataclass
-from functools import partial
+from collections import Counter
 from types import TracebackType
-from typing import Any, Callable, Dict, Iterable, Iterator, List, NamedTuple, Optional, Tuple, Type, Union
+from typing import Any, Callable, Counter as Counts, Dict, Iterable, Iterator, List, Optional, Tuple, Type, Union
 
-from .errors import Failed, NoSuchGame, NoSuchMove, NoSuchPlace, NoSuchPosition
+from .answers import ERROR, Place, Progress, Summary
+from .errors import Failed, NoSuchGame, NoSuchPlace, NoSuchPosition
+from .folder import VALUES, Record
+from .notebook import Page
+from .position import Position
 from .process import Asker, program_of, run, run_with_progress
 
 # What can be the text of a position: visible ASCII characters and spaces. In place of any other text the program is asked a line that is none.
 PLAIN = re.compile(r"[ -~]{0,1024}")
 NOT_PLAIN = b"\xff"
-
-# How the answer to a text that is no position begins.
-ERROR = '{"error":'
-
-
-def value_text(value: str, remoteness: int) -> str:
-    """Writes a value as the program does: `win in 5`, or `draw`."""
-    return value if value == "draw" else f"{value} in {remoteness}"
 
 
 def games(program: Optional[str] = None) -> List[str]:
@@ -28,189 +24,24 @@ def games(program: Optional[str] = None) -> List[str]:
     return run([program_of(program), "list", "--all"]).split()
 
 
-class Move(NamedTuple):
-    """A move, and what it is worth to the side that makes it."""
-
-    text: str
-    """The move, as `a1-c3`."""
-    value: str
-    """`win`, `tie`, `draw` or `lose`, for the side that makes the move."""
-    remoteness: int
-    """The number of moves to the end, this one among them. 0 for a draw."""
-    result: str
-    """The text of the position that the move leads to, where the other side is to move."""
-
-    def __str__(self) -> str:
-        return self.text
+def words_of(**options: Any) -> List[str]:
+    """Returns the words of a command line for options: a flag that is set, a number, or a range as a pair. What is None or False has no word."""
+    words: List[str] = []
+    for name, given in options.items():
+        if given is None or given is False:
+            continue
+        words.append(f"--{name.replace('_', '-')}")
+        if given is not True:
+            words.append("{}..{}".format(*given) if isinstance(given, tuple) else str(given))
+    return words
 
 
-# What follows the moves of an answer (docs/FORMATS.md).
-POSITION = re.compile(r'\],"position":"([^"\\]*)","positionValue":"(\w+)","remoteness":(\d+)\}')
-
-# Cut at its quotation marks, an answer has 3 pieces, then 20 for each move, of which 4 are read, and 10 about the position. Reading them takes half the
-# time of a JSON reader, which makes a dict of each move.
-HEAD, PIECES, TAIL = 3, 20, 10
-TEXT, VALUE, RESULT, REMOTENESS = 5, 9, 13, 22
-
-# Makes a move of its fields without a call of Python code.
-new_move: Any = partial(tuple.__new__, Move)
-
-
-class Numbers(Dict[str, int]):
-    """The numbers in pieces such as `:7},{`. Each piece is read once."""
-
-    def __missing__(self, piece: str) -> int:
-        number = self[piece] = int(piece.strip(":,{}[]"))
-        return number
-
-
-number_in = Numbers().__getitem__
-
-
-def moves_of(answer: str) -> List[Move]:
-    """Reads the moves of an answer. An answer with an escape is left to the JSON reader."""
-    pieces = answer.split('"')
-    if "\\" in answer or len(pieces) % PIECES != HEAD + TAIL:
-        members = json.loads(answer)["moves"]
-        return [Move(it["move"], it["moveValue"], it["moveRemoteness"], it["position"]) for it in members]
-    texts = pieces[TEXT:-TAIL:PIECES]
-    numbers = map(number_in, pieces[REMOTENESS::PIECES])
-    return list(map(new_move, zip(texts, pieces[VALUE::PIECES], numbers, pieces[RESULT::PIECES])))
-
-
-def value_of(answer: str) -> Tuple[str, str, int]:
-    """Reads the text of an answer's position, its value and its remoteness. A text with an escape is left to the JSON reader."""
-    found = POSITION.match(answer, answer.rfind('],"position":'))
-    if found:
-        return found[1], found[2], int(found[3])
-    members = json.loads(answer)
-    return members["position"], members["positionValue"], members["remoteness"]
-
-
-@dataclass(frozen=True)
-class Place:
-    """Where a position stands in the tables."""
-
-    tier: int
-    """The tier of the position."""
-    index: int
-    """Its index in the tier."""
-    is_canonical: bool
-    """Whether the position has the record, or a symmetric one has it."""
-    canonical_index: int
-    """The index of the canonical position, which has the record."""
-    canonical: str
-    """The text of the canonical position."""
-
-
-class Summary(NamedTuple):
-    """What `Game.solve` did, as the last line of `gamesman solve` says it."""
-
-    solved: int
-    """Tiers that were solved."""
-    reused: int
-    """Tiers whose files were there and right."""
-    migrated: int
-    """Tiers whose files were of the old version and were written again."""
-    deliveries: int
-    """Values that were delivered to parents."""
-    by_hand: int
-    """Those of them that the coordinator delivered."""
-
-
-class Progress(NamedTuple):
-    """How far `Game.solve` is."""
-
-    tier: int
-    """The tier that is being solved."""
-    number: int
-    """Its number in the order in which tiers are solved, from 1 on."""
-    tiers: int
-    """How many tiers there are."""
-    stage: str
-    """What is done with the tier, as `check` or `ties, level 4`."""
-    deliveries: int
-    """Values that were delivered so far."""
-
-
-class Position:
-    """A legal position with its true value. Two positions are equal if they are of games with one name and have one text."""
-
-    __slots__ = ("game", "text", "value", "remoteness", "_answer")
-
-    game: "Game"
-    text: str
-    value: str
-    remoteness: int
-
-    def __init__(self, game: "Game", answer: str) -> None:
-        self.game = game
-        self.text, self.value, self.remoteness = value_of(answer)
-        self._answer = answer
-
-    def __repr__(self) -> str:
-        return f"<{self.game.name} {self.text!r}: {value_text(self.value, self.remoteness)}>"
-
-    def __str__(self) -> str:
-        return self.text
-
-    def __eq__(self, other: object) -> bool:
-        if not isinstance(other, Position):
-            return NotImplemented
-        return (self.game.name, self.text) == (other.game.name, other.text)
-
-    def __hash__(self) -> int:
-        return hash((self.game.name, self.text))
-
-    @property
-    def is_over(self) -> bool:
-        """Whether the game has ended: there is no move."""
-        return not self.moves()
-
-    def moves(self, distinct: bool = False) -> List[Move]:
-        """Returns the moves, the best first: quick wins, then ties, draws, and losses, the slowest first.
-
-        With `distinct`, of moves whose results are the same but for symmetry only the first."""
-        return moves_of(self.game._line(self.text, "--distinct") if distinct else self._answer)
-
-    def best_move(self) -> Optional[Move]:
-        """Returns the move that the program plays, the first of `moves`, or None where the game has ended."""
-        return next(iter(self.moves()), None)
-
-    def play(self, move: Union[str, Move]) -> "Position":
-        """Returns the position after a move, for the other side to move."""
-        text = move.text if isinstance(move, Move) else move
-        for it in self.moves():
-            if it.text == text:
-                return self.game.position(it.result)
-        raise NoSuchMove(f"{text!r} is no move of {self.text!r} in {self.game.name}")
-
-    def best_line(self) -> List[str]:
-        """Returns the moves of the line of best play: to the end of the game, or from a draw to a position that comes again."""
-        found: List[str] = self.game._asked(self.text, "--values", "--with", "best")["best"]
-        return found
-
-    def parents(self) -> List["Position"]:
-        """Returns the canonical positions from which a move leads here, or to a position that is symmetric to this one."""
-        texts: List[str] = self.game._asked(self.text, "--values", "--with", "parents")["parents"]
-        return list(self.game.positions(texts))
-
-    def symmetric(self) -> int:
-        """Returns how many legal positions are symmetric to this one, itself among them. Each index of the tier is looked at."""
-        number: int = self.game._asked(self.text, "--values", "--with", "symmetric")["symmetric"]
-        return number
-
-    def place(self) -> Place:
-        """Returns where the position stands in the tables."""
-        return self.game.locate(self.text)
-
-    def drawing(self) -> str:
-        """Returns the board as text, with its rows and columns named, without the value."""
-        return self.game.run("show", self.text).rpartition("\n")[0].rpartition("\n")[0]
-
-    def svg(self) -> str:
-        """Returns a diagram of the board without its value, as an SVG document."""
-        return self.game.run("show", self.text, "--svg", "--no-value")
+def bytes_of(text: str) -> bytes:
+    """Returns the line that asks for a text."""
+    try:
+        return text.encode() if PLAIN.fullmatch(text) else NOT_PLAIN
+    except TypeError:
+        raise TypeError(f"the text of a position is a str, and not {type(text).__name__}") from None
 
 
 class Game:
@@ -220,7 +51,8 @@ class Game:
     the memory of the process. `program` is the program to start, else that of the environment variable GAMESMAN, else `gamesman` on the path.
 
     What `Position.parents`, `best_line`, `symmetric` and `moves(distinct=True)` ask is asked of a process of its own each, from the first such call on.
-    `close`, or the end of a `with`, ends the processes."""
+    `close`, or the end of a `with`, ends the processes. A copy of a game is the game itself. A pickled one is a name, a folder and a program: in a process those
+    that are read from pickles are one game, if these are the same."""
 
     def __init__(self, name: str, folder: Optional[str] = None, program: Optional[str] = None) -> None:
         self.name = name
@@ -241,6 +73,15 @@ class Game:
     def __repr__(self) -> str:
         return f"Game({self.name!r})"
 
+    def __copy__(self) -> "Game":
+        return self
+
+    def __deepcopy__(self, memo: Dict[int, Any]) -> "Game":
+        return self
+
+    def __reduce__(self) -> Tuple[Any, ...]:
+        return unpickled, (self.name, self.folder, self.program)
+
     def close(self) -> None:
         """Ends the processes. A later question starts new ones."""
         close_all(self._askers)
@@ -259,7 +100,7 @@ class Game:
         The first text that is none raises NoSuchPosition."""
         for text, line in self._lines(texts, ()):
             if line.startswith(ERROR):
-                raise NoSuchPosition(f"{text!r} is no position of {self.name}")
+                raise self._none(text)
             yield Position(self, line)
 
     @property
@@ -272,14 +113,7 @@ class Game:
 
     def locate(self, text: str) -> Place:
         """Returns where a position stands in the tables. No table is needed for it."""
-        if not PLAIN.fullmatch(text):
-            raise NoSuchPosition(f"{text!r} is no position of {self.name}")
-        try:
-            tier, index, word, least, canonical = run([self.program, "locate", self.name, "--", text])[:-1].split("\t")
-        except Failed as why:
-            if why.fault != "no such position":
-                raise
-            raise NoSuchPosition(f"{text!r} is no position of {self.name}") from None
+        tier, index, word, least, canonical = self._about(text, "locate", self.name)[:-1].split("\t")
         return Place(int(tier), int(index), word == "canonical", int(least), canonical)
 
     def at(self, tier: int, index: int) -> Position:
@@ -294,10 +128,59 @@ class Game:
             raise NoSuchPlace(f"{self.name}: {why.fault}") from None
         return self.position(text)
 
-    def find(self, value: str, *words: str) -> Iterator[Position]:
-        """Returns the canonical positions of a value that `gamesman find` finds with these further words, as `"--remoteness", "11"`."""
-        found = self.run("find", "--value", value, *words, "--json").splitlines()
-        return self.positions(json.loads(line)["position"] for line in found)
+    def find(
+        self,
+        value: str,
+        *,
+        remoteness: Union[int, Tuple[int, int], None] = None,
+        tier: Optional[int] = None,
+        only_move: bool = False,
+        only_fastest: bool = False,
+        whole_line: bool = False,
+        distinct: bool = False,
+        min_moves: Optional[int] = None,
+        reached: bool = False,
+        limit: Optional[int] = None,
+        random: Optional[int] = None,
+        seed: Optional[int] = None,
+    ) -> "Found":
+        """Returns the canonical positions of a value, tier by tier in the order of solving, by index within a tier. They are gone through once.
+
+        The options are those of `gamesman find`: `remoteness` is a number or a pair, as `(5, 9)`; `only_move`, `only_fastest` and `whole_line` are for puzzles;
+        `random` chooses so many, the same for the same `seed`."""
+        if value not in VALUES.values():
+            raise ValueError(f"a value is win, tie, draw or lose, and not {value!r}")
+        flags = words_of(only_move=only_move, only_fastest=only_fastest, whole_line=whole_line, distinct=distinct, reached=reached)
+        numbers = words_of(remoteness=remoteness, tier=tier, min_moves=min_moves, limit=limit, random=random, seed=seed)
+        return Found(self, ["--value", value, *flags, *numbers])
+
+    def longest(self, limit: Optional[int] = None, reached: bool = False) -> Iterator[Position]:
+        """Returns the longest wins and then the longest losses, so many of each at most."""
+        found = self.run("longest", *words_of(limit=limit, reached=reached)).splitlines()
+        return self.positions(line.partition("\t")[0] for line in found)
+
+    def counts(self, legal: bool = False, reached: bool = False) -> Counts[Record]:
+        """Returns how many canonical positions have each record; with `legal` how many positions; with `reached` of those that can be reached from the start."""
+        return sum(self.counts_by_tier(legal, reached).values(), Counter())
+
+    def counts_by_tier(self, legal: bool = False, reached: bool = False) -> Dict[int, Counts[Record]]:
+        """Returns what `counts` does for each tier by itself, in the order of solving."""
+        found: Dict[int, Counts[Record]] = {}
+        rows = csv.DictReader(self.run("counts", "--by-tier", "--csv", *words_of(legal=legal, reached=reached)).splitlines())
+        for row in rows:
+            of_tier = found.setdefault(int(row["tier"]), Counter())
+            of_tier[Record(row["value"], int(row["remoteness"]))] = int(row["positions"])
+        return found
+
+    def explorer(self, position: Union[str, Position, None] = None, limit: Optional[int] = None, engine: Optional[str] = None) -> Page:
+        """Returns a page for exploring what can be reached from a position (the start, if none is given), with at most `limit` positions.
+
+        With `engine`, a file, the page solves the game by itself."""
+        words = words_of(limit=limit, engine=engine)
+        if position is None:
+            return Page(self.run("page", *words))
+        text = position.text if isinstance(position, Position) else position
+        return Page(self._about(text, "page", self.name, *self._kept(), *words))
 
     def solve(self, folder: Optional[str] = None, progress: Optional[Callable[[Progress], None]] = None, workers: Optional[int] = None) -> Summary:
         """Solves the game into a folder, this game's own where none is named, and returns what was done. Files that are there and right are kept.
@@ -316,8 +199,22 @@ class Game:
         return Summary(*map(int, re.findall(r"\d+", text)))
 
     def run(self, command: str, *words: str) -> str:
-        """Runs another command of the program about this game, over its folder, and returns what it writes: `game.run("counts", "--csv")`."""
-        return run([self.program, command, self.name, *words, *self._kept()])
+        """Runs another command of the program about this game, over its folder, and returns what it writes: `game.run("analyse")`."""
+        return run([self.program, command, self.name, *self._kept(), *words])
+
+    def _about(self, text: str, *words: str) -> str:
+        """Runs a command about a position, and returns what it writes."""
+        if bytes_of(text) is NOT_PLAIN:
+            raise self._none(text)
+        try:
+            return run([self.program, *words, "--", text])
+        except Failed as why:
+            if why.fault != "no such position":
+                raise
+            raise self._none(text) from None
+
+    def _none(self, text: str) -> NoSuchPosition:
+        return NoSuchPosition(f"{text!r} is no position of {self.name}")
 
     def _kept(self) -> List[str]:
         return ["--folder", self.folder, "--read-only"] if self.folder else []
@@ -335,7 +232,7 @@ class Game:
         def lines() -> Iterator[bytes]:
             for text in texts:
                 asked.append(text)
-                yield text.encode() if PLAIN.fullmatch(text) else NOT_PLAIN
+                yield bytes_of(text)
 
         for answers in self._asker(words).ask(lines()):
             some = asked[: len(answers)]
@@ -346,13 +243,40 @@ class Game:
         """Asks for one position by a process with these words, and returns the line that answers it."""
         ((_, line),) = self._lines([text], words)
         if line.startswith(ERROR):
-            raise NoSuchPosition(f"{text!r} is no position of {self.name}")
+            raise self._none(text)
         return line
 
     def _asked(self, text: str, *words: str) -> Dict[str, Any]:
         """Asks for one position by a process with these words, and returns the members of the answer."""
         answer: Dict[str, Any] = json.loads(self._line(text, *words))
         return answer
+
+
+UNPICKLED: "weakref.WeakValueDictionary[Tuple[str, Optional[str], str], Game]" = weakref.WeakValueDictionary()
+
+
+def unpickled(name: str, folder: Optional[str], program: str) -> Game:
+    """Returns the game that a pickle names. All positions of a game share it, and so its processes."""
+    found = UNPICKLED.get((name, folder, program))
+    if found is None:
+        found = UNPICKLED[name, folder, program] = Game(name, folder, program)
+    return found
+
+
+class Found(Iterator[Position]):
+    """The positions that `Game.find` finds."""
+
+    def __init__(self, game: Game, words: List[str]) -> None:
+        self._game, self._words = game, words
+        lines = game.run("find", *words, "--json").splitlines()
+        self._positions = game.positions(json.loads(line)["position"] for line in lines)
+
+    def __next__(self) -> Position:
+        return next(self._positions)
+
+    def sheet(self) -> Page:
+        """Returns a page of all of them, with a diagram of each and its solution to unfold."""
+        return Page(self._game.run("find", *self._words, "--page"))
 
 
 def close_all(askers: Dict[Tuple[str, ...], Asker]) -> None:

@@ -1,11 +1,16 @@
 """Processes of the program: one command to its end, and a running `gamesman ask`."""
 import contextlib
+import csv
+import functools
+import glob
 import os
+import shlex
 import subprocess
 import sys
 import tempfile
 import threading
-from typing import IO, Callable, Iterable, Iterator, List, Optional, Sequence
+import weakref
+from typing import IO, Callable, Iterable, Iterator, List, Optional, Sequence, Tuple
 
 from .errors import Failed, ProgramMissing, Stopped
 
@@ -21,9 +26,20 @@ SET_PIPE_SIZE = 1031
 PATIENCE = 1
 
 
+@functools.lru_cache(maxsize=None)
+def own_program(folder: str) -> Optional[str]:
+    """Returns the program that the wheel of this package brought, if it had one: the list of its files, in the folder of the packages, names it."""
+    for path in glob.glob(os.path.join(glob.escape(folder), "gamesman-*.dist-info", "RECORD")):
+        with open(path, encoding="utf-8", newline="") as file:
+            names = [row[0] for row in csv.reader(file) if row and os.path.basename(row[0]) == "gamesman"]
+        found = (os.path.normpath(os.path.join(folder, name)) for name in names)
+        return next((it for it in found if os.access(it, os.X_OK)), None)
+    return None
+
+
 def program_of(program: Optional[str]) -> str:
-    """Returns the program to start: the given one, or that of the environment variable GAMESMAN, or `gamesman` on the path."""
-    return program or os.environ.get("GAMESMAN") or "gamesman"
+    """Returns the program to start: the given one, or that of the environment variable GAMESMAN, that of the package's own wheel, or `gamesman` on the path."""
+    return program or os.environ.get("GAMESMAN") or own_program(os.path.dirname(os.path.dirname(os.path.abspath(__file__)))) or "gamesman"
 
 
 def started(words: Sequence[str], errors: IO[bytes], has_input: bool) -> "subprocess.Popen[bytes]":
@@ -32,7 +48,12 @@ def started(words: Sequence[str], errors: IO[bytes], has_input: bool) -> "subpro
     try:
         return subprocess.Popen(words, stdin=given, stdout=subprocess.PIPE, stderr=errors, bufsize=-1)
     except OSError as why:
-        raise ProgramMissing(f"{words[0]}: {why.strerror}") from None
+        raise missing(words[0], why) from None
+
+
+def missing(program: str, why: OSError) -> ProgramMissing:
+    """Returns the error that a program can't be started, with how another one is named."""
+    return ProgramMissing(f"{program}: {why.strerror}; the environment variable GAMESMAN or the argument 'program' names the program")
 
 
 def widen(pipe: IO[bytes]) -> None:
@@ -44,13 +65,29 @@ def widen(pipe: IO[bytes]) -> None:
             fcntl.fcntl(pipe, SET_PIPE_SIZE, ROOM)
 
 
-def fault_of(errors: IO[bytes], status: int) -> str:
-    """Returns what an ended process wrote as its fault, or how it ended."""
-    errors.seek(0)
-    said = errors.read().decode("utf-8", "replace").strip()
-    if said:
-        return said[len("gamesman: ") :] if said.startswith("gamesman: ") else said
-    return f"the program was ended by signal {-status}" if status < 0 else f"the program ended with status {status}"
+def fault_of(said: str, status: int, words: Sequence[str]) -> Tuple[str, int, str]:
+    """Returns the fault of a command that failed (the first line that it wrote to standard error, or how it ended), its status, and the reason."""
+    fault, _, rest = said.strip().partition("\n")
+    if not fault:
+        fault = f"the program was ended by signal {-status}" if status < 0 else f"the program ended with status {status}"
+    fault = fault[len("gamesman: ") :] if fault.startswith("gamesman: ") else fault
+    return fault, status, rest.strip() or reason_of(fault, words)
+
+
+def reason_of(fault: str, words: Sequence[str]) -> str:
+    """Returns why a command failed, as far as that is seen from here."""
+    if fault == "bad line":
+        return shlex.join(["gamesman", *words[1:]])
+    if fault.startswith("store failed"):
+        folder = words[3] if words[1] == "solve" else words[words.index("--folder") + 1]
+        return "" if os.path.isdir(folder) else f"there is no folder {folder!r}"
+    return ""
+
+
+def text_of(file: IO[bytes]) -> str:
+    """Returns all that was written to a file."""
+    file.seek(0)
+    return file.read().decode("utf-8", "replace")
 
 
 def run(words: Sequence[str]) -> str:
@@ -64,7 +101,7 @@ def run(words: Sequence[str]) -> str:
             process.wait()
             raise
         if process.returncode:
-            raise Failed(fault_of(errors, process.returncode), process.returncode)
+            raise Failed(*fault_of(text_of(errors), process.returncode, words))
     return text.decode("utf-8")
 
 
@@ -74,7 +111,7 @@ def run_with_progress(words: Sequence[str], heard: Callable[[str], None]) -> str
         try:
             process = subprocess.Popen(words, stdin=subprocess.DEVNULL, stdout=output, stderr=subprocess.PIPE)
         except OSError as why:
-            raise ProgramMissing(f"{words[0]}: {why.strerror}") from None
+            raise missing(words[0], why) from None
         assert process.stderr is not None
         last = ""
         try:
@@ -88,11 +125,8 @@ def run_with_progress(words: Sequence[str], heard: Callable[[str], None]) -> str
             process.wait()
             raise
         if process.returncode:
-            with tempfile.TemporaryFile() as errors:
-                errors.write(last.encode() if last.startswith("gamesman: ") else b"")
-                raise Failed(fault_of(errors, process.returncode), process.returncode)
-        output.seek(0)
-        return output.read().decode("utf-8")
+            raise Failed(*fault_of(last if last.startswith("gamesman: ") else "", process.returncode, words))
+        return text_of(output)
 
 
 class Questions:
@@ -117,6 +151,20 @@ class Asker:
         self._stopped: Optional[Stopped] = None
         self._unread: Optional[Questions] = None
         self._lock = threading.RLock()
+        ASKERS.add(self)
+
+    def forget(self) -> None:
+        """Gives the process up without ending it. A later question starts another one."""
+        self._lock = threading.RLock()
+        process, errors = self._process, self._errors
+        self._process = self._errors = self._unread = self._stopped = None
+        if process:
+            # (so that nobody waits for what is no child of this process)
+            process.returncode = 0
+            for stream in (process.stdin, process.stdout, errors):
+                with contextlib.suppress(OSError):
+                    if stream:
+                        stream.close()
 
     @property
     def process_id(self) -> Optional[int]:
@@ -127,7 +175,7 @@ class Asker:
         """Starts the process, if there is none, and waits until its tables are there."""
         with self._lock:
             if self._stopped:
-                raise Stopped(self._stopped.fault, self._stopped.status)
+                raise Stopped(self._stopped.fault, self._stopped.status, self._stopped.reason)
             if self._process:
                 return
             self._errors = tempfile.TemporaryFile()
@@ -200,7 +248,7 @@ class Asker:
         except subprocess.TimeoutExpired:
             self._process.kill()
             status = self._process.wait()
-        self._stopped = Stopped(fault_of(self._errors, status), status)
+        self._stopped = Stopped(*fault_of(text_of(self._errors), status, self._words))
         self.close()
         return self._stopped
 
@@ -221,6 +269,19 @@ class Asker:
             if self._errors:
                 self._errors.close()
                 self._errors = None
+
+
+ASKERS: "weakref.WeakSet[Asker]" = weakref.WeakSet()
+
+
+def forget_all() -> None:
+    """Gives up, in a process that was forked, the processes of its parent, which go on to answer the parent."""
+    for asker in list(ASKERS):
+        asker.forget()
+
+
+if hasattr(os, "register_at_fork"):
+    os.register_at_fork(after_in_child=forget_all)
 
 
 def chunks(lines: Iterable[bytes]) -> Iterator[List[bytes]]:

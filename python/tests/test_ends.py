@@ -1,4 +1,5 @@
 """Programs that are missing, that fail, that are killed, and games that are closed: each is an error at once."""
+import multiprocessing
 import os
 import signal
 import subprocess
@@ -6,11 +7,11 @@ import sys
 import threading
 import time
 import unittest
-from typing import Any, Iterator
+from typing import Any, Iterator, List, Tuple, Union
 
 import gamesman
 from common import WithRoom, solved
-from gamesman import Failed, Folder, Game, NoSuchGame, NoSuchMove, ProgramMissing, Stopped, games
+from gamesman import Failed, Folder, Game, NoSuchGame, NoSuchMove, Position, ProgramMissing, Stopped, games
 from lib.paths import GAMESMAN
 
 # An error that takes so many seconds was waited for.
@@ -18,6 +19,13 @@ LATE = 20
 
 # A stand-in for the program that knows one game, and answers no question.
 KNOWS = 'if [ "$1" = list ]; then echo wheel; exit; fi\n'
+
+
+def asked(given: Tuple[Union[Game, Position], List[str]]) -> List[str]:
+    """Asks by a game, or by that of a position."""
+    by, texts = given
+    game = by.game if isinstance(by, Position) else by
+    return [it.text for it in game.positions(texts)]
 
 
 class Ends(WithRoom):
@@ -201,6 +209,25 @@ class Ends(WithRoom):
             for thread in threads:
                 thread.join()
         self.assertEqual(wrong, [])
+
+    def test_forked(self) -> None:
+        """A child starts a program of its own, and that of its parent goes on to answer the parent."""
+        texts = [str(number % 10) for number in range(5000)]
+        game = Game("wheel", program=GAMESMAN)
+        some = game.positions(texts)
+        first = [next(some).text]
+        with multiprocessing.get_context("fork").Pool(3) as pool:
+            begun = pool.map_async(asked, [(game, texts)] * 2 + [(game.position("3"), texts)])
+            self.assertEqual(first + [it.text for it in some], texts)
+            self.assertEqual(begun.get(LATE), [texts] * 3)
+        pid = os.fork()
+        if not pid:
+            # (what ends a program runs here too, as in a child that ends by itself)
+            game.close()
+            os._exit(0 if [it.text for it in game.positions(texts)] == texts else 1)
+        self.assertEqual(os.waitpid(pid, 0)[1], 0)
+        self.assertEqual([it.text for it in game.positions(texts)], texts)
+        game.close()
 
     def test_no_process_is_left(self) -> None:
         """Of a game that nobody closes, and of a program that ends."""

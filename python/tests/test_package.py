@@ -11,7 +11,7 @@ from typing import Any, Iterator, Tuple
 import gamesman
 from common import WithRoom, backend
 from gamesman import BadFile, Folder, Game, Move
-from gamesman.game import moves_of, value_of
+from gamesman.answers import moves_of, value_of
 from lib.paths import GAMESMAN, ROOT
 
 FILES = sorted(glob.glob(f"{ROOT}/python/**/*.py", recursive=True) + glob.glob(f"{ROOT}/examples/python/*.py"))
