@@ -1,11 +1,13 @@
-"""What a release has: each file with its mode and its bytes, in the archive and in the Debian package."""
+"""What a release has: each file with its mode and its bytes, in the archive, the Debian package and the wheel."""
 import glob
 import gzip
+import importlib.util
 import os
 import re
 import subprocess
 
 from lib.paths import ROOT, built
+from release import vectors
 
 # The program that is released is always the built one.
 PROGRAM = built("gamesman")
@@ -19,7 +21,16 @@ PICTURES = ("docs/pictures/explorer.png", "docs/pictures/explorer-dark.png", *BO
 # The pages of the repository that a user of the program reads.
 PAGES = ("README.md", "docs/PROGRAM.md", "docs/GAMES.md", "docs/FORMATS.md", "docs/CHANGELOG.md", *PICTURES)
 LICENCES = ("LICENSE-MIT", "LICENSE-APACHE")
-EXAMPLES = ("README.md", "puzzles.py", "remoteness.py")
+EXAMPLES = ("python/README.md", "python/puzzles.py", "python/remoteness.py", "c/README.md", "c/gamesman.h", "c/lookup.c")
+
+
+# What the archive and the wheel have below a prefix beside the program, by the short names of `shared`.
+SHARED = {
+    "share/man/man1/gamesman.1": "manual",
+    "share/bash-completion/completions/gamesman": "bash",
+    "share/zsh/site-functions/_gamesman": "zsh",
+    "share/fish/vendor_completions.d/gamesman.fish": "fish",
+}
 
 
 class Refused(Exception):
@@ -60,26 +71,49 @@ def shared():
     return {**found, **{shell: told(PROGRAM, "completions", shell) for shell in ("bash", "zsh", "fish")}}
 
 
+def backend():
+    """The module that makes wheels, python/backend.py."""
+    spec = importlib.util.spec_from_file_location("backend", os.path.join(ROOT, "python/backend.py"))
+    found = importlib.util.module_from_spec(spec)
+    spec.loader.exec_module(found)
+    return found
+
+
+def tag():
+    """What a wheel with the program says of the machines on which it runs: Linux with this C library or a later one."""
+    return f"py3-none-manylinux_{c_library().replace('.', '_')}_x86_64"
+
+
+def wheel(proved):
+    """The name of the wheel with the program, and its bytes: the package, and the program, its manual page and its completions beside it."""
+    made, own, number = backend(), shared(), version()
+    data, about = f"{NAME}-{number}.data", f"{NAME}-{number}.dist-info"
+    program = f"{data}/scripts/gamesman"
+    files = {path: text for path, text in package_of_python().items() if path.startswith("gamesman/")}
+    files.update((f"{about}/{path}", read(path)) for path in LICENCES)
+    files[program], files[f"{about}/PROVED.txt"] = own["program"], proved
+    files.update((f"{data}/data/{path}", own[name]) for path, name in SHARED.items())
+    return made.wheel_name(tag()), made.wheel(files, tag(), {program})
+
+
 def with_modes(texts, programs=()):
     return {path: (0o755 if path in programs else 0o644, text) for path, text in texts.items()}
 
 
 def archive(proved, page):
-    """The files of the archive."""
+    """The files of the archive. Only it has positions to check a reader by."""
     own = shared()
     texts = {
         "bin/gamesman": own["program"],
-        "share/man/man1/gamesman.1": own["manual"],
-        "share/bash-completion/completions/gamesman": own["bash"],
-        "share/zsh/site-functions/_gamesman": own["zsh"],
-        "share/fish/vendor_completions.d/gamesman.fish": own["fish"],
         "PROVED.txt": proved,
+        **{path: own[name] for path, name in SHARED.items()},
     }
     texts.update((path, read(path)) for path in PAGES + LICENCES)
     texts.update((f"python/{path}", text) for path, text in package_of_python().items())
-    texts.update((f"examples/python/{name}", read(f"examples/python/{name}")) for name in EXAMPLES)
+    texts.update((f"examples/{name}", read(f"examples/{name}")) for name in EXAMPLES)
+    texts.update(vectors.files(PROGRAM))
     texts.update({"games.html": page} if page else {})
-    scripts = {f"examples/python/{name}" for name in EXAMPLES if name.endswith(".py")}
+    scripts = {f"examples/{name}" for name in EXAMPLES if name.endswith(".py")}
     return with_modes(texts, {"bin/gamesman", *scripts})
 
 
@@ -140,7 +174,7 @@ def debian(proved, page, date):
     }
     texts.update((f"{doc}/{os.path.basename(path)}", read(path)) for path in PAGES if path.endswith(".md"))
     texts.update((f"{modules}/{path}", text) for path, text in package_of_python().items() if path.startswith("gamesman/"))
-    texts.update((f"{doc}/examples/{name}", read(f"examples/python/{name}")) for name in EXAMPLES)
+    texts.update((f"{doc}/examples/{name}", read(f"examples/{name}")) for name in EXAMPLES)
     texts[f"{doc}/PYTHON.md"] = read("python/README.md")
     texts.update({"usr/share/gamesman/games.html": page} if page else {})
     return with_modes(texts, {"usr/bin/gamesman"})
