@@ -1,4 +1,4 @@
-"""The Python package and the scripts of examples/python: over all positions of two games the package reads what an independent solver (tools/solver) says, and
+"""The Python package and the programs of examples: over all positions of two games the package reads what an independent solver (tools/solver) says, and
 it refuses what it must. Its own tests are run by python/run."""
 import os
 import re
@@ -13,11 +13,13 @@ from lib.paths import GAMESMAN, PYTHON, ROOT
 from lib.programs import SECONDS, folder_of_program, told
 from lines.mended import RIGHT, WORDS, file_of
 from lines.samples import blocks, wrong_in, wrong_typed
+from release import vectors
 from solver.games import games
 from solver.values import Solved
 
 GAMES = ("tictactoe", "mutorere")
 EXAMPLES = os.path.join(ROOT, "examples/python")
+PAGES = ("python/README.md", "examples/python/README.md", "examples/c/README.md")
 
 
 def ran(*words):
@@ -82,6 +84,21 @@ def the_client_asks_each_position(room):
             why = wrong_answer(game, Solved(games()[name]))
         if why:
             return f"{name}: {why}"
+    return None
+
+
+def the_vectors_are_true(room):
+    """The positions of a release by which readers are checked."""
+    for name in GAMES:
+        right, rows = Solved(games()[name]), vectors.rows(GAMESMAN, name)
+        for text, *row in rows:
+            least = right.least[text]
+            if row != [right.game.tier(text), right.game.index(least), *right.values[text]]:
+                return f"{name}: {text!r}: {row}"
+        taken = {text for text, *_ in rows}
+        number = sum(right.least[text] == text for text in taken)
+        if len(taken) != len(rows) or len(rows) > vectors.ROWS or number < min(vectors.CANONICAL, len(set(right.least.values()))) or number == len(rows):
+            return f"{name}: {len(rows)} rows, {number} of canonical positions"
     return None
 
 
@@ -179,17 +196,18 @@ def wrong_sample(language, block, folder):
 
 
 def the_page_of_examples_is_true(room):
-    """The samples and the programs of both pages, one after the other in one folder."""
+    """The samples and the programs of the pages, one after the other in one folder."""
     folder = room.fresh()
     os.symlink(os.path.join(ROOT, "examples"), f"{folder}/examples")
     os.mkdir(f"{folder}/tables")
-    found = [wrong_sample(*block, folder) for page in ("python/README.md", "examples/python/README.md") for block in blocks(page)]
-    return next(filter(None, found), None) if len(found) == 6 else f"{len(found)} samples"
+    found = [wrong_sample(*block, folder) for page in PAGES for block in blocks(page)]
+    return next(filter(None, found), None) if len(found) == 7 else f"{len(found)} samples"
 
 
 READERS = (
     the_reader_reads_each_record,
     the_client_asks_each_position,
+    the_vectors_are_true,
     the_reader_refuses_each_bad_file,
     the_examples_are_run,
     the_page_of_examples_is_true,
