@@ -2,7 +2,7 @@
 import os
 
 from release import proved
-from release.parts import Refused, told
+from release.parts import MODULE, PROGRAM, Refused, told
 
 VERDICT = "logic=proved functions={} sum=0123456789abcdef native=nat,char,string"
 ENDS = (
@@ -28,7 +28,12 @@ def lines_of(commit):
         lines += [f"== {name}", "statements core: modules loaded=0 checked=0", VERDICT.format(number), f"rt: {name} proved"]
         lines += [f"== {name}: its tests", VERDICT.format(1000 + number), f"rt: {name}: its tests proved"] if number % 2 else []
         lines += [f"rt: must-fail {name}/a_case_missed.edit: refused, as it must be: error", f"rt: must-fail {name}/turned.edit: refused, as it must be"]
-    return lines + [*ENDS[1:3], f"{proved.sum_of_program()}  crates/gamesman/out/gamesman", *ENDS[3:]]
+    return lines + [*ENDS[1:3], f"{proved.sum_of(PROGRAM)}  crates/gamesman/out/gamesman", *lines_of_module(), *ENDS[3:]]
+
+
+def lines_of_module():
+    """The line by which the gate names the module that it has built, if one is here."""
+    return [f"{proved.sum_of(MODULE)}  crates/gm_web/out/web/engine.wasm"] if os.path.isfile(MODULE) else []
 
 
 def text_of(lines, commit, room):
@@ -37,7 +42,8 @@ def text_of(lines, commit, room):
     with open(path, "w", encoding="utf-8") as file:
         file.write("\n".join(lines) + "\n")
     try:
-        return proved.text("1.2.3", commit, path).decode()
+        log = proved.log_of(path)
+        return proved.text("1.2.3", commit, log, proved.module_built(log)).decode()
     except Refused:
         return None
 
@@ -54,10 +60,14 @@ def wrong(room):
     lost = [line for line in (commit, "rattle-kit-0 logic", *ENDS) if line not in text and not line.startswith("rt: ")]
     if lost:
         return f"the text on what was proved does not have {lost}"
-    program = f"{proved.sum_of_program()}  crates/gamesman/out/gamesman"
+    program, modules = f"{proved.sum_of(PROGRAM)}  crates/gamesman/out/gamesman", lines_of_module()
+    without = text_of([line for line in whole if line not in modules], commit, room) or ""
+    if (text.count("\nmodule "), without.count("\nmodule "), bool(without)) != (len(modules), 0, True):
+        return "the text on what was proved names another module than the log"
     needed = [ENDS[0], *ENDS[2:9], whole[1], whole[2], program, VERDICT.format(1), f"rt: {proved.crates()[0]} proved"]
     bad = [[line for line in whole if line != gone] for gone in needed]
     bad += [[line.replace(" 0 fa", " 1 fa") if line == changed else line for line in whole] for changed in (ENDS[0], *ENDS[2:9])]
     bad += [[line.replace(commit, it) for line in whole] for it in ("0" * 40, f"{commit}-dirty")]
+    bad += [["0" * 64 + line[64:] if line in modules else line for line in whole] for _ in modules]
     kept = [lines for lines in bad if lines == whole or text_of(lines, commit, room)]
     return f"{len(kept)} logs that are not whole are taken for whole ones" if kept else None

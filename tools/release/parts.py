@@ -5,12 +5,16 @@ import importlib.util
 import os
 import re
 import subprocess
+import tempfile
 
 from lib.paths import ROOT, built
 from release import vectors
 
 # The program that is released is always the built one.
 PROGRAM = built("gamesman")
+
+# The WebAssembly module of gm_web, which tools/web builds where node and binaryen are there.
+MODULE = os.path.join(ROOT, "crates/gm_web/out/web/engine.wasm")
 
 NAME = "gamesman"
 MAINTAINER = "Fegbolaru maintainers <maintainers@users.noreply.fegbolaru.example>"
@@ -22,6 +26,8 @@ PICTURES = ("docs/pictures/explorer.png", "docs/pictures/explorer-dark.png", *BO
 PAGES = ("README.md", "docs/PROGRAM.md", "docs/GAMES.md", "docs/FORMATS.md", "docs/CHANGELOG.md", *PICTURES)
 LICENCES = ("LICENSE-MIT", "LICENSE-APACHE")
 EXAMPLES = ("python/README.md", "python/puzzles.py", "python/remoteness.py", "c/README.md", "c/gamesman.h", "c/lookup.c")
+EXAMPLES += ("node/README.md", "node/ask.mjs", "node/engine.cjs")
+ENGINE_SCRIPT = "tools/web/page/engine.js"
 
 
 # What the archive and the wheel have below a prefix beside the program, by the short names of `shared`.
@@ -71,6 +77,15 @@ def shared():
     return {**found, **{shell: told(PROGRAM, "completions", shell) for shell in ("bash", "zsh", "fish")}}
 
 
+def engine(module):
+    """What a release has of a module, by short names: the module, and the text of it that `page --engine` reads. Without a module there is nothing."""
+    if not module:
+        return {}
+    with tempfile.TemporaryDirectory(prefix="engine-") as room:
+        told(os.path.join(ROOT, "tools/web/make_engine"), MODULE, f"{room}/engine.txt")
+        return {"gamesman.wasm": module, "engine.txt": read(f"{room}/engine.txt")}
+
+
 def backend():
     """The module that makes wheels, python/backend.py."""
     spec = importlib.util.spec_from_file_location("backend", os.path.join(ROOT, "python/backend.py"))
@@ -100,7 +115,12 @@ def with_modes(texts, programs=()):
     return {path: (0o755 if path in programs else 0o644, text) for path, text in texts.items()}
 
 
-def archive(proved, page):
+def example(name):
+    """An example as a release has it: in the place of the file that refers to the engine's script, that script."""
+    return read(ENGINE_SCRIPT if name == "node/engine.cjs" else f"examples/{name}")
+
+
+def archive(proved, page, module):
     """The files of the archive. Only it has positions to check a reader by."""
     own = shared()
     texts = {
@@ -110,8 +130,9 @@ def archive(proved, page):
     }
     texts.update((path, read(path)) for path in PAGES + LICENCES)
     texts.update((f"python/{path}", text) for path, text in package_of_python().items())
-    texts.update((f"examples/{name}", read(f"examples/{name}")) for name in EXAMPLES)
+    texts.update((f"examples/{name}", example(name)) for name in EXAMPLES)
     texts.update(vectors.files(PROGRAM))
+    texts.update((f"engine/{name}", text) for name, text in engine(module).items())
     texts.update({"games.html": page} if page else {})
     scripts = {f"examples/{name}" for name in EXAMPLES if name.endswith(".py")}
     return with_modes(texts, {"bin/gamesman", *scripts})
@@ -157,7 +178,7 @@ rm -rf /usr/lib/python3/dist-packages/gamesman/__pycache__
 """
 
 
-def debian(proved, page, date):
+def debian(proved, page, module, date):
     """The files of the Debian package, but for its control files."""
     own, number = shared(), version()
     doc, modules = "usr/share/doc/gamesman", "usr/lib/python3/dist-packages"
@@ -174,8 +195,9 @@ def debian(proved, page, date):
     }
     texts.update((f"{doc}/{os.path.basename(path)}", read(path)) for path in PAGES if path.endswith(".md"))
     texts.update((f"{modules}/{path}", text) for path, text in package_of_python().items() if path.startswith("gamesman/"))
-    texts.update((f"{doc}/examples/{name}", read(f"examples/{name}")) for name in EXAMPLES)
+    texts.update((f"{doc}/examples/{name}", example(name)) for name in EXAMPLES)
     texts[f"{doc}/PYTHON.md"] = read("python/README.md")
+    texts.update((f"usr/share/gamesman/engine/{name}", text) for name, text in engine(module).items())
     texts.update({"usr/share/gamesman/games.html": page} if page else {})
     return with_modes(texts, {"usr/bin/gamesman"})
 

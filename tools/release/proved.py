@@ -1,8 +1,9 @@
 """The text that says what was proved of a release, from the log of the gate."""
 import hashlib
+import os
 import re
 
-from release.parts import PROGRAM, Refused, read, told
+from release.parts import MODULE, PROGRAM, Refused, read, told
 
 # The last line of each part of the gate, if all is well.
 ENDS = {
@@ -72,30 +73,50 @@ def rows(log):
     return [f"{name:14} {tree_of(name)}  edits refused={refused.get(name, 0)}  {found[name]}" for name in crates()]
 
 
-def sum_of_program():
-    return hashlib.sha256(read(PROGRAM)).hexdigest()
+def sum_of(path):
+    return hashlib.sha256(read(path)).hexdigest()
 
 
-def head(number, commit):
-    return [f"gamesman {number}", f"commit     {commit}", f"program    SHA-256 {sum_of_program()}"]
-
-
-def text(number, commit, path):
-    """The text for a version, from the log of the gate over this very commit, in which it built this very program."""
+def log_of(path):
     with open(path, encoding="utf-8", errors="replace") as file:
-        log = file.read()
+        return file.read()
+
+
+def module_built(log):
+    """The module of gm_web, or None if the gate of the log built none; another one than the gate's is a reason to refuse."""
+    found = re.search(r"(?m)^([0-9a-f]{64})  crates/gm_web/out/web/engine\.wasm$", log)
+    if not found:
+        return None
+    if not os.path.isfile(MODULE) or found[1] != sum_of(MODULE):
+        raise Refused("the built module of gm_web is not the one that the gate of the log built")
+    return read(MODULE)
+
+
+def module_here():
+    """The module of gm_web, or None if none is built."""
+    return read(MODULE) if os.path.isfile(MODULE) else None
+
+
+def head(number, commit, module):
+    """The first lines of the text: what the release is made of."""
+    lines = [f"gamesman {number}", f"commit     {commit}", f"program    SHA-256 {sum_of(PROGRAM)}"]
+    return lines + ([f"module     SHA-256 {hashlib.sha256(module).hexdigest()}, of gm_web, for WebAssembly"] if module else [])
+
+
+def text(number, commit, log, module):
+    """The text for a version, from the log of the gate over this very commit, in which it built this very program."""
     named = re.search(r"(?m)^commit ([0-9a-f]{40})(-dirty)?$", log)
     if not named or named[0] != f"commit {commit}":
         raise Refused(f"the log is of {named[0] if named else 'no commit that it names'}, and not of commit {commit}")
-    if not re.search(rf"(?m)^{sum_of_program()}  crates/gamesman/out/gamesman$", log):
+    if not re.search(rf"(?m)^{sum_of(PROGRAM)}  crates/gamesman/out/gamesman$", log):
         raise Refused("the built program is not the one that the gate of the log built")
-    lines = head(number, commit) + [f"toolchain  {toolchain(log)}", ""]
+    lines = head(number, commit, module) + [f"toolchain  {toolchain(log)}", ""]
     lines += ["Each crate, with the sum of its files (git rev-parse COMMIT:crates/NAME), how many must-fail edits were refused, and its verdict:", ""]
     lines += rows(log) + ["", "The last lines of the gate:", "", *ends(log), ""]
     lines += ["README.md describes what is proved. docs/PROMISES.md, docs/TRUSTED.md and docs/EVIDENCE.md of the repository have the details.", ""]
     return "\n".join(lines).encode()
 
 
-def trial(number, commit):
+def trial(number, commit, module):
     """The text of a trial, which no gate has passed."""
-    return "\n".join(head(number, commit) + ["", "A trial: this text does not report what was proved.", ""]).encode()
+    return "\n".join(head(number, commit, module) + ["", "A trial: this text does not report what was proved.", ""]).encode()

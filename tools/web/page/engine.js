@@ -103,3 +103,5 @@ class Engine {
     return null;
   }
 }
+// Names for node (examples/node), which has modules; a worker has none.
+if (typeof module === "object") module.exports = { Engine, NAMES, REFUSED, REASONS, STEP };
