@@ -29,7 +29,7 @@ connect_board FiveByFour = codes "    1 2 3 4 5\na   A B C D E\nb   F G H I J\nc
 connect_board FourByFive = codes "    1 2 3 4\na   A B C D\nb   E F G H\nc   I J K L\nd   M N O P\ne   Q R S T"
 connect_board FourBySix = codes "    1 2 3 4\na   A B C D\nb   E F G H\nc   I J K L\nd   M N O P\ne   Q R S T\nf   U V W X"
 
--- a board of so many columns and rows
+-- a board with these numbers of columns and rows
 unfoldable pub connect_picture : Size → PictureSpec
 connect_picture s = record {
   title = connect_title s;

@@ -1,4 +1,4 @@
--- The lines of Connect Four: four cells side by side, one below the other, or on a diagonal. Cell w*r + c is in row r and column c; row 0 is the top row.
+-- The lines of Connect Four: four cells side by side, one below the other, or on a diagonal. Cell w*r + c is in row r and column c; the first row is the top row.
 use Rattle.std.specs.Prelude.{ℕ, ◌+◌, ◌-◌, ◌*◌, ◌/◌, ◌%◌, Bool, ◌&&◌, nat_le, nat_lt, List, [], ◌∷◌, ◌++◌, if◌then◌else◌}
 use Rattle.std.specs.List.{flat_map, range_with_len}
 use Rattle.gm_connect.specs.declared.size.Size.{Size}

@@ -41,7 +41,7 @@ pub enum Size {
 }
 
 impl Size {
-    /// Returns the size with so many columns and rows: 4 and 4, 5 and 4, 4 and 5, or 4 and 6; any others stand for 4 and 4.
+    /// Returns the size with these numbers of columns and rows: 4 and 4, 5 and 4, 4 and 5, or 4 and 6; for any others that of 4 and 4.
     #[tactic(auto, unfolding(crate::specs::Sizes::size_of))]
     #[inline(always)]
     pub fn of(columns: u32, rows: u32) -> Size

@@ -1,4 +1,4 @@
--- Boards of h rows and w columns whose pieces stand on one another, and their indexes. Cell w*r + c is in row r and column c; row 0 is the top row.
+-- Boards of h rows and w columns whose pieces stand on one another, and their indexes. Cell w*r + c is in row r and column c; the first row is the top row.
 use Rattle.std.proofs.Common.{◌≡◌, ℕ, zero, suc, ◌+◌, ◌-◌, ◌*◌, ◌/◌, ◌%◌, ◌<◌, Bool, true, false, cond, leb, List, [], ◌∷◌, map, reverse, length, get_or}
 use Rattle.std.specs.List.{range_with_len}
 use Rattle.gm_board.specs.declared.cell.Cell.{Cell}
@@ -64,7 +64,7 @@ has_piece b k = is_taken (cell_at b k)
 abbrev pub owners : List Cell → List Bool
 owners b = own_bits (reverse b)
 
--- how many boards have so many pieces, of which the mover has m
+-- how many boards have this number of pieces, of which the mover has m
 unfoldable pub stacked_boards : ℕ → ℕ → ℕ → ℕ → ℕ
 stacked_boards w h pieces m = stackings h w pieces * binomial pieces m
 

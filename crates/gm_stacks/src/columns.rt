@@ -57,7 +57,7 @@ impl Stacks {
     }
 }
 
-/// Returns the height of the first column by a rank, with so many further columns.
+/// Returns the height of the first column by a rank, given the number of further columns.
 #[inline(always)]
 pub fn first_height(rows: u32, others: u32, pieces: u32, rank: u64) -> u32
     requires rows { rows ≤ 6 }

@@ -1,4 +1,4 @@
-//! In how many ways pieces can stand on columns.
+//! In how many ways pieces can be stacked on columns.
 ghost use Rattle.std.specs.Prelude.{◌≡◌, ◌<◌, ◌≤◌, ◌^◌};
 ghost use Rattle.gm_stacks.specs.Heights.{stackings as stackings_of, sum_down, sum_up};
 
@@ -194,7 +194,7 @@ static FEWER: [[[u32; 27]; 7]; 7] = [
     ],
 ];
 
-// Returns in how many ways fewer than this many pieces can stand on so many columns of this height.
+// Returns in how many ways fewer than this number of pieces can be stacked on columns of this number and height.
 #[inline(always)]
 fn fewer(height: u32, columns: u32, pieces: u32) -> u64
     requires height { height ≤ 6 }
@@ -206,7 +206,7 @@ fn fewer(height: u32, columns: u32, pieces: u32) -> u64
     FEWER[height as usize][columns as usize][pieces as usize] as u64
 }
 
-/// Returns in how many ways the pieces can stand on so many columns of this height.
+/// Returns in how many ways the pieces can be stacked on columns of this number and height.
 #[tactic(auto, using(crate::specs::laws::Sums::one_more))]
 #[inline(always)]
 pub fn stackings(height: u32, columns: u32, pieces: u32) -> u64
@@ -219,7 +219,7 @@ pub fn stackings(height: u32, columns: u32, pieces: u32) -> u64
     fewer(height, columns, pieces + 1) - fewer(height, columns, pieces)
 }
 
-/// Returns in how many ways the pieces can stand on one column with fewer than `first` of them, and on so many further columns of this height.
+/// Returns in how many ways the pieces can be stacked on one column with fewer than `first` of them, and on further columns of this number and height.
 #[tactic(auto, using(crate::specs::laws::Sums::down_and_up))]
 #[inline(always)]
 pub fn with_less(height: u32, columns: u32, pieces: u32, first: u32) -> u64

@@ -11,7 +11,7 @@ use gm_board::pascal::binomial;
 use gm_board::subset::{rank_subset, unrank_subset};
 
 impl Stacks {
-    /// Returns how many boards have so many pieces, of which the mover has `own`.
+    /// Returns how many boards have this number of pieces, of which the mover has `own`.
     #[tactic(auto, unfolding(crate::specs::Stacks::stacked_boards))]
     pub fn size(self, pieces: u32, own: u32) -> u64
         requires { pieces ≤ 25 }

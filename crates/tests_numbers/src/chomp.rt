@@ -1,4 +1,4 @@
-//! Chomp, whose first player wins; here by the bite at row 3, column 4.
+//! Chomp, whose first player wins; here by one bite only.
 use crate::whole::{all_values, known};
 use crate::worked::{Row, expect_rows, made};
 use gm_game::game::Game;

@@ -15,7 +15,7 @@ use Rattle.gm_connect.specs.laws.BoardFacts.{few_cells, few_rows, few_columns, l
 use Rattle.gm_connect.specs.laws.MoveFacts.{was_dropped, taken_back, dropped_again, few_pieces, lands, lands_in, image_move}
 
 -- ---- the numbering
--- a tier has that many indexes if the board has so many cells
+-- the number of indexes of a tier, if the board has n cells
 size_is : (s : Size) (t : ℕ) → t ≤ cells s → size_at s t ≡ stacked_boards (columns s) (rows s) t (t / 2)
 unfolding size_at
 size_is s t l = cond-true _ _ _ (le-leb t (cells s) l)

@@ -134,7 +134,7 @@ down_many p (suc n) = elim (p n) as (λ x. members (x ∷ down p n) ≡ one_if x
 ]
 
 -- ---- the numbering
--- the board has h rows of w cells and so many pieces, of which the mover has m, and they stand on one another
+-- the board has h rows of w cells and this number of pieces, of which the mover has m, all stacked
 pub record IsStackedBoard (w h pieces m : ℕ) (b : List Cell) : Type 0 where
   pub cells : length b ≡ h * w
   pub all : number_of is_mine b + number_of is_theirs b ≡ pieces
