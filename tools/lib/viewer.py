@@ -1,19 +1,26 @@
 """The viewer of pages, as files that an editor reads: tools/web/viewer. gm_page has their texts as constants, which `tools/docs --write` makes of them.
 page.html and sheet.html are cut at their marks '<!-- here: .. -->', where the library puts what differs from page to page."""
+import json
 import os
 import re
 import shutil
 import subprocess
+import textwrap
+from collections import Counter
 from collections.abc import Iterator
 
+from lib.games import TOLD
 from lib.paths import ROOT, TOOLS
 
 FOLDER = os.path.join(TOOLS, "web/viewer")
 SOURCES = os.path.join(ROOT, "crates/gm_page/src")
 
+# What stands for the script that is made of the files games.json of the crates.
+GAMES = "games.json"
+
 # The parts of the script, in the order in which a page has them: the constant, its module, and its files.
 SCRIPT = (
-    ("ASKING", "viewer_asking", ("lines.js", "games.js", "asking.js")),
+    ("ASKING", "viewer_asking", ("lines.js", GAMES, "asking.js")),
     ("BOARDS", "viewer_boards", ("boards.js",)),
     ("PLAYING", "viewer_playing", ("playing.js",)),
     ("CHOOSING", "viewer_choosing", ("choosing.js",)),
@@ -34,8 +41,32 @@ def read(path: str) -> str:
         return it.read()
 
 
+def quoted(words: str) -> str:
+    """A text as strings of a script, one in each line."""
+    *first, last = textwrap.wrap(words, 140, break_long_words=False, break_on_hyphens=False)
+    return " +\n    ".join([*(json.dumps(f"{line} ") for line in first), json.dumps(last)])
+
+
+def family(game: str) -> str:
+    """The name under which the script looks for the rules of a game of several sizes."""
+    return re.sub(r"-\d(x\d)?", "", game)
+
+
+def words_of_games() -> str:
+    """Words about the games: the rules of each, or of its family, in a few lines, and how many legal positions it has if the engine solves it."""
+    ruled = {game: told["rules"] for game, told in TOLD.items() if "rules" in told}
+    families = Counter(map(family, ruled))
+    rules = "".join(f'  "{game if families[family(game)] > 1 else family(game)}":\n    {quoted(text)},\n' for game, text in ruled.items())
+    counts = ", ".join(f'"{game}": {told["legal"]}' for game, told in TOLD.items() if "legal" in told)
+    legal = textwrap.fill(counts, 150, initial_indent="  ", subsequent_indent="  ")
+    return (
+        "// ---- Words about the games: the rules of each in a few lines, and how many legal positions it has.\n"
+        f"const RULES = {{\n{rules}}};\nconst LEGAL = {{\n{legal}\n}};\n\n"
+    )
+
+
 def text_of(name: str) -> str:
-    return read(os.path.join(FOLDER, name))
+    return words_of_games() if name == GAMES else read(os.path.join(FOLDER, name))
 
 
 def cut(name: str) -> list[str]:
@@ -90,9 +121,18 @@ def bad_scripts() -> Iterator[str]:
                     yield f"tools/web/viewer/{file}: {ran.stderr.strip().splitlines()[-1]}"
 
 
+def lacking() -> Iterator[str]:
+    """The games of which games.json has no rules in words, neither their own nor those of their family."""
+    ruled = {family(game) for game, told in TOLD.items() if "rules" in told}
+    for game in TOLD:
+        if family(game) not in ruled:
+            yield f"no games.json has rules in words of {game}"
+
+
 def faults() -> Iterator[str]:
-    """What is wrong with the viewer: a module that differs from its files, a script that node can't read."""
+    """What is wrong with the viewer: a module that differs from its files, a script that node can't read, a game without rules in words."""
     for path, text in modules().items():
         if read(path) != text:
             yield f"{os.path.relpath(path, ROOT)} differs from tools/web/viewer: tools/docs --write"
     yield from bad_scripts()
+    yield from lacking()

@@ -49,7 +49,7 @@ def wrong_lines(program, lines):
             yield f"the line of {name} is {head}"
         if legal.get(name) != legal_of(program, name):
             yield f"{name} has {legal_of(program, name)} legal positions, and not {legal.get(name)}"
-        if not (rules.get(name) or rules.get(re.sub(r"-\d", "", name))):
+        if not (rules.get(name) or rules.get(re.sub(r"-\d(x\d)?", "", name))):
             yield f"{name} has no rules"
 
 

@@ -1,4 +1,5 @@
-//! Backward induction: a tier solved level after level, until every position has its true value. `solve` first tries immediate transition, if its plan says so.
+//! Backward induction: a tier solved level after level, until every position has its true value. `solve` first tries immediate transition, if its plan
+//! allows one pass.
 //!
 //! `specs/` has the definitions that contracts cite, and `proofs/` what follows from them.
 #![tactic(auto)]

@@ -115,7 +115,7 @@ async function open(wanted, turn) {
   if (!solving) takeGiven();
   layBoard();
   editing();
-  $("ruled").textContent = RULES[game.game] || RULES[game.game.replace(/-\d/, "")] || "";
+  $("ruled").textContent = RULES[game.game] || RULES[game.game.replace(/-\d(x\d)?/, "")] || "";
   $("rules").hidden = !$("ruled").textContent;
   $("versus").replaceChildren(html("option", { value: "" }, "nobody: explore"),
     ...game.sides.map((name, who) => html("option", { value: who }, "as " + name + ", against the solver")));

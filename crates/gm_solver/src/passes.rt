@@ -1,4 +1,4 @@
-//! A tier solved level by level by passes: at each level each shard has one pass, which delivers the level's pairs to it in their order.
+//! A tier solved level by level by passes: each shard has one pass at each level, which delivers the level's pairs to it in their order.
 ghost use Rattle.std.specs.Prelude.{◌≡◌, ◌<◌, ◌≤◌, IfOk, IfErr, OnOk};
 ghost use Rattle.gm_solver.specs.Lower.{IsReadyFor, AreDeliveries, AreHeld, IsTable, IsTooFar, place_of};
 ghost use Rattle.gm_backward.specs.Solving.{IsError};

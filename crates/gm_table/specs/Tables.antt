@@ -1,5 +1,5 @@
 -- Tables as data.
-use Rattle.std.specs.Prelude.{◌≡◌, ℕ, ◌≤◌, ◌==◌, if◌then◌else◌, List, [], ◌∷◌, Option, None, Some, IsSome, length, slice_get}
+use Rattle.std.specs.Prelude.{◌≡◌, ℕ, ◌<◌, ◌≤◌, ◌==◌, if◌then◌else◌, List, [], ◌∷◌, Option, None, Some, IsSome, length, slice_get, get_or}
 use Rattle.gm_table.specs.Lower.{Contains, Position, Phase, Solved, REMOTENESS, TIER_SIZE, Rules, IsTrueTable}
 use Rattle.gm_table.specs.declared.outline.Outline.{Outline}
 use Rattle.gm_table.specs.Levels.{indexes_at}
@@ -62,7 +62,15 @@ run_of entries tier phase n = elim (table_of entries tier) [ None ↦ [] | Some 
 abbrev pub AreTables : Rules → List TableData → Type 0
 AreTables r entries = (tier : ℕ) (t : TableData) → table_of entries tier ≡ Some t → (t.tier ≡ tier) × IsTable r t
 
--- what a map of tables keeps: each table is at its own tier, and is true
-abbrev pub AreKept : Rules → List (ℕ × TableData) → Type 0
-AreKept r [] = Unit {0}
-AreKept r (e ∷ es) = (e.1.tier ≡ e.0) × IsTable r e.1 × AreKept r es
+-- what lists of tiers and of their tables keep: each table is of its tier, and is true
+abbrev pub AreKept : Rules → List ℕ → List TableData → Type 0
+AreKept r [] [] = Unit {0}
+AreKept r (n ∷ ns) (t ∷ ts) = (t.tier ≡ n) × IsTable r t × AreKept r ns ts
+AreKept r [] (t ∷ ts) = ⊥
+AreKept r (n ∷ ns) [] = ⊥
+
+-- the first place of a tier in a list
+pub record IsPlaceOf (tiers : List ℕ) (tier k : ℕ) : Type 0 where
+  pub inside : k < length tiers
+  pub here : get_or tiers k 0 ≡ tier
+  pub first : (j : ℕ) → j < k → get_or tiers j 0 ≡ tier → ⊥

@@ -1,5 +1,6 @@
 //! Tables by tier.
-ghost use Rattle.std.specs.Prelude.{◌≡◌, ◌↔◌, ℕ, [], true, IsTrue, IsSome, IfSome, OnOk, OnErr, IfErr, option_copied};
+ghost use Rattle.std.specs.Prelude.{◌≡◌, ◌↔◌, ◌<◌, ℕ, [], true, None, IsTrue, IsSome, IfSome, OnOk, OnErr, IfErr, option_copied, length, get_or};
+ghost use Rattle.gm_table.specs.Tables.{IsPlaceOf};
 ghost use Rattle.gm_table.specs.Lower.{Contains, at, IsCanonical, IsAscending, StandsAt, IsTrueValue};
 
 use crate::entry::Entry;
@@ -7,30 +8,42 @@ use crate::table::Table;
 use gm_game::game::Game;
 use gm_game::position::{Phase, Position, Solved};
 use std::alloc::{AllocFailed, Global};
-use std::collections::BTreeMap;
 use std::marker::Model;
 
-/// The tables that are held, by tier. Contracts see their list.
+/// The tables that are held, by tier. Contracts see their list. There are few, so a tier is sought one by one, in a list that does not depend on the game.
 #[derive(Drop)]
 pub struct Tables<G: Game> {
     alloc: Global,
-    entries: BTreeMap<u64, Entry<G>>,
+    tiers: Vec<u64>,
+    entries: Vec<Entry<G>>,
 }
 
 impl<G: Game> Model for Tables<G> {
     ghost use Rattle.std.specs.Prelude.{List};
-    ghost use Rattle.std.specs.BTreeMap.{values};
     ghost use Rattle.gm_table.specs.Tables.{TableData, AreKept};
 
     ghost Value = { List TableData };
 
-    ghost view = { λ t. values t.entries };
+    ghost view = { λ t. t.entries.items };
 
-    ghost invariant = { λ t. AreKept G.rules t.entries.entries };
+    ghost invariant = { λ t. AreKept G.rules t.tiers.items t.entries.items };
+}
+
+// Returns the place of a tier among these, the first if it is there more than once.
+fn place_of(tiers: &[u64], tier: u64) -> Option<usize>
+    ensures some { IfSome result (λ k. IsPlaceOf tiers.now tier k) }
+    ensures none { result ≡ None → (j : ℕ) → j < length tiers.now → get_or tiers.now j 0 ≡ tier → ⊥ }
+{
+    for k in 0..tiers.len() {
+        if tiers[k] == tier {
+            return Some(k);
+        }
+    }
+    None
 }
 
 impl<G: Game> Tables<G> {
-    ghost use Rattle.gm_table.specs.Tables.{table_of, Inserts, IsHeld, AreHeld, AreTables, record_in, value_in, run_of};
+    ghost use Rattle.gm_table.specs.Tables.{table_of, Inserts, IsHeld, AreHeld, AreTables, IsTable, record_in, value_in, run_of};
 
     /// Returns an empty map. Inserted tables that are not laid out yet are laid out in memory of this allocator.
     pub fn new(alloc: Global) -> Self
@@ -38,7 +51,8 @@ impl<G: Game> Tables<G> {
     {
         Tables {
             alloc,
-            entries: BTreeMap::new(alloc),
+            tiers: Vec::new(alloc),
+            entries: Vec::new(alloc),
         }
     }
 
@@ -51,15 +65,36 @@ impl<G: Game> Tables<G> {
     {
         let tier = table.tier();
         let entry = Entry::of(self.alloc, table)?;
-        match self.entries.insert(tier, entry) {
-            Ok(_) => Ok(()),
-            Err(failed) => {
-                let (_, entry) = failed.value;
-                Err(AllocFailed {
-                    value: entry.into_table(),
-                })
+        match place_of(self.tiers.as_slice(), tier) {
+            Some(k) => {
+                self.entries[k] = entry;
+                Ok(())
             }
+            None => self.add(tier, entry),
         }
+    }
+
+    // Adds the table of a tier that has none. If memory runs out, the table comes back and nothing changes.
+    fn add(&mut self, tier: u64, entry: Entry<G>) -> Result<(), AllocFailed<Table<G>>>
+        requires tier { entry.tier ≡ tier }
+        requires table { IsTable G.rules entry }
+        requires none { table_of self.old tier ≡ None }
+        ensures ok { OnOk result (Inserts self.old self.new entry) }
+        ensures err { OnErr result (self.new ≡ self.old) }
+        ensures value_returned { IfErr result (λ e. e.value ≡ entry) }
+    {
+        if self.tiers.push(tier).is_err() {
+            return Err(AllocFailed {
+                value: entry.into_table(),
+            });
+        }
+        if let Err(failed) = self.entries.push(entry) {
+            let _tier = self.tiers.pop();
+            return Err(AllocFailed {
+                value: failed.value.into_table(),
+            });
+        }
+        Ok(())
     }
 
     /// Returns whether the tier has a table.
@@ -104,7 +139,8 @@ impl<G: Game> Tables<G> {
         ensures value { option_copied result ≡ table_of self.now tier }
         ensures tables { AreTables G.rules self.now }
     {
-        self.entries.get(&tier)
+        let k = place_of(self.tiers.as_slice(), tier)?;
+        self.entries.get(k)
     }
 
     /// Returns the true value of a legal position of a held tier; `None` for any other position.
