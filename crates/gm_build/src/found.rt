@@ -1,19 +1,18 @@
 //! The true table of a tier, by its entry in a store.
-ghost use Rattle.std.specs.Prelude.{◌≡◌, ◌+◌, ◌<◌, ◌≤◌, IsTrue, IfOk, IfErr, MatchOption};
+ghost use Rattle.std.specs.Prelude.{◌≡◌, ◌+◌, ◌<◌, ◌≤◌, IsTrue, IfOk, IfErr, IfSome, MatchOption};
 ghost use Rattle.gm_build.specs.Lower.{IsTrueTable, AreHeld, AreSame};
 ghost use Rattle.gm_build.specs.TrueTexts.{IsOldText};
 ghost use Rattle.gm_build.specs.Findings.{IsOfTier, IsFound, IsFoundIn};
 ghost use Rattle.gm_build.specs.Outcomes.{failures_in, IsTierError};
 
 use crate::build_error::BuildError;
-use crate::inspect::{Inspected, inspect_text, read_entry};
+use crate::inspect::{Inspected, check_beside, inspect_text, read_entry};
 use gm_game::game::Game;
 use gm_game::limits::{REMOTENESS, TIER_SIZE};
-use gm_game::position::Solved;
-use gm_table::checker::{CheckError, check_by};
+use gm_table::packed::Packed;
 use gm_table::table::Table;
 use gm_table::tables::Tables;
-use gm_tierdb::decode::decode_v1;
+use gm_tierdb::decode::decode_packed_v1;
 use gm_tierdb::file_error::FileError;
 use gm_tierdb::store::Store;
 use std::alloc::{AllocError, Global};
@@ -97,8 +96,8 @@ fn old_table<G: Game + Send + Sync, R: Threads + Sync>(
     ensures tier { IfOk result (λ o. MatchOption o (Unit {0}) (λ table. table.tier ≡ tier)) }
     ensures exact { IfOk result (λ o. MatchOption o (IsOldText G.rules tier bytes.now → ⊥) (λ _. IsOldText G.rules tier bytes.now)) }
 {
-    match decode_v1::<G>(alloc, tier, bytes) {
-        Ok(records) => true_table(rt, alloc, tier, records.as_slice(), tables),
+    match decode_packed_v1::<G>(alloc, tier, bytes) {
+        Ok(records) => Ok(true_table(rt, tier, records, tables)),
         Err(FileError::OutOfMemory) => Err(AllocError),
         Err(_) => Ok(None),
     }
@@ -107,20 +106,19 @@ fn old_table<G: Game + Send + Sync, R: Threads + Sync>(
 // Returns the table of these records if they are the true ones of a tier.
 fn true_table<G: Game + Send + Sync, R: Threads + Sync>(
     rt: &R,
-    alloc: Global,
     tier: u64,
-    records: &[Option<Solved>],
+    records: Packed,
     tables: &Tables<G>,
-) -> Result<Option<Table<G>>, AllocError>
+) -> Option<Table<G>>
     requires held { AreHeld G.rules tables.now tier }
     requires small { G.rules.tier_size tier ≤ TIER_SIZE }
-    ensures tier { IfOk result (λ o. MatchOption o (Unit {0}) (λ table. table.tier ≡ tier)) }
-    ensures exact { IfOk result (λ o. MatchOption o (IsTrueTable G.rules REMOTENESS tier records.now → ⊥)
-        (λ _. IsTrueTable G.rules REMOTENESS tier records.now)) }
+    ensures tier { IfSome result (λ table. table.tier ≡ tier) }
+    ensures exact { MatchOption result (IsTrueTable G.rules REMOTENESS tier records → ⊥) (λ _. IsTrueTable G.rules REMOTENESS tier records) }
 {
-    match check_by(rt, alloc, tier, records, tables) {
-        Ok(table) => Ok(Some(table)),
-        Err(CheckError::OutOfMemory) => Err(AllocError),
-        Err(_) => Ok(None),
+    // The digest is known: a file of version 1 is decoded only with its own.
+    let (checked, _) = check_beside(rt, tier, records, tables, &[]);
+    match checked {
+        Ok(table) => Some(table),
+        Err(_) => None,
     }
 }

@@ -1,14 +1,15 @@
 //! What a tier's entry in a store is found to be.
-ghost use Rattle.std.specs.Prelude.{◌≡◌, ◌+◌, ◌<◌, ◌≤◌, ◌↔◌, IsTrue, IfOk, IfErr, option_map};
-ghost use Rattle.gm_build.specs.Lower.{AreHeld, Texts, AreSame};
+ghost use Rattle.std.specs.Prelude.{◌≡◌, ◌+◌, ◌<◌, ◌≤◌, ◌↔◌, IsTrue, IsOk, IfOk, IfErr, option_map};
+ghost use Rattle.gm_build.specs.Lower.{AreHeld, AreWrong, IsTable, IsTrueTable, Texts, AreSame};
 ghost use Rattle.gm_tierdb.specs.Seals.{IsSealed};
 ghost use Rattle.gm_build.specs.Inspections.{IsInspected, IsInspectedIn};
 ghost use Rattle.gm_build.specs.Outcomes.{failures_in, IsReadError};
 
 use crate::build_error::BuildError;
 use gm_game::game::Game;
-use gm_game::limits::TIER_SIZE;
+use gm_game::limits::{REMOTENESS, TIER_SIZE};
 use gm_table::checker::{CheckError, check_packed_by};
+use gm_table::packed::Packed;
 use gm_table::table::Table;
 use gm_table::tables::Tables;
 use gm_tierdb::decode::{decode_unsealed, is_sealed};
@@ -101,15 +102,7 @@ pub fn inspect_text<G: Game + Send + Sync, R: Threads + Sync>(
         Err(FileError::OutOfMemory) => return Err(AllocError),
         Err(why) => return Ok(Inspected::NoFile(why)),
     };
-    let (checked, sealed) = check_packed_by(
-        rt,
-        tier,
-        records,
-        tables,
-        move || -> bool
-            ensures { IsTrue result ↔ IsSealed bytes.entry.now }
-        { is_sealed(bytes) },
-    );
+    let (checked, sealed) = check_beside(rt, tier, records, tables, bytes);
     if !sealed {
         return Ok(Inspected::NoFile(FileError::BadDigest));
     }
@@ -117,4 +110,32 @@ pub fn inspect_text<G: Game + Send + Sync, R: Threads + Sync>(
         Ok(table) => Ok(Inspected::Right(table)),
         Err(why) => Ok(Inspected::NoTable(why)),
     }
+}
+
+/// Checks the records of a tier, while another thread finds whether these bytes end in their digest. `OutOfMemory` never comes.
+pub(crate) fn check_beside<G: Game + Send + Sync, R: Threads + Sync>(
+    rt: &R,
+    tier: u64,
+    records: Packed,
+    tables: &Tables<G>,
+    bytes: &[u8],
+) -> (Result<Table<G>, CheckError>, bool)
+    requires held { AreHeld G.rules tables.now tier }
+    requires small { G.rules.tier_size tier ≤ TIER_SIZE }
+    ensures tier { IfOk result.0 (λ t. t.tier ≡ tier) }
+    ensures records { IfOk result.0 (λ t. t.records ≡ records) }
+    ensures table { IfOk result.0 (IsTable G.rules) }
+    ensures are_true { IsOk result.0 ↔ IsTrueTable G.rules REMOTENESS tier records }
+    ensures wrong { IfErr result.0 (AreWrong G.rules tables.now tier records) }
+    ensures sealed { IsTrue result.1 ↔ IsSealed bytes.now }
+{
+    check_packed_by(
+        rt,
+        tier,
+        records,
+        tables,
+        move || -> bool
+            ensures { IsTrue result ↔ IsSealed bytes.entry.now }
+        { is_sealed(bytes) },
+    )
 }

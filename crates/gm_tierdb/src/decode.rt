@@ -92,6 +92,20 @@ pub fn decode_v1<G: Game>(
     read_list::<G>(alloc, Version::One, tier, bytes)
 }
 
+/// Returns the packed records of a tier, from its file of version 1. It answers as `decode_v1` does.
+pub fn decode_packed_v1<G: Game>(
+    alloc: Global,
+    tier: u64,
+    bytes: &[u8],
+) -> Result<Packed, FileError>
+    ensures found { IfOk result (λ records. IsTierText1 G.rules tier records bytes.now) }
+    ensures exact { (records : List (Option Solved)) → IsTierText1 G.rules tier records bytes.now
+        → MatchResult result (λ found. found ≡ records) (λ e. e ≡ FileError.OutOfMemory) }
+    ensures refused { IfErr result (Refuses1 G.rules tier bytes.now) }
+{
+    read_file::<G>(alloc, Version::One, tier, bytes)
+}
+
 // Returns the records in a list, or why the bytes are refused.
 fn read_list<G: Game>(
     alloc: Global,
