@@ -182,7 +182,7 @@ SHOWN = """(async () => {
   for (const k of %s) {
     await begin(k);
     const moves = [...document.querySelectorAll("#moves li")].flatMap(li =>
-      [...li.querySelectorAll("button")].map(b => [b.textContent, li.querySelector(".value").textContent, b.classList.contains("far")]));
+      [...li.querySelectorAll("button")].map(b => [b.move.name, li.querySelector(".value").textContent, b.classList.contains("far")]));
     shown.push([textAt(at), $("state").textContent, moves]);
   }
   return shown;
