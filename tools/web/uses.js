@@ -289,7 +289,7 @@
     globalThis.setTimeout = (act, time) => clock(act, time / 20);
     try { await part(); } catch (error) { wrong.push(String(error.message || error)); }
     globalThis.setTimeout = clock;
-    if ($("cancel") && !$("cancel").hidden) $("cancel").click();
+    if ($("cancel")?.getClientRects().length) $("cancel").click();
     return wrong.map(why => `${name}: ${why}`);
   }]));
 })()

@@ -254,7 +254,12 @@ pub const PARTS: &[u8] = br##"</style>
 <svg id="board" role="group" aria-label="Board: arrow keys go from point to point"></svg>
 <p id="counted" role="status" hidden></p>
 <div class="bar" id="palette" role="group" aria-label="What a press puts down" hidden></div>
-<div class="bar" role="group" aria-label="Line">
+<div class="bar" id="finish" role="group" aria-label="Edited board" hidden>
+<button id="done">Done</button>
+<button id="swap">Other side to move</button>
+<button id="cancel">Leave as it was</button>
+</div>
+<div class="bar" id="steps" role="group" aria-label="Line">
 <button id="first" aria-label="To the start">&#8676;</button>
 <button id="back" aria-label="Back">&#8592;</button>
 <button id="next" aria-label="Forward">&#8594;</button>
@@ -282,8 +287,6 @@ pub const PARTS: &[u8] = br##"</style>
 <select id="length" aria-label="Length of puzzles"></select>
 <button id="random">Random position</button>
 <button id="edit" aria-pressed="false">Edit the board</button>
-<button id="swap" hidden>Other side to move</button>
-<button id="cancel" hidden>Leave as it was</button>
 </div>
 <form id="typed" aria-label="Any position"><label for="typing">Position</label>
 <input id="typing" autocomplete="off" autocapitalize="off" spellcheck="false" maxlength="400" aria-describedby="why"><button>Go</button>

@@ -31,9 +31,8 @@ const kinds = () => [...game.men].flatMap((letter, kind) => !squared(game) || ga
 function editing() {
   const many = editor && game.men.length > 0;
   $("edit").setAttribute("aria-pressed", editor !== null);
-  $("edit").textContent = editor ? "Done" : "Edit the board";
-  $("edit").removeAttribute("aria-disabled");
-  for (const id of ["swap", "cancel", "counted"]) $(id).hidden = !editor;
+  for (const id of ["finish", "counted"]) $(id).hidden = !editor;
+  $("steps").hidden = editor !== null;
   $("palette").hidden = !many;
   $("typed").hidden = $("text").hidden = editor !== null;
   if (many) layPalette();
@@ -99,7 +98,7 @@ function drawEdited() {
   const told = kinds().map(kind => `${kindName(game, kind)} ${counts[kind]}`).join(", ");
   const why = row !== null ? "" : whyNoPosition(game, men, who);
   $("counted").textContent = [told, why].filter(Boolean).join(". ");
-  $("edit").setAttribute("aria-disabled", row === null);
+  $("done").setAttribute("aria-disabled", row === null);
 }
 
 // ---- Against the solver. It plays the best moves or, on the other levels, errs in one of 8, 4 or 2 moves. The seed and the position decide in which, so that the

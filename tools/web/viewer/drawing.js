@@ -105,7 +105,7 @@ const acts = {
   first: () => go(0), back: () => go(at - 1), next: () => go(at + 1), end: () => go(line.length - 1), lead, random: () => random(),
   best: () => { if (moves.length) play(moves[0]); }, hide: () => { hidden = !hidden; draw(); }, typing: () => $("typing").select(),
   all: () => { location.hash = ""; },
-  puzzle, edit, swap, cancel, copy, help, undo: takeBack,
+  puzzle, edit, done: finish, swap, cancel, copy, help, undo: takeBack,
 };
 const keys = { ArrowLeft: "back", ArrowRight: "next", Home: "first", End: "end" };
 const letters = { b: "best", l: "lead", v: "hide", r: "random", p: "puzzle", e: "edit", t: "typing", g: "all", h: "help", u: "undo" };

@@ -28,9 +28,8 @@ const kinds = () => [...game.men].flatMap((letter, kind) => !squared(game) || ga
 function editing() {
   const many = editor && game.men.length > 0;
   $("edit").setAttribute("aria-pressed", editor !== null);
-  $("edit").textContent = editor ? "Done" : "Edit the board";
-  $("edit").removeAttribute("aria-disabled");
-  for (const id of ["swap", "cancel", "counted"]) $(id).hidden = !editor;
+  for (const id of ["finish", "counted"]) $(id).hidden = !editor;
+  $("steps").hidden = editor !== null;
   $("palette").hidden = !many;
   $("typed").hidden = $("text").hidden = editor !== null;
   if (many) layPalette();
@@ -96,5 +95,5 @@ function drawEdited() {
   const told = kinds().map(kind => `${kindName(game, kind)} ${counts[kind]}`).join(", ");
   const why = row !== null ? "" : whyNoPosition(game, men, who);
   $("counted").textContent = [told, why].filter(Boolean).join(". ");
-  $("edit").setAttribute("aria-disabled", row === null);
+  $("done").setAttribute("aria-disabled", row === null);
 }
