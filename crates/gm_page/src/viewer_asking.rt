@@ -174,12 +174,22 @@ function takeGiven() {
     rows[rowOf(text, value)].moves = groups.flatMap(([worth, ...rest]) => rest.flatMap(moveOf(worth, rest)));
   });
 }
-// Asks for the moves of those of these rows that have none yet.
+// Asks for the moves of those of these rows that have none yet, unless the answer is awaited already.
+let awaits = new Map();
 async function fill(...some) {
-  const fresh = some.filter(row => row !== null && !rows[row].moves), of = game;
-  if (!fresh.length) return;
-  const said = await ask("ask", { game: of.game, text: fresh.map(row => rows[row][0] + "\n").join("") });
-  if (of === game) said.trim().split("\n").forEach((line, k) => take(fresh[k], JSON.parse(line)));
+  const lacking = some.filter(row => row !== null && !rows[row].moves), fresh = lacking.filter(row => !awaits.has(row));
+  if (fresh.length) {
+    const answer = askFor(fresh, awaits);
+    for (const row of fresh) awaits.set(row, answer);
+  }
+  await Promise.all(lacking.map(row => awaits.get(row)));
+}
+async function askFor(fresh, waits) {
+  const of = game;
+  try {
+    const said = await ask("ask", { game: of.game, text: fresh.map(row => rows[row][0] + "\n").join("") });
+    if (of === game) said.trim().split("\n").forEach((line, k) => take(fresh[k], JSON.parse(line)));
+  } finally { for (const row of fresh) waits.delete(row); }
 }
 // The row of the position with this text, with its moves, or null.
 async function find(text) {

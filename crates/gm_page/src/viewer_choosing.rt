@@ -216,6 +216,7 @@ async function open(wanted, turn) {
   game = wanted;
   rows = [];
   numbers = new Map();
+  awaits = new Map();
   line = [];
   mine = editor = puzzled = null;
   cursor = 0;
