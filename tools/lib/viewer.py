@@ -21,10 +21,10 @@ GAMES = "games.json"
 # The parts of the script, in the order in which a page has them: the constant, its module, and its files.
 SCRIPT = (
     ("ASKING", "viewer_asking", ("lines.js", GAMES, "asking.js")),
-    ("BOARDS", "viewer_boards", ("boards.js",)),
-    ("PLAYING", "viewer_playing", ("playing.js",)),
-    ("CHOOSING", "viewer_choosing", ("choosing.js",)),
-    ("DRAWING", "viewer_drawing", ("drawing.js",)),
+    ("BOARDS", "viewer_boards", ("men.js", "boards.js")),
+    ("PLAYING", "viewer_playing", ("editing.js", "playing.js")),
+    ("CHOOSING", "viewer_choosing", ("texts.js", "choosing.js")),
+    ("DRAWING", "viewer_drawing", ("replies.js", "drawing.js")),
 )
 PAGE = {"OPENING": "front", "STYLE": "front", "PARTS": "front", "BETWEEN": "engine"}
 SHEET = ("SHEET_FRONT", "SHEET_DIAGRAMS", "SHEET_SOLUTIONS", "SHEET_BACK")
@@ -52,16 +52,35 @@ def family(game: str) -> str:
     return re.sub(r"-\d(x\d)?", "", game)
 
 
+# The members of games.json of which the script has tables: the table, and what it has of each game.
+TABLES = (
+    ("LEGAL", "legal", "how many legal positions it has"),
+    ("WORTHS", "worth", "what its start is worth"),
+    ("ADDS", "adds", "how many men each move adds"),
+    ("TURNS", "turn", "how the board is turned for the second player"),
+    ("ROWS", "rows", "the rows that end it, by their shapes or their points"),
+)
+
+
+def table(name: str, member: str) -> str:
+    """A table of the script: the games of which games.json has this member, with what it is."""
+    told = {game: told.get(member) or (told.get("lines") if member == "rows" else None) for game, told in TOLD.items()}
+    entries = ", ".join(f'"{game}": {json.dumps(it)}' for game, it in told.items() if it)
+    lines = textwrap.fill(entries, 150, initial_indent="  ", subsequent_indent="  ", break_long_words=False, break_on_hyphens=False)
+    return f"const {name} = {{\n{lines}\n}};\n"
+
+
 def words_of_games() -> str:
-    """Words about the games: the rules of each, or of its family, in a few lines, and how many legal positions it has if the engine solves it."""
+    """What the script knows of the games beside their lines: the rules of each, or of its family, in a few lines, and tables."""
     ruled = {game: told["rules"] for game, told in TOLD.items() if "rules" in told}
     families = Counter(map(family, ruled))
     rules = "".join(f'  "{game if families[family(game)] > 1 else family(game)}":\n    {quoted(text)},\n' for game, text in ruled.items())
-    counts = ", ".join(f'"{game}": {told["legal"]}' for game, told in TOLD.items() if "legal" in told)
-    legal = textwrap.fill(counts, 150, initial_indent="  ", subsequent_indent="  ")
     return (
-        "// ---- Words about the games: the rules of each in a few lines, and how many legal positions it has.\n"
-        f"const RULES = {{\n{rules}}};\nconst LEGAL = {{\n{legal}\n}};\n\n"
+        "// ---- The games: the rules of each in a few lines; "
+        + "; ".join(f"{what} ({name})" for name, _, what in TABLES)
+        + f".\nconst RULES = {{\n{rules}}};\n"
+        + "".join(table(name, member) for name, member, _ in TABLES)
+        + "\n"
     )
 
 

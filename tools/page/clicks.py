@@ -8,6 +8,8 @@ from page.looks import CONTRAST, NAMED, NAMELESS
 # How a place's middle is found (above the badge that may stand there), and what a game in a page is at.
 MIDDLE = "k => { const r = board.places[k].g.querySelector('.hit').getBoundingClientRect(); return [r.x + r.width / 2, r.y + r.height / 3]; }"
 WIDTHS = ((360, 740), (1280, 800))
+# What is drawn on each place, if men are of two kinds: then a move changes no place but its ends, also if the game turns its board.
+MEN = "board.places.map((_, k) => game.men.length === 2 ? kindAt(k) : 0)"
 SOME_MOVES = """(async () => {
   for (let k = 0; k < 4; k++) {
     const inside = moves.filter(m => m.to !== null);
@@ -73,8 +75,11 @@ class Tried:
             if not inside:
                 return
             name, to, ends = self.chance.choice(inside)
+            before = self.js(MEN)
             self.press(ends, ply % 2)
             self.moves += 1
+            changed = [k for k, (was, now) in enumerate(zip(before, self.js(MEN))) if was != now]
+            self.want(f"places that {name} changes, beside its ends", [k for k in changed if k not in ends], [])
             if not self.want(f"{name} by clicks", self.js("[line[at].row, at]"), [to, ply + 1]):
                 return
 
@@ -182,7 +187,7 @@ SHOWN = """(async () => {
   for (const k of %s) {
     await begin(k);
     const moves = [...document.querySelectorAll("#moves li")].flatMap(li =>
-      [...li.querySelectorAll("button")].map(b => [b.textContent, li.querySelector(".value").textContent, b.classList.contains("far")]));
+      [...li.querySelectorAll("button")].map(b => [b.move.name, li.querySelector(".value").textContent, b.classList.contains("far")]));
     shown.push([textAt(at), $("state").textContent, moves]);
   }
   return shown;

@@ -1,5 +1,5 @@
-"""The page with all games and that of one game, opened from their files in Chromium: looks, names, addresses, keys, typing, play, puzzles, editing, answers, and
-no request; and both without WebAssembly."""
+"""The page with all games and that of one game, opened from their files in Chromium: looks, names, addresses, keys, typing, play, puzzles, answers, and no
+request; what players do (uses.js); and both pages without WebAssembly."""
 import os
 import re
 import time
@@ -19,6 +19,7 @@ SHOWN = """(async text => {
   const row = await find(text);
   return [rows[row][1], rows[row].moves.map(m => [m.name, m.worth, rows[m.to][0]])];
 })"""
+HERE = os.path.dirname(os.path.abspath(__file__))
 OVER = "document.documentElement.scrollWidth > document.documentElement.clientWidth"
 FRESH = """(async () => {
   const took = [];
@@ -81,7 +82,17 @@ class Tried:
                     self.want(f"contrast of {what}", self.js(CONTRAST), [])
                     self.want(f"names of {what}", self.js(NAMELESS), [])
                     self.shot(f"{where[1:] or 'list'}-{width}-{letters}-{scheme}", width, height)
+                    if where and width == 360:
+                        self.edited_looks(what)
         self.browser.size(1280, 960, "light")
+
+    def edited_looks(self, what):
+        """The same of an edited board that is no position, and the moves in the first window before that."""
+        self.want(f"the moves' top of {what}", self.js("$('moves').getBoundingClientRect().top < innerHeight - 40"))
+        self.js("edit().then(() => board.inRow || change(0))")
+        for name, found in (("width", OVER), ("contrast", CONTRAST), ("names", NAMELESS)):
+            self.want(f"{name} of {what}, edited", self.js(found) or [], [])
+        self.js("cancel()")
 
     def shot(self, name, width, height):
         if self.pictures:
@@ -91,6 +102,7 @@ class Tried:
     def names(self):
         """What can be pressed has a name, and the value is in a part that is spoken."""
         self.open("#dao")
+        self.soon("replies", "$('moves').querySelector('small') !== null")
         self.browser.call("Accessibility.enable")
         nodes = [node for node in self.browser.call("Accessibility.getFullAXTree")["nodes"] if not node.get("ignored")]
         named = [(node["role"]["value"], node.get("name", {}).get("value", "")) for node in nodes]
@@ -98,6 +110,9 @@ class Tried:
         places = [name for role, name in named if role == "button" and re.match("[a-d][1-4], ", name)]
         self.want("places of the board", len(places), 16)
         self.want("a place's name", "a1, Black, draw" in places)
+        names = [name for _, name in named]
+        for name in ("a1-a3, 10/10: 10 of 10 replies keep the draw", "Play", "Solver", "Length of puzzles", "Copy link", "Edit the board", "Puzzle"):
+            self.want(f"the name {name}", name in names)
         self.want("what is spoken", self.js("$('state').getAttribute('role') === 'status' && $('state').textContent.includes('draw')"))
 
     def addresses(self):
@@ -169,16 +184,13 @@ class Tried:
         self.js("play(moves.find(m => word(m.worth) !== 'win'))")
         self.soon("a wrong move", "$('say').textContent.startsWith('That gives the win away.')")
 
-    def editing(self):
-        self.open("#tictactoe")
-        self.js("$('edit').click()")
-        self.soon("editing", "edited === '.........' && $('edit').getAttribute('aria-pressed') === 'true'")
-        self.js("press(4)")
-        self.soon("one press", "edited === '....x....' && $('state').textContent === 'No position of the game'")
-        self.js("press(4)")
-        self.soon("two presses", "edited === '....o....' && $('state').textContent.includes('tie in 8')")
-        self.js("$('edit').click()")
-        self.soon("edited", "edited === null && textAt(at) === '....o....'")
+    def uses(self):
+        """What players do with the page, by the script that Firefox takes too: editing, play, puzzles, texts."""
+        self.open("#dao")
+        with open(os.path.join(HERE, "uses.js"), encoding="ascii") as it:
+            self.js(f"globalThis.USES = {it.read()}; 0")
+        for part in self.js("Object.keys(USES)"):
+            self.wrong += self.js(f"USES[{part!r}]()")
 
     def answers(self):
         """What the page shows of random positions, compared with the program's answers."""
@@ -222,7 +234,10 @@ class Tried:
         self.browser.until("!$('explorer').hidden && $('state').textContent !== ''")
         self.want("Dao without WebAssembly", "shows the positions that it has been given" in self.js("$('fault').textContent"))
         self.want("its first position", self.js("[textAt(at), valueAt(at), moves.length]"), ["x..o.xo..ox.o..x", "draw", 12])
-        self.want("what needs the engine", self.js("['random', 'against', 'worths'].every(id => $(id).hidden)"))
+        self.want("what needs the engine", self.js("['random', 'against', 'setting', 'worths'].every(id => $(id).hidden)"))
+        self.js("$('best').focus()")
+        self.browser.key("e", "e")
+        self.want("the key e without the engine", self.js("editor"), None)
         self.js("play(moves.find(m => m.to !== null))")
         self.browser.until("at === 1")
         self.js("go(0)")
@@ -235,7 +250,7 @@ class Tried:
 
     def run(self):
         try:
-            for part in (self.looks, self.names, self.addresses, self.typing, self.keys, self.play, self.puzzles, self.editing, self.answers, self.worths, self.times,
+            for part in (self.looks, self.names, self.addresses, self.typing, self.keys, self.play, self.puzzles, self.uses, self.answers, self.worths, self.times,
                          self.single):
                 part()
                 faults = [it for it in self.browser.faults(self.url) if not str(it).startswith("blob:")]

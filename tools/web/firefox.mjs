@@ -1,9 +1,11 @@
 // node --experimental-websocket firefox.mjs PAGE [FOLDER]: opens the page with all games from its file in Firefox without a window, at two widths and in two
-// schemes. For some games it prints the time to the first value, that to a position never seen, and what does not fit. By hand: the gate tries Chromium.
+// schemes. For some games it prints the time to the first value, that to a position never seen, and what does not fit. Then it does what players do (uses.js). By
+// hand: the gate tries Chromium.
 import { spawn } from "child_process";
 import fs from "fs";
 import os from "os";
 import path from "path";
+const USES = fs.readFileSync(new URL("uses.js", import.meta.url), "utf8");
 const page = path.resolve(process.argv[2]), READY = "($('fault').textContent !== '') || (game && line.length && $('state').textContent !== '') ? 'yes' : 'no'";
 const FRESH = `(async () => {
   const took = [];
@@ -49,6 +51,14 @@ async function tried(dark, port) {
       if (fault || over !== "0") faults++;
       const where = `${game} at ${width}, ${dark ? "dark" : "light"}`, state = await js("$('state').textContent");
       console.log(`${where}: ${took} ms to the first value, ${await js(FRESH)} ms for a new position, ${over} pixels too wide, '${state}' ${fault}`);
+    }
+  }
+  if (!dark) {
+    await call("browsingContext.setViewport", { context, viewport: { width: 1280, height: 960 } });
+    for (const part of JSON.parse(await js(`globalThis.USES = ${USES}; JSON.stringify(Object.keys(USES))`))) {
+      const wrong = JSON.parse(await js(`USES[${JSON.stringify(part)}]().then(JSON.stringify)`));
+      for (const why of wrong) console.log(`WRONG: ${why}`);
+      faults += wrong.length;
     }
   }
   const shot = await call("browsingContext.captureScreenshot", { context });

@@ -39,7 +39,7 @@ def legal_of(program, name):
 def wrong_lines(program, lines):
     """What is wrong with the lines of the page of all games."""
     heads = [json.loads(line) for line in lines.decode().splitlines()]
-    names, rules, legal = [head["game"] for head in heads], words_of(b"RULES"), words_of(b"LEGAL")
+    names, rules, legal, worths = [head["game"] for head in heads], words_of(b"RULES"), words_of(b"LEGAL"), words_of(b"WORTHS")
     if sorted(names) != sorted(solved_names()) or sorted(legal) != sorted(names):
         yield f"its games are {names}, and not those of the engine, {solved_names()}, or of its words, {list(legal)}"
     for head in heads:
@@ -49,6 +49,8 @@ def wrong_lines(program, lines):
             yield f"the line of {name} is {head}"
         if legal.get(name) != legal_of(program, name):
             yield f"{name} has {legal_of(program, name)} legal positions, and not {legal.get(name)}"
+        if worths.get(name) != first[1]:
+            yield f"the start of {name} is worth {first[1]}, and not {worths.get(name)}"
         if not (rules.get(name) or rules.get(re.sub(r"-\d(x\d)?", "", name))):
             yield f"{name} has no rules"
 

@@ -47,7 +47,6 @@ pub const STYLE: &[u8] = br##"/* ---- colours: by day, by night, on paper */
 * { box-sizing: border-box; }
 body { margin: 0; padding: 1rem; background: var(--back); color: var(--ink); font: 1rem/1.4 system-ui, sans-serif; }
 header, main, footer { max-width: 78rem; margin: 0 auto 1rem; }
-main { display: grid; gap: 1rem; grid-template-columns: 7fr 5fr 6fr; align-items: start; }
 section { min-width: 0; padding: .9rem; background: var(--card); border: 1px solid var(--rule); border-radius: .6rem; }
 h1 { margin: 0; font: 600 1.7rem/1.2 Georgia, serif; color: var(--ink); }
 h2 { margin: 0; font-size: .8rem; letter-spacing: .08em; text-transform: uppercase; color: var(--soft); }
@@ -114,7 +113,7 @@ button:disabled { opacity: .5; border-style: dashed; cursor: default; }
 svg { display: block; width: 100%; user-select: none; font-family: system-ui, sans-serif; }
 svg text { text-anchor: middle; dominant-baseline: central; }
 .swatch { width: 1.1em; flex: none; }
-#board { max-height: 60vh; margin-top: .5rem; background: var(--board); border-radius: .4rem; }
+#board { max-height: 72vh; margin-top: .5rem; background: var(--board); border-radius: .4rem; }
 .net { fill: none; stroke: var(--lines); stroke-width: 2.5; stroke-linecap: round; }
 .name { font-size: 13px; fill: var(--soft); }
 .cell { fill: var(--card); stroke: var(--lines); }
@@ -143,20 +142,20 @@ svg text { text-anchor: middle; dominant-baseline: central; }
 .hint { stroke-width: 9; stroke-dasharray: none; opacity: .55; }
 
 /* ---- narrow windows, and paper */
-@media (max-width: 62rem) {
-  main { grid-template-columns: 6fr 5fr; }
-  #here { grid-row: span 2; }
-}
 @media (max-width: 42rem) {
   body { padding: .6rem; }
-  main { grid-template-columns: minmax(0, 1fr); }
-  #here { grid-row: auto; }
+  header, main { margin-bottom: .5rem; }
+  section { padding: .6rem; }
+  h1 { font-size: 1.3rem; }
+  summary { padding: 0; }
+  main { gap: .5rem; }
   .tall { max-height: none; }
 }
 @media print {
   * { print-color-adjust: exact; }
   .bar:not(#moves .bar, .top), .top button, footer, #say { display: none; }
-  main { grid-template-columns: 1fr 1fr; }
+  main { display: grid; grid-template: none; grid-template-columns: 1fr 1fr; }
+  #here, #choices, #tools, #past { grid-area: auto; }
   section { border: 0; padding: 0; }
   .tall { max-height: none; overflow: visible; }
   #moves button { min-height: 0; }
@@ -168,15 +167,16 @@ nav, #work, #fault, #way { max-width: 78rem; margin: 0 auto 1rem; }
 #fault:empty { display: none; }
 #fault { color: var(--lose); font-weight: 600; }
 h1:focus { outline: none; }
-#list { display: grid; grid-template-columns: repeat(auto-fill, minmax(9.5rem, 1fr)); gap: .8rem; }
-#list a {
+#games ul { display: grid; grid-template-columns: repeat(auto-fill, minmax(9.5rem, 1fr)); gap: .8rem; }
+#games a {
   display: block; height: 100%; padding: .6rem; background: var(--card); color: var(--ink); border: 1px solid var(--rule); border-radius: .6rem;
   font: inherit; text-decoration: none;
 }
-#list a:hover { border-color: var(--hot); }
-#list svg { height: 6.5rem; margin-bottom: .4rem; background: var(--board); border-radius: .4rem; }
-#list b { display: block; }
-#list span { font-size: .8rem; color: var(--soft); }
+#games a:hover { border-color: var(--hot); }
+#games h2 { margin: 1rem 0 .4rem; }
+#games svg { height: 6.5rem; margin-bottom: .4rem; background: var(--board); border-radius: .4rem; }
+#games b { display: block; }
+#games span { font-size: .8rem; color: var(--soft); }
 progress { width: 100%; height: 1rem; accent-color: var(--hot); }
 form { display: flex; flex-wrap: wrap; gap: .4rem; align-items: center; margin-top: .5rem; font-size: .9rem; color: var(--soft); }
 input, select {
@@ -184,10 +184,23 @@ input, select {
   border: 1px solid var(--rule); border-radius: .4rem;
 }
 input[aria-invalid] { border-color: var(--lose); }
-/* (by the size of letters, so that enlarged ones get fewer columns) */
-main { grid-template-columns: repeat(auto-fit, minmax(min(100%, 21rem), 1fr)); }
-#here { grid-row: auto; }
+/* The parts of the explorer. Columns go by the size of letters too, so that enlarged ones get fewer. */
+body { container-type: inline-size; }
+main { display: grid; gap: 1rem; grid-template-columns: minmax(0, 1fr); align-items: start; }
+@container (min-width: 44rem) {
+  main { grid-template: "here choices" auto "here past" auto "tools past" 1fr / minmax(0, 11fr) minmax(0, 9fr); }
+  #here { grid-area: here; }
+  #choices { grid-area: choices; }
+  #tools { grid-area: tools; }
+  #past { grid-area: past; }
+}
+@container (min-width: 68rem) {
+  main { grid-template: "here choices past" auto "here tools tools" 1fr / minmax(0, 32rem) minmax(0, 1fr) minmax(0, 1fr); }
+  .tall { max-height: 22rem; }
+}
 #moves li { grid-template-columns: minmax(0, 6.4rem) minmax(5rem, 1fr); }
+#moves p { grid-column: 1 / -1; margin: .2rem 0 0; font-size: .85rem; color: var(--soft); }
+#moves small { font-size: .75rem; font-weight: 400; color: var(--soft); }
 .wide { grid-column: 1 / -1; }
 #counts { columns: 17rem; column-gap: 1.5rem; margin-top: .4rem; }
 #counts button {
@@ -200,12 +213,24 @@ main { grid-template-columns: repeat(auto-fit, minmax(min(100%, 21rem), 1fr)); }
 #counts i { height: .7rem; background: var(--shade); border-radius: .2rem; }
 #counts em { font-style: normal; text-align: right; color: var(--soft); }
 select { flex: 1 1 9rem; font-family: inherit; }
+#length { flex: 0 1 9rem; }
+#seeded { display: flex; gap: .4rem; }
+#seed { width: 5.5rem; flex: none; }
+#text { flex: 1 1 12rem; align-self: center; }
+#why { flex: 1 0 100%; margin: 0; color: var(--lose); }
+#why:empty { display: none; }
+.none { font-size: .9rem; color: var(--lose); }
+#counted { font-size: .9rem; }
+#palette .swatch { display: inline-block; margin-right: .3rem; vertical-align: -.15em; }
+[aria-disabled=true]:not([role]) { border-style: dashed; color: var(--soft); }
+.ended { fill: none; stroke: var(--hot); stroke-width: 5; pointer-events: none; }
+.over { padding: .2rem .6rem; border: 2px solid var(--hot); border-radius: .4rem; }
 .bar label { align-self: center; font-size: .9rem; color: var(--soft); }
 .bar [aria-pressed=true] { border-color: var(--hot); color: var(--hot); font-weight: 600; }
 [role=button] { outline: none; }
 [role=button]:focus-visible .hit { stroke: var(--hot); stroke-width: 5; }
 #rules p { max-width: 46rem; }
-@media (max-width: 42rem) { #list { grid-template-columns: repeat(2, minmax(0, 1fr)); gap: .5rem; } }
+@media (max-width: 42rem) { #games ul { grid-template-columns: repeat(2, minmax(0, 1fr)); gap: .5rem; } }
 @media print { nav, #way, form, #counts { display: none; } }
 "##;
 
@@ -221,39 +246,55 @@ pub const PARTS: &[u8] = br##"</style>
 </header>
 <noscript><p>Games are shown and solved by a script, and scripts are switched off here. The data are in the source of this page.</p></noscript>
 <p id="fault" role="alert"></p>
-<nav id="games" aria-label="Games" hidden><ul id="list"></ul></nav>
+<nav id="games" aria-label="Games" hidden></nav>
 <section id="work" aria-label="Solving" hidden><p id="working" role="status"></p><progress id="bar" aria-labelledby="working"></progress></section>
 <main id="explorer" aria-label="Explorer" hidden>
 <section id="here" aria-label="Position">
 <p id="state" role="status"></p>
 <svg id="board" role="group" aria-label="Board: arrow keys go from point to point"></svg>
-<div class="bar" role="group" aria-label="Line">
+<p id="counted" role="status" hidden></p>
+<div class="bar" id="palette" role="group" aria-label="What a press puts down" hidden></div>
+<div class="bar" id="finish" role="group" aria-label="Edited board" hidden>
+<button id="done">Done</button>
+<button id="swap">Other side to move</button>
+<button id="cancel">Leave as it was</button>
+</div>
+<div class="bar" id="steps" role="group" aria-label="Line">
 <button id="first" aria-label="To the start">&#8676;</button>
 <button id="back" aria-label="Back">&#8592;</button>
 <button id="next" aria-label="Forward">&#8594;</button>
 <button id="end" aria-label="To the end of the line">&#8677;</button>
 <button id="best">Best move</button>
-<button id="lead">Best line</button>
-<button id="random">Random</button>
-</div>
-<div class="bar" id="against" role="group" aria-label="Play">
-<label for="versus">Play</label>
-<select id="versus"></select>
-<button id="puzzle">Puzzle</button>
-<button id="edit" aria-pressed="false">Edit the board</button>
-<button id="swap" hidden>Other side to move</button>
+<button id="undo" hidden>Take back</button>
+<button id="help" hidden>Hint</button>
 </div>
 <p id="say" role="status"></p>
-<form id="typed" aria-label="Any position"><label for="typing">Position</label>
-<input id="typing" autocomplete="off" autocapitalize="off" spellcheck="false" maxlength="66"><button>Go</button></form>
-<p id="text"></p>
 </section>
-<section aria-labelledby="count">
+<section id="choices" aria-labelledby="count">
 <div class="bar top"><h2 id="count">Moves</h2><button id="hide">Hide values</button></div>
 <div class="tall"><ul id="moves"></ul></div>
 </section>
-<section aria-labelledby="history">
-<h2 id="history">Line and value history</h2>
+<section id="tools" aria-label="Play, puzzles and positions">
+<div class="bar" id="against" role="group" aria-label="Play">
+<label for="versus">Play</label>
+<select id="versus"></select>
+<label for="level">Solver</label>
+<select id="level"></select>
+<span id="seeded" hidden><label for="seed">Seed</label> <input id="seed" type="number" min="0" max="999999"></span>
+</div>
+<div class="bar" id="setting" role="group" aria-label="Puzzles and boards">
+<button id="puzzle">Puzzle</button>
+<select id="length" aria-label="Length of puzzles"></select>
+<button id="random">Random position</button>
+<button id="edit" aria-pressed="false">Edit the board</button>
+</div>
+<form id="typed" aria-label="Any position"><label for="typing">Position</label>
+<input id="typing" autocomplete="off" autocapitalize="off" spellcheck="false" maxlength="400" aria-describedby="why"><button>Go</button>
+<p id="why" role="alert"></p></form>
+<div class="bar"><p id="text"></p><button id="copy">Copy link</button></div>
+</section>
+<section id="past" aria-labelledby="history">
+<div class="bar top"><h2 id="history">Line and value history</h2><button id="lead">Best line</button></div>
 <div class="tall"><div class="history"><p id="sides" aria-hidden="true"></p><ol id="line"></ol><svg id="plot" aria-hidden="true"></svg></div></div>
 </section>
 <section id="worths" aria-labelledby="kinds" class="wide">
@@ -265,28 +306,39 @@ pub const PARTS: &[u8] = br##"</style>
 <dl>
 <dt>win in 5, lose in 4, tie in 9, draw</dt>
 <dd>What a position is worth to the side to move, and a move to the side that makes it: with best play of both sides the game
-ends so after that many moves. A draw never ends. On the board: W5, L4, T9, D.</dd>
+ends so after that many moves, of both sides together. A draw never ends. On the board: W5, L4, T9, D.</dd>
+<dt>2/7 on a move</dt>
+<dd>Of the other side's 7 replies 2 keep the draw or the tie; after a move that loses, 2 of them win. The fewer, the harder to answer. What a move's slip costs
+is in the words that a mouse over it, or a screen reader, finds; the hardest move is named below the others.</dd>
 <dt>To play</dt>
 <dd>Choose a move in the list. Or on the board: a cell; a piece and its target; the two ends of what is taken (for one
-counter, twice the same). With a mouse dragging does as well. A move with an arrow leads out of this page; larger pages are made with
-<code>--limit</code>.</dd>
+counter, twice the same). With a mouse dragging does as well.<span class="tables"> A move with an arrow leads out of this page; larger pages are made with
+<code>--limit</code>.</span> Some games turn the board for the second player; here it stays as the first player sees it.</dd>
 <dt class="solver">Against the solver</dt>
-<dd class="solver">Choose your side: the solver makes the moves of the other one, always a best one, and values are hidden. A puzzle is a position that is won, by exactly
-one of its moves.</dd>
+<dd class="solver">Choose your side: the solver makes the moves of the other one, and values are hidden. It plays perfectly, or errs in one of 8, 4 or 2 moves; the
+seed decides in which, so the same seed and moves give the same game. Hint tells how many moves are good, and then one; Take back undoes your last move. A
+position that is on the board for the third time makes the game a draw.</dd>
+<dt class="solver">Puzzles</dt>
+<dd class="solver">A puzzle is a position that is won, by exactly one of its moves; in a game without such positions, by exactly one in the fewest moves. Its length
+counts the moves of both sides. It is solved when the game is won.</dd>
 <dt class="solver">Editing</dt>
-<dd class="solver">Edit the board, and a press on a point puts another piece there, or none. Its worth is shown as soon as the board is a position of the game.</dd>
+<dd class="solver">Edit the board, and a press on a point puts the next piece there, or the one that you choose below the board; a drag takes a piece to another point.
+Other side to move leaves the pieces as they are. The position's worth is shown as soon as it is one of the game, and else, if the page can tell, why it is none.
+Done takes it.</dd>
 <dt>Any position</dt>
-<dd>Type its text. <span class="solver">Or choose a worth among all positions, and one with that worth is picked at random. Symmetric positions count
-once.</span></dd>
+<dd>Type or paste its text; spaces and line breaks don't matter, and endings of chess may be in Forsyth's notation (FEN). <span class="solver">Or choose a worth
+among all positions, and one with that worth is picked at random. Symmetric positions count once.</span></dd>
 <dt>Keys</dt>
 <dd>Left and right go through the line, Home and End to its ends, up and down through a list; on the board the four arrows go from point to point, and Enter
-presses one. Within the page's parts b plays the best move, l shows the best line, v hides and shows the values, t goes to the text<span class="solver">, r picks a
-random position, p a puzzle, e edits the board, g goes to all games</span>. Escape lets go of a piece.</dd>
+presses one. Within the page's parts b plays the best move, l shows the best line, v hides and shows the values, t goes to the text, h gives a hint and u takes
+back while values are hidden<span class="solver">, r picks a random position, p a puzzle, e edits the board and is done with it<span id="many">, g goes to all
+games</span></span>. Escape lets go of a piece, and leaves an edited board as it was.</dd>
 <dt>Value history</dt>
 <dd>Each position of the line: on the side of the player who wins, nearer to the edge the fewer moves are left; a square in
 the middle where nobody wins.</dd>
 <dt>Links</dt>
-<dd>The address names the game, the position and the moves played from it; with ? after the game the values are hidden.</dd>
+<dd>The address names the game, the position and the moves played from it, and Copy link copies it. After the game's name ? hides the values, and ! gives the
+first move to the other side.</dd>
 </dl>
 <pre id="naming"></pre>
 <p class="tables">The values are those of gamesman's tables, which are proved. The script that shows them is not.</p>

@@ -21,9 +21,10 @@ const single = games.length === 1;
 // A page without the engine shows the positions that it has been given.
 const engined = $("engine").textContent !== "";
 for (const part of document.querySelectorAll(engined ? ".tables" : ".solver")) part.hidden = true;
+$("many").hidden = single;
 let game = null;
 
-// ---- Words about the games: the rules of each in a few lines, and how many legal positions it has.
+// ---- The games: the rules of each in a few lines; how many legal positions it has (LEGAL); what its start is worth (WORTHS); how many men each move adds (ADDS); how the board is turned for the second player (TURNS); the rows that end it, by their shapes or their points (ROWS).
 const RULES = {
   "dao":
     "Four stones a side. A stone slides in one of eight directions as far as it can. A full row or column, a square of two by two, or all four " +
@@ -104,6 +105,23 @@ const LEGAL = {
   "kqk": 372064, "tactix-1": 2, "tactix-2": 16, "tactix-3": 512, "tactix-4": 65536, "tactix-1-misere": 2, "tactix-2-misere": 16, "tactix-3-misere":
   512, "tactix-4-misere": 65536, "countdown": 11, "wheel": 10, "takeaway": 13, "shisima": 1600, "tapatan": 1520
 };
+const WORTHS = {
+  "dao": "draw", "dodgem": "win in 19", "hare": "win in 23", "tictactoe": "tie in 9", "threemens": "draw", "achi": "win in 11", "mutorere": "draw",
+  "ponghauki": "draw", "krk": "win in 23", "kqk": "win in 13", "tactix-1": "win in 1", "tactix-2": "lose in 4", "tactix-3": "win in 7", "tactix-4":
+  "lose in 16", "tactix-1-misere": "lose in 1", "tactix-2-misere": "lose in 3", "tactix-3-misere": "win in 6", "tactix-4-misere": "lose in 15",
+  "countdown": "win in 7", "wheel": "win in 3", "takeaway": "lose in 6", "shisima": "draw", "tapatan": "draw"
+};
+const ADDS = {
+  "domineering-4": 2, "tictactoe": 1, "threemens": 1, "achi": 1, "tictactoe-misere": 1, "notakto": 1, "hex-3": 1, "picaria": 1
+};
+const TURNS = {
+  "dodgem": "diagonal", "hex-3": "diagonal", "hexapawn": "half", "toads": "half"
+};
+const ROWS = {
+  "dao": "rows columns squares corners", "tictactoe": "rows columns diagonals", "threemens": "rows columns", "achi": "rows columns diagonals",
+  "tictactoe-misere": "rows columns diagonals", "notakto": "rows columns diagonals", "picaria": "rows columns diagonals", "shisima": ["0c4", "1c5",
+  "2c6", "3c7"], "tapatan": ["123", "456", "789", "147", "258", "369", "159", "357"]
+};
 
 // ---- The engine, in a thread of its own. It answers questions in turn. Its text unpacks to the script of that thread, a zero, and the module.
 const lacking = ["WebAssembly", "DecompressionStream", "Worker"].filter(name => typeof globalThis[name] === "undefined");
@@ -156,12 +174,22 @@ function takeGiven() {
     rows[rowOf(text, value)].moves = groups.flatMap(([worth, ...rest]) => rest.flatMap(moveOf(worth, rest)));
   });
 }
-// Asks for the moves of those of these rows that have none yet.
+// Asks for the moves of those of these rows that have none yet, unless the answer is awaited already.
+let awaits = new Map();
 async function fill(...some) {
-  const fresh = some.filter(row => row !== null && !rows[row].moves), of = game;
-  if (!fresh.length) return;
-  const said = await ask("ask", { game: of.game, text: fresh.map(row => rows[row][0] + "\n").join("") });
-  if (of === game) said.trim().split("\n").forEach((line, k) => take(fresh[k], JSON.parse(line)));
+  const lacking = some.filter(row => row !== null && !rows[row].moves), fresh = lacking.filter(row => !awaits.has(row));
+  if (fresh.length) {
+    const answer = askFor(fresh, awaits);
+    for (const row of fresh) awaits.set(row, answer);
+  }
+  await Promise.all(lacking.map(row => awaits.get(row)));
+}
+async function askFor(fresh, waits) {
+  const of = game;
+  try {
+    const said = await ask("ask", { game: of.game, text: fresh.map(row => rows[row][0] + "\n").join("") });
+    if (of === game) said.trim().split("\n").forEach((line, k) => take(fresh[k], JSON.parse(line)));
+  } finally { for (const row of fresh) waits.delete(row); }
 }
 // The row of the position with this text, with its moves, or null.
 async function find(text) {
@@ -174,31 +202,23 @@ async function find(text) {
   }
   return numbers.get(text);
 }
-// The moves of a row: each with its name, its worth, the row of its result, and the places of its ends.
-function movesOf(row) {
+// The moves of a row in which `who` is to move: each with its name, the name that is shown, its worth, the row of its result, and the places of its ends.
+function movesOf(row, who) {
   return rows[row].moves.map(m => {
     const named = m.name.split("-").map(end => squared(game) ? end.slice(-2) : end);
     const ends = game.men ? named : m.to === null ? [] : [rows[m.to][0]];
-    return { ...m, ends: ends.map(end => game.points.indexOf(end)) };
+    return { ...m, shown: shownMove(game, who, m.name), ends: ends.map(end => turned(game, who, game.points.indexOf(end))) };
   });
 }
 
-// The line of play: its positions, each with the move that led to it. `at` is the one that is shown, `moves` what can be
-// played there, `picked` the place that was pressed first, and `hidden` whether values are hidden.
-let line = [], at = 0, moves = [], picked = null, hidden = false;
-// The side that the player has against the solver, or null; whether the line's first position is a puzzle; the text on a board that is edited, or null; and the
-// place that the keyboard is at.
-let mine = null, puzzled = false, edited = null, cursor = 0;
+// The line of play: its positions, each with the move that led to it. `at` is the one that is shown, `moves` what can be played there, `picked` the place that
+// was pressed first, and `hidden` whether values are hidden. `starter` is the side to move at its first position.
+let line = [], at = 0, moves = [], picked = null, hidden = false, starter = 0;
+// The side that the player has against the solver, or null; the puzzle at the line's first position, or null; the board that is edited, or null; and the place
+// that the keyboard is at.
+let mine = null, puzzled = null, editor = null, cursor = 0;
 const textAt = k => rows[line[k].row][0], valueAt = k => rows[line[k].row][1];
-
-// On a board of chess each square has the same capital letter, and a position's text has a word for each man, its letter and its square.
-const squared = of => of.board.includes("A A");
-// The side to move, 0 or 1: by the text's last byte on a board of chess, or if the text has one byte more than there are points; else by turns.
-function sideOf(of, text, k) {
-  if (squared(of)) return "wf".includes(text.at(-1)) ? 0 : 1;
-  return of.men && text.length > of.points.length ? of.men.indexOf(text.at(-1)) : k % 2;
-}
-const side = k => sideOf(game, textAt(k), k);
+const side = k => sideOf(game, textAt(k), k + starter);
 function winner(k) {
   return { win: side(k), lose: 1 - side(k) }[word(valueAt(k))] ?? null;
 }

@@ -1,8 +1,84 @@
 //! A part of the script of a page.
 
 /// Boards and men, small and large, and places that are pressed.
-pub const BOARDS: &[u8] =
-    br##"// ---- A board, from its drawing, in which capital letters are the places of the bytes of a position's text. A column of
+pub const BOARDS: &[u8] = br##"
+// ---- Sides and men: who is to move in a position, and whose man is on each place. What the page knows of a game beside its line is in ADDS, TURNS and ROWS.
+// On a board of chess each square has the same capital letter, and a position's text has a word for each man, its letter and its square.
+const squared = of => of.board.includes("A A");
+// Whether the points are numbers, of which a position is one.
+const numbered = of => !/[A-Z]/.test(of.board);
+// Whether a position's text ends with the side to move.
+const sided = of => squared(of) || (of.men !== "" && of.start.length > of.points.length);
+const sideLetters = of => squared(of) && of.men !== "fh" ? "wb" : of.men;
+// The side to move, 0 or 1: by the text's end if it is there; else by turns, k moves after the first side's turn.
+const sideOf = (of, text, k) => sided(of) ? Math.max(0, sideLetters(of).indexOf(text.at(-1))) : k % 2;
+// The side to move in a position that a line begins with. Where moves only add men, their number tells it.
+function firstOf(of, text) {
+  const men = [...text].filter(byte => of.men.includes(byte)).length;
+  return ADDS[of.game] ? Math.floor(men / ADDS[of.game]) % 2 : sideOf(of, text, 0);
+}
+// Where the byte k of a text is on the board, and back. For the second side some games turn the board; it is drawn as the first side sees it.
+function turned(of, who, k) {
+  const many = of.points.length, wide = Math.sqrt(many);
+  if (!who || !TURNS[of.game] || k < 0) return k;
+  return TURNS[of.game] === "half" ? many - 1 - k : k % wide * wide + Math.floor(k / wide);
+}
+// The words of a move with the names of the points where it is on the board.
+function shownMove(of, who, name) {
+  const put = end => { const k = of.points.indexOf(end); return k < 0 ? end : of.points[turned(of, who, k)]; };
+  return who && TURNS[of.game] ? name.split("-").map(put).join("-") : name;
+}
+// The kind of the man on the place k of a position, by its place in the list of men, or -1. If sides swap, the text's first kind is that of the side to move,
+// and here that of the first side.
+function kindIn(of, text, who, k) {
+  if (numbered(of)) return -1;
+  if (squared(of)) return of.men.indexOf(text.split(" ").find(word => word.length === 3 && word.endsWith(of.points[k]))?.[0] ?? " ");
+  const kind = of.men.indexOf(text[turned(of, who, k)] ?? " ");
+  return kind < 0 || !of.swap || who === 0 ? kind : 1 - kind;
+}
+const menOf = (of, text, who) => of.points.map((_, k) => kindIn(of, text, who, k));
+// The side that has a kind of men: on a board of chess the last kind is the second side's.
+const ownerOf = (of, kind) => squared(of) && kind >= 0 ? Number(kind === of.men.length - 1) : kind;
+// The text of a position with these men.
+function textOf(of, men, who) {
+  const words = kind => men.flatMap((it, k) => it === kind ? [of.men[kind] + of.points[k]] : []).sort((a, b) => a[2] + a[1] < b[2] + b[1] ? -1 : 1);
+  if (squared(of)) return [...[...of.men].flatMap((_, kind) => words(kind)), sideLetters(of)[who]].join(" ");
+  const byte = kind => kind < 0 ? "." : of.men[of.swap && who ? 1 - kind : kind];
+  const text = men.map((_, k) => byte(men[turned(of, who, k)])).join("");
+  return sided(of) ? text + of.start.at(-2) + of.men[who] : text;
+}
+const NAMES = { K: "king", Q: "queen", R: "rook", k: "king", f: "fox", h: "hound" };
+// The name of a kind of men.
+function kindName(of, kind) {
+  if (kind < 0) return "empty";
+  if (of.men.length < 2) return "counter";
+  return of.sides[ownerOf(of, kind)] + (squared(of) ? ` ${of.men === "fh" ? of.men[kind] : NAMES[of.men[kind]]}` : "");
+}
+
+// ---- Rows, in the sense of the game's rules: places that end it if one side has them all.
+function rowsOf(of) {
+  const told = ROWS[of.game] || [];
+  if (Array.isArray(told)) return told.map(names => [...names].map(name => of.points.indexOf(name)));
+  const wide = Math.sqrt(of.points.length), each = [...Array(wide).keys()];
+  const at = (row, column) => wide * row + column, inner = each.slice(1);
+  const shapes = {
+    rows: () => each.map(r => each.map(c => at(r, c))),
+    columns: () => each.map(c => each.map(r => at(r, c))),
+    diagonals: () => [each.map(r => at(r, r)), each.map(r => at(r, wide - 1 - r))],
+    squares: () => inner.flatMap(r => inner.map(c => [at(r, c), at(r, c - 1), at(r - 1, c), at(r - 1, c - 1)])),
+    corners: () => [[at(0, 0), at(0, wide - 1), at(wide - 1, 0), at(wide - 1, wide - 1)]],
+  };
+  return told.split(" ").flatMap(shape => shapes[shape]());
+}
+// The rows that are full of one kind of men.
+const fullRows = (of, men) => rowsOf(of).filter(row => men[row[0]] >= 0 && row.every(k => men[k] === men[row[0]]));
+// The places of the men that ended the game, where the page can tell: a row, or the king that is mated.
+function endedBy(of, text, who, value) {
+  const men = menOf(of, text, who);
+  if (squared(of) && of.men !== "fh" && value === "lose in 0") return men.flatMap((kind, k) => kind === of.men.length - 1 ? [k] : []);
+  return value === "tie in 0" ? [] : [...new Set(fullRows(of, men).flat())];
+}
+// ---- A board, from its drawing, in which capital letters are the places of the bytes of a position's text. A column of
 // the drawing is one unit wide, a row two units high. Without capitals the points are in two rows.
 const UNIT = 20;
 function boardOf(of, small = false) {
@@ -50,23 +126,14 @@ function man({ of, crossed }, who, x, y, r, letter = of.men.at(-who)) {
   if (!of.swap) return [disc(who ? "black" : "white"), svg("text", { class: "letter", x, y, "font-size": r }, letter)];
   return who ? [disc("white"), svg("circle", { class: "ring", cx: x, cy: y, r: r * .55 })] : [disc("black")];
 }
-// The letter of the man on the place k of a position.
-function letterIn(of, text, k) {
-  return squared(of) ? (text.split(" ").find(word => word.length === 3 && word.endsWith(of.points[k])) ?? " ")[0] : text[k];
-}
-// The side whose man is on the place k of a position: 0, 1 or -1. If sides swap, the first kind of men is that of the side to move. On a board of chess the last
-// kind is that of the second side.
-function ownerIn({ of, inRow }, text, who, k) {
-  const kind = inRow ? -1 : of.men.indexOf(letterIn(of, text, k));
-  if (squared(of) && kind >= 0) return kind < of.men.length - 1 ? 0 : 1;
-  return kind < 0 || !of.swap || who === 0 ? kind : 1 - kind;
-}
+// A man of a kind, on its place or on a button.
+const manOf = (b, kind, x, y, r = b.crossed ? b.radius * .8 : b.radius) => man(b, ownerOf(b.of, kind), x, y, r, squared(b.of) ? b.of.men[kind] : undefined);
 // A small drawing of a game: its board with the first position.
 function drawing(of) {
   const b = boardOf(of, true), men = svg("g");
   b.places.forEach(({ x, y }, k) => {
-    const who = ownerIn(b, of.start, sideOf(of, of.start, 0), k);
-    if (who >= 0) men.append(...man(b, who, x, y, b.crossed ? b.radius * .8 : b.radius, squared(of) ? letterIn(of, of.start, k) : undefined));
+    const kind = kindIn(of, of.start, firstOf(of, of.start), k);
+    if (kind >= 0) men.append(...manOf(b, kind, x, y));
     if (b.inRow && of.points[k] === of.start) men.append(svg("rect", { class: "here", x: x - 15, y: y - 15, width: 30, height: 30, rx: 6 }));
   });
   // On an empty board of crosses and rings one of each shows what is played.
@@ -75,10 +142,8 @@ function drawing(of) {
   return svg("svg", { viewBox: b.box, "aria-hidden": "true" }, b.net, b.under, men);
 }
 let board = null;
-function swatch(who) {
-  if (game.men.length < 2) return "";
-  return svg("svg", { class: "swatch", viewBox: "-12 -12 24 24", "aria-hidden": "true" }, ...man(board, who, 0, 0, board.crossed ? 8 : 10));
-}
+const icon = (...men) => svg("svg", { class: "swatch", viewBox: "-12 -12 24 24", "aria-hidden": "true" }, ...men);
+const swatch = who => game.men.length < 2 ? "" : icon(...man(board, who, 0, 0, board.crossed ? 8 : 10));
 const pill = value => html("span", { class: "value " + word(value) }, value);
 function badge(value, x, y, size) {
   const name = word(value)[0].toUpperCase() + (value === "draw" ? "" : number(value)), w = size * (.6 + .65 * name.length);
@@ -88,7 +153,7 @@ function badge(value, x, y, size) {
 }
 
 // ---- Places.
-const last = svg("g", { class: "mark" }), hint = svg("g", { class: "mark hint" });
+const last = svg("g", { class: "mark" }), hint = svg("g", { class: "mark hint" }), ended = svg("g", { class: "ended" });
 let dragged = null;
 function layBoard() {
   board = boardOf(game);
@@ -98,42 +163,52 @@ function layBoard() {
     g.onkeydown = e => { if (e.key === "Enter" || e.key === " ") { e.preventDefault(); press(k); } };
     // On a touch screen the pressed element would keep the pointer, and a drag would end on its first place.
     g.onpointerdown = e => { e.target.releasePointerCapture(e.pointerId); dragged = k; };
-    g.onpointerup = () => { if (dragged !== null && dragged !== k) { picked = dragged; press(k); } };
+    g.onpointerup = () => {
+      if (dragged === null || dragged === k) return;
+      if (editor) return carry(dragged, k);
+      picked = dragged;
+      press(k);
+    };
   }
-  $("board").replaceChildren(board.net, last, hint, board.under, ...board.places.map(place => place.g));
+  $("board").replaceChildren(board.net, last, hint, board.under, ...board.places.map(place => place.g), ended);
   $("board").setAttribute("viewBox", board.box);
   // If moves are drags, the board does not scroll the page.
   $("board").style.touchAction = game.men.length === 1 ? "none" : "manipulation";
 }
 addEventListener("pointerup", () => { dragged = null; });
-const letterAt = k => squared(game) ? letterIn(game, edited ?? textAt(at), k) : undefined;
-const owner = k => edited === null ? ownerIn(board, textAt(at), side(at), k) : ownerIn(board, edited, 0, k);
+// The kind of the man that is shown on the place k, and the name of the point that is the position, if points are numbers.
+const kindAt = k => editor ? editor.men[k] : kindIn(game, textAt(at), side(at), k);
+const hereNow = () => editor ? editor.text : textAt(at);
 // The moves that a press on the place k is about.
 function movesAt(k) {
-  if (edited !== null) return [];
+  if (editor) return [];
   return moves.filter(m => m.ends.includes(k) && (picked === null || (k === picked ? m.ends.length === 1 : m.ends.includes(picked))));
 }
 // The name of a place, with its man and the worth of a press on it.
 function nameOf(k, about) {
-  const who = owner(k), what = board.inRow ? "" : who < 0 ? "empty" : game.men.length < 2 ? "counter" : game.sides[who] + (squared(game) ? " " + letterAt(k) : "");
-  return [game.points[k], what, k === picked ? "chosen" : hidden || !about.length ? "" : about[0].worth].filter(Boolean).join(", ");
+  const what = board.inRow ? "" : kindName(game, kindAt(k)), over = endPlaces.includes(k) ? "ended the game" : "";
+  return [game.points[k], what, over, k === picked ? "chosen" : hidden || !about.length ? "" : about[0].worth].filter(Boolean).join(", ");
 }
 function drawPlace({ x, y, g }, k) {
   const { inRow, crossed, netted, width, radius } = board;
-  const half = width / 2 - 2, about = movesAt(k), who = owner(k), live = about.length > 0 || k === picked || edited !== null;
-  g.replaceChildren(...(who < 0 ? [] : man(board, who, x, y, crossed ? radius * .8 : radius, letterAt(k))));
-  if (inRow && game.points[k] === (edited ?? textAt(at))) g.append(svg("rect", { class: "here", x: x - 15, y: y - 15, width: 30, height: 30, rx: 6 }));
+  const half = width / 2 - 2, about = movesAt(k), kind = kindAt(k), live = about.length > 0 || k === picked || editor !== null;
+  g.replaceChildren(...(kind < 0 ? [] : manOf(board, kind, x, y)));
+  if (inRow && game.points[k] === hereNow()) g.append(svg("rect", { class: "here", x: x - 15, y: y - 15, width: 30, height: 30, rx: 6 }));
   g.append(svg("rect", { class: "hit", x: x - half, y: y - half, width: 2 * half, height: inRow ? 4 * half : 2 * half, rx: 6 }));
   const size = crossed || netted ? 17 : inRow ? 14 : 12;
-  if (about.length && !hidden) g.append(badge(about[0].worth, x, inRow ? y + width : who < 0 ? y : y + radius, size));
+  if (about.length && !hidden) g.append(badge(about[0].worth, x, inRow ? y + width : kind < 0 ? y : y + radius, size));
   g.setAttribute("class", (live ? "live" : "") + (k === picked ? " picked" : ""));
   g.setAttribute("tabindex", k === cursor ? 0 : -1);
   g.setAttribute("role", "button");
   g.setAttribute("aria-disabled", !live);
   g.setAttribute("aria-label", nameOf(k, about));
 }
+// The places of what ended the game.
+let endPlaces = [];
 function drawPlaces() {
-  mark(last, at && edited === null && !board.inRow && movesOf(line[at - 1].row).find(m => m.name === line[at].name));
+  mark(last, at && !editor && !board.inRow && movesOf(line[at - 1].row, side(at - 1)).find(m => m.name === line[at].name));
+  endPlaces = editor || moves.length ? [] : endedBy(game, textAt(at), side(at), valueAt(at));
+  ended.replaceChildren(...endPlaces.map(k => svg("circle", { cx: board.places[k].x, cy: board.places[k].y, r: board.radius + 3 })));
   board.places.forEach(drawPlace);
 }
 // Marks a move on the board, or none.
@@ -146,7 +221,7 @@ function mark(where, m) {
 // A press on a place: a move of one place, or the first or the second end of a move.
 function press(k) {
   cursor = k;
-  if (edited !== null) return change(k);
+  if (editor) return change(k);
   const about = movesAt(k);
   if (about.length && (picked !== null || about.every(m => m.ends.length === 1))) return play(about[0]);
   const before = picked;

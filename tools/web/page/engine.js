@@ -72,11 +72,14 @@ class Engine {
   // The number of a record that is kept so, and back.
   numbered(name, kept) { return this.games.get(name).width === 1 ? (kept >> 5) * STEP + (kept & 31) : kept; }
   short(name, record) { return this.games.get(name).width === 1 ? Math.floor(record / STEP) * 32 + record % STEP : record; }
-  // How many canonical positions have each record: pairs of its number and the count.
+  // How many canonical positions have each record: pairs of its number and the count. They are counted once.
   counts(name) {
-    const counts = new Map();
+    const held = this.games.get(name), counts = new Map();
+    if (held.counts?.done === held.done) return held.counts.pairs;
     for (const kept of this.kept(name)) if (kept) counts.set(kept, (counts.get(kept) || 0) + 1);
-    return [...counts].map(([kept, count]) => [this.numbered(name, kept), count]);
+    const pairs = [...counts].map(([kept, count]) => [this.numbered(name, kept), count]);
+    held.counts = { done: held.done, pairs };
+    return pairs;
   }
   // The text of a random canonical position, of all of them or of those with this record.
   random(name, record = 0) {

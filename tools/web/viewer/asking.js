@@ -49,12 +49,22 @@ function takeGiven() {
     rows[rowOf(text, value)].moves = groups.flatMap(([worth, ...rest]) => rest.flatMap(moveOf(worth, rest)));
   });
 }
-// Asks for the moves of those of these rows that have none yet.
+// Asks for the moves of those of these rows that have none yet, unless the answer is awaited already.
+let awaits = new Map();
 async function fill(...some) {
-  const fresh = some.filter(row => row !== null && !rows[row].moves), of = game;
-  if (!fresh.length) return;
-  const said = await ask("ask", { game: of.game, text: fresh.map(row => rows[row][0] + "\n").join("") });
-  if (of === game) said.trim().split("\n").forEach((line, k) => take(fresh[k], JSON.parse(line)));
+  const lacking = some.filter(row => row !== null && !rows[row].moves), fresh = lacking.filter(row => !awaits.has(row));
+  if (fresh.length) {
+    const answer = askFor(fresh, awaits);
+    for (const row of fresh) awaits.set(row, answer);
+  }
+  await Promise.all(lacking.map(row => awaits.get(row)));
+}
+async function askFor(fresh, waits) {
+  const of = game;
+  try {
+    const said = await ask("ask", { game: of.game, text: fresh.map(row => rows[row][0] + "\n").join("") });
+    if (of === game) said.trim().split("\n").forEach((line, k) => take(fresh[k], JSON.parse(line)));
+  } finally { for (const row of fresh) waits.delete(row); }
 }
 // The row of the position with this text, with its moves, or null.
 async function find(text) {
@@ -67,31 +77,23 @@ async function find(text) {
   }
   return numbers.get(text);
 }
-// The moves of a row: each with its name, its worth, the row of its result, and the places of its ends.
-function movesOf(row) {
+// The moves of a row in which `who` is to move: each with its name, the name that is shown, its worth, the row of its result, and the places of its ends.
+function movesOf(row, who) {
   return rows[row].moves.map(m => {
     const named = m.name.split("-").map(end => squared(game) ? end.slice(-2) : end);
     const ends = game.men ? named : m.to === null ? [] : [rows[m.to][0]];
-    return { ...m, ends: ends.map(end => game.points.indexOf(end)) };
+    return { ...m, shown: shownMove(game, who, m.name), ends: ends.map(end => turned(game, who, game.points.indexOf(end))) };
   });
 }
 
-// The line of play: its positions, each with the move that led to it. `at` is the one that is shown, `moves` what can be
-// played there, `picked` the place that was pressed first, and `hidden` whether values are hidden.
-let line = [], at = 0, moves = [], picked = null, hidden = false;
-// The side that the player has against the solver, or null; whether the line's first position is a puzzle; the text on a board that is edited, or null; and the
-// place that the keyboard is at.
-let mine = null, puzzled = false, edited = null, cursor = 0;
+// The line of play: its positions, each with the move that led to it. `at` is the one that is shown, `moves` what can be played there, `picked` the place that
+// was pressed first, and `hidden` whether values are hidden. `starter` is the side to move at its first position.
+let line = [], at = 0, moves = [], picked = null, hidden = false, starter = 0;
+// The side that the player has against the solver, or null; the puzzle at the line's first position, or null; the board that is edited, or null; and the place
+// that the keyboard is at.
+let mine = null, puzzled = null, editor = null, cursor = 0;
 const textAt = k => rows[line[k].row][0], valueAt = k => rows[line[k].row][1];
-
-// On a board of chess each square has the same capital letter, and a position's text has a word for each man, its letter and its square.
-const squared = of => of.board.includes("A A");
-// The side to move, 0 or 1: by the text's last byte on a board of chess, or if the text has one byte more than there are points; else by turns.
-function sideOf(of, text, k) {
-  if (squared(of)) return "wf".includes(text.at(-1)) ? 0 : 1;
-  return of.men && text.length > of.points.length ? of.men.indexOf(text.at(-1)) : k % 2;
-}
-const side = k => sideOf(game, textAt(k), k);
+const side = k => sideOf(game, textAt(k), k + starter);
 function winner(k) {
   return { win: side(k), lose: 1 - side(k) }[word(valueAt(k))] ?? null;
 }

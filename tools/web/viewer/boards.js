@@ -46,23 +46,14 @@ function man({ of, crossed }, who, x, y, r, letter = of.men.at(-who)) {
   if (!of.swap) return [disc(who ? "black" : "white"), svg("text", { class: "letter", x, y, "font-size": r }, letter)];
   return who ? [disc("white"), svg("circle", { class: "ring", cx: x, cy: y, r: r * .55 })] : [disc("black")];
 }
-// The letter of the man on the place k of a position.
-function letterIn(of, text, k) {
-  return squared(of) ? (text.split(" ").find(word => word.length === 3 && word.endsWith(of.points[k])) ?? " ")[0] : text[k];
-}
-// The side whose man is on the place k of a position: 0, 1 or -1. If sides swap, the first kind of men is that of the side to move. On a board of chess the last
-// kind is that of the second side.
-function ownerIn({ of, inRow }, text, who, k) {
-  const kind = inRow ? -1 : of.men.indexOf(letterIn(of, text, k));
-  if (squared(of) && kind >= 0) return kind < of.men.length - 1 ? 0 : 1;
-  return kind < 0 || !of.swap || who === 0 ? kind : 1 - kind;
-}
+// A man of a kind, on its place or on a button.
+const manOf = (b, kind, x, y, r = b.crossed ? b.radius * .8 : b.radius) => man(b, ownerOf(b.of, kind), x, y, r, squared(b.of) ? b.of.men[kind] : undefined);
 // A small drawing of a game: its board with the first position.
 function drawing(of) {
   const b = boardOf(of, true), men = svg("g");
   b.places.forEach(({ x, y }, k) => {
-    const who = ownerIn(b, of.start, sideOf(of, of.start, 0), k);
-    if (who >= 0) men.append(...man(b, who, x, y, b.crossed ? b.radius * .8 : b.radius, squared(of) ? letterIn(of, of.start, k) : undefined));
+    const kind = kindIn(of, of.start, firstOf(of, of.start), k);
+    if (kind >= 0) men.append(...manOf(b, kind, x, y));
     if (b.inRow && of.points[k] === of.start) men.append(svg("rect", { class: "here", x: x - 15, y: y - 15, width: 30, height: 30, rx: 6 }));
   });
   // On an empty board of crosses and rings one of each shows what is played.
@@ -71,10 +62,8 @@ function drawing(of) {
   return svg("svg", { viewBox: b.box, "aria-hidden": "true" }, b.net, b.under, men);
 }
 let board = null;
-function swatch(who) {
-  if (game.men.length < 2) return "";
-  return svg("svg", { class: "swatch", viewBox: "-12 -12 24 24", "aria-hidden": "true" }, ...man(board, who, 0, 0, board.crossed ? 8 : 10));
-}
+const icon = (...men) => svg("svg", { class: "swatch", viewBox: "-12 -12 24 24", "aria-hidden": "true" }, ...men);
+const swatch = who => game.men.length < 2 ? "" : icon(...man(board, who, 0, 0, board.crossed ? 8 : 10));
 const pill = value => html("span", { class: "value " + word(value) }, value);
 function badge(value, x, y, size) {
   const name = word(value)[0].toUpperCase() + (value === "draw" ? "" : number(value)), w = size * (.6 + .65 * name.length);
@@ -84,7 +73,7 @@ function badge(value, x, y, size) {
 }
 
 // ---- Places.
-const last = svg("g", { class: "mark" }), hint = svg("g", { class: "mark hint" });
+const last = svg("g", { class: "mark" }), hint = svg("g", { class: "mark hint" }), ended = svg("g", { class: "ended" });
 let dragged = null;
 function layBoard() {
   board = boardOf(game);
@@ -94,42 +83,52 @@ function layBoard() {
     g.onkeydown = e => { if (e.key === "Enter" || e.key === " ") { e.preventDefault(); press(k); } };
     // On a touch screen the pressed element would keep the pointer, and a drag would end on its first place.
     g.onpointerdown = e => { e.target.releasePointerCapture(e.pointerId); dragged = k; };
-    g.onpointerup = () => { if (dragged !== null && dragged !== k) { picked = dragged; press(k); } };
+    g.onpointerup = () => {
+      if (dragged === null || dragged === k) return;
+      if (editor) return carry(dragged, k);
+      picked = dragged;
+      press(k);
+    };
   }
-  $("board").replaceChildren(board.net, last, hint, board.under, ...board.places.map(place => place.g));
+  $("board").replaceChildren(board.net, last, hint, board.under, ...board.places.map(place => place.g), ended);
   $("board").setAttribute("viewBox", board.box);
   // If moves are drags, the board does not scroll the page.
   $("board").style.touchAction = game.men.length === 1 ? "none" : "manipulation";
 }
 addEventListener("pointerup", () => { dragged = null; });
-const letterAt = k => squared(game) ? letterIn(game, edited ?? textAt(at), k) : undefined;
-const owner = k => edited === null ? ownerIn(board, textAt(at), side(at), k) : ownerIn(board, edited, 0, k);
+// The kind of the man that is shown on the place k, and the name of the point that is the position, if points are numbers.
+const kindAt = k => editor ? editor.men[k] : kindIn(game, textAt(at), side(at), k);
+const hereNow = () => editor ? editor.text : textAt(at);
 // The moves that a press on the place k is about.
 function movesAt(k) {
-  if (edited !== null) return [];
+  if (editor) return [];
   return moves.filter(m => m.ends.includes(k) && (picked === null || (k === picked ? m.ends.length === 1 : m.ends.includes(picked))));
 }
 // The name of a place, with its man and the worth of a press on it.
 function nameOf(k, about) {
-  const who = owner(k), what = board.inRow ? "" : who < 0 ? "empty" : game.men.length < 2 ? "counter" : game.sides[who] + (squared(game) ? " " + letterAt(k) : "");
-  return [game.points[k], what, k === picked ? "chosen" : hidden || !about.length ? "" : about[0].worth].filter(Boolean).join(", ");
+  const what = board.inRow ? "" : kindName(game, kindAt(k)), over = endPlaces.includes(k) ? "ended the game" : "";
+  return [game.points[k], what, over, k === picked ? "chosen" : hidden || !about.length ? "" : about[0].worth].filter(Boolean).join(", ");
 }
 function drawPlace({ x, y, g }, k) {
   const { inRow, crossed, netted, width, radius } = board;
-  const half = width / 2 - 2, about = movesAt(k), who = owner(k), live = about.length > 0 || k === picked || edited !== null;
-  g.replaceChildren(...(who < 0 ? [] : man(board, who, x, y, crossed ? radius * .8 : radius, letterAt(k))));
-  if (inRow && game.points[k] === (edited ?? textAt(at))) g.append(svg("rect", { class: "here", x: x - 15, y: y - 15, width: 30, height: 30, rx: 6 }));
+  const half = width / 2 - 2, about = movesAt(k), kind = kindAt(k), live = about.length > 0 || k === picked || editor !== null;
+  g.replaceChildren(...(kind < 0 ? [] : manOf(board, kind, x, y)));
+  if (inRow && game.points[k] === hereNow()) g.append(svg("rect", { class: "here", x: x - 15, y: y - 15, width: 30, height: 30, rx: 6 }));
   g.append(svg("rect", { class: "hit", x: x - half, y: y - half, width: 2 * half, height: inRow ? 4 * half : 2 * half, rx: 6 }));
   const size = crossed || netted ? 17 : inRow ? 14 : 12;
-  if (about.length && !hidden) g.append(badge(about[0].worth, x, inRow ? y + width : who < 0 ? y : y + radius, size));
+  if (about.length && !hidden) g.append(badge(about[0].worth, x, inRow ? y + width : kind < 0 ? y : y + radius, size));
   g.setAttribute("class", (live ? "live" : "") + (k === picked ? " picked" : ""));
   g.setAttribute("tabindex", k === cursor ? 0 : -1);
   g.setAttribute("role", "button");
   g.setAttribute("aria-disabled", !live);
   g.setAttribute("aria-label", nameOf(k, about));
 }
+// The places of what ended the game.
+let endPlaces = [];
 function drawPlaces() {
-  mark(last, at && edited === null && !board.inRow && movesOf(line[at - 1].row).find(m => m.name === line[at].name));
+  mark(last, at && !editor && !board.inRow && movesOf(line[at - 1].row, side(at - 1)).find(m => m.name === line[at].name));
+  endPlaces = editor || moves.length ? [] : endedBy(game, textAt(at), side(at), valueAt(at));
+  ended.replaceChildren(...endPlaces.map(k => svg("circle", { cx: board.places[k].x, cy: board.places[k].y, r: board.radius + 3 })));
   board.places.forEach(drawPlace);
 }
 // Marks a move on the board, or none.
@@ -142,7 +141,7 @@ function mark(where, m) {
 // A press on a place: a move of one place, or the first or the second end of a move.
 function press(k) {
   cursor = k;
-  if (edited !== null) return change(k);
+  if (editor) return change(k);
   const about = movesAt(k);
   if (about.length && (picked !== null || about.every(m => m.ends.length === 1))) return play(about[0]);
   const before = picked;

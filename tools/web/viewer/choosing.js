@@ -8,26 +8,34 @@ async function route() {
     await open(wanted, turn);
     if (turn !== turns) return;
     const [text, ...names] = parts, path = [{ row: await find(text || game.start) }];
-    hidden = asked === "?";
+    hidden = asked.includes("?");
     let found = path[0].row !== null && (!name || name === game.game);
     if (!found) path[0].row = await find(game.start);
-    else for (const name of names.filter(Boolean)) {
-      const m = movesOf(path.at(-1).row).find(m => m.name === name);
-      found = Boolean(m) && m.to !== null;
-      if (!found) break;
-      await fill(m.to);
-      path.push({ row: m.to, name });
-    }
+    const who = firstOf(game, rows[path[0].row][0]), first = asked.includes("!") ? 1 - who : who;
+    if (found) found = await follow(path, names.filter(Boolean), first);
     if (turn !== turns) return;
     line = path;
+    starter = first;
+    mine = puzzled = null;
+    $("versus").value = "";
     await go(line.length - 1);
     if (!found) say(solving ? "There is no such position or move." : "What the address names is not in this page.");
   } catch (error) { if (turn === turns) fail(error); }
 }
-// The game that an address names, whether its values are hidden, the text of a position, and the moves played from it. In a page of one game the game's name may
-// be missing: the address is then a position's text, or moves from the start with a / before each.
+// Goes on with a path by the moves of these names. Returns whether the page has them all.
+async function follow(path, names, first) {
+  for (const name of names) {
+    const { row } = path.at(-1), m = movesOf(row, sideOf(game, rows[row][0], path.length - 1 + first)).find(m => m.name === name);
+    if (!m || m.to === null) return false;
+    await fill(m.to);
+    path.push(stepOf(m));
+  }
+  return true;
+}
+// The game that an address names, its marks (? if values are hidden, ! if the side moves first that else would not), the text of a position, and the moves
+// played from it. In a page of one game the game's name may be missing: the address is then a position's text, or moves from the start with a / before each.
 function addressed(hash) {
-  const [, name, asked, slash, rest] = hash.match(/^#?([^/?]*)(\??)(\/?)(.*)$/);
+  const [, name, asked, slash, rest] = hash.match(/^#?([^/?!]*)([?!]*)(\/?)(.*)$/);
   try {
     const parts = rest.split("/").map(decodeURIComponent);
     if (!single || name === games[0].game) return [name, asked, parts];
@@ -50,10 +58,13 @@ function fail(error) {
 let waiting = 0;
 function writeAddress() {
   clearTimeout(waiting);
-  const first = textAt(0), names = line.slice(1, at + 1).map(step => "/" + encodeURIComponent(step.name)).join("");
-  const from = first === game.start ? "" : encodeURIComponent(first);
-  const address = "#" + game.game + (hidden ? "?" : "") + (from || names ? "/" + from + names : "");
+  const address = addressOf(line.slice(0, at + 1), starter, hidden);
   waiting = setTimeout(() => history.replaceState(null, "", address), 400);
+}
+function addressOf(steps, who, hides = false) {
+  const first = rows[steps[0].row][0], names = steps.slice(1).map(step => "/" + encodeURIComponent(step.name)).join("");
+  const marks = (hides ? "?" : "") + (who === firstOf(game, first) ? "" : "!"), from = first === game.start ? "" : encodeURIComponent(first);
+  return "#" + game.game + marks + (from || names || marks.includes("!") ? "/" + from + names : "");
 }
 
 // ---- The list of games, and a game that is opened.
@@ -67,10 +78,22 @@ function showGames(fault) {
   $("about").textContent = "Choose a game. It is solved here and now, in this page, and then every position of it shows what it and each move is worth.";
 }
 const many = of => LEGAL[of.game] ? counted(LEGAL[of.game]) + " positions" : "";
-for (const of of games) {
-  const link = html("a", { href: "#" + of.game }, drawing(of), html("b", {}, of.title), html("span", {}, many(of)));
-  $("list").append(html("li", {}, link));
+const tile = of => html("li", {}, html("a", { href: "#" + of.game }, drawing(of), html("b", {}, of.title),
+  html("span", {}, [WORTHS[of.game], many(of)].filter(Boolean).join("; "))));
+// The games by their kinds, each with the beginnings of names; the rest at the end.
+const KINDS = [
+  ["Rows of three and four", "tictactoe threemens achi tapatan shisima picaria dao notakto nineholes connect"],
+  ["Chases and blockades", "hare foxhounds mutorere ponghauki dodgem toads"], ["Endings of chess", "krk kqk"], ["Taking counters", "tactix"],
+  ["Numbers", "countdown takeaway wheel nim"],
+];
+function layGames() {
+  const kindOf = of => KINDS.findIndex(([, names]) => names.split(" ").some(name => of.game.startsWith(name)));
+  for (const [k, name] of [...KINDS.map(([name], k) => [k, name]), [-1, "Other games"]]) {
+    const tiles = games.filter(of => kindOf(of) === k).map(tile);
+    if (tiles.length) $("games").append(html("h2", {}, name), html("ul", {}, ...tiles));
+  }
 }
+layGames();
 // Solves a game, and shows how far that is: how many canonical positions have each record.
 async function solve(wanted, turn) {
   $("about").textContent = "";
@@ -104,9 +127,9 @@ async function open(wanted, turn) {
   game = wanted;
   rows = [];
   numbers = new Map();
+  awaits = new Map();
   line = [];
-  mine = edited = null;
-  puzzled = false;
+  mine = editor = puzzled = null;
   cursor = 0;
   if (!solving) takeGiven();
   layBoard();
@@ -116,18 +139,20 @@ async function open(wanted, turn) {
   $("versus").replaceChildren(html("option", { value: "" }, "nobody: explore"),
     ...game.sides.map((name, who) => html("option", { value: who }, "as " + name + ", against the solver")));
   $("work").hidden = true;
-  $("random").hidden = $("against").hidden = $("worths").hidden = !solving;
+  $("random").hidden = $("against").hidden = $("worths").hidden = $("setting").hidden = !solving;
   $("explorer").hidden = false;
   $("about").textContent = "Opening explorer: " + (solving ? `all ${many(game) || "positions"}, solved here and now`
     : `${game.whole ? "all " : ""}${counted(rows.length)} ${game.whole ? "" : "of the "}positions that play from here reaches`);
   $("naming").textContent = game.naming;
   $("sides").replaceChildren(...game.sides.map(name => html("span", {}, name)));
-  drawCounts(solved.counts);
+  counts = solved.counts;
+  drawCounts();
+  layLengths();
   $("title").focus({ preventScroll: true });
 }
 // How many positions there are of each worth; a press picks one of them. The number of a record is the code of its value times 1,048,576, plus its remoteness.
 const CODE = 1048576;
-function drawCounts(counts) {
+function drawCounts() {
   const most = Math.max(...counts.map(([, count]) => count)), words = ["", "lose", "draw", "tie", "win"], code = record => Math.floor(record / CODE);
   const order = [...counts].sort(([a], [b]) => code(b) - code(a) || a - b);
   $("counts").replaceChildren(...order.map(([record, count]) => {

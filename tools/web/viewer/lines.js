@@ -16,5 +16,6 @@ const single = games.length === 1;
 // A page without the engine shows the positions that it has been given.
 const engined = $("engine").textContent !== "";
 for (const part of document.querySelectorAll(engined ? ".tables" : ".solver")) part.hidden = true;
+$("many").hidden = single;
 let game = null;
 
