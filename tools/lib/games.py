@@ -1,4 +1,4 @@
-"""What the crates of games tell tools of each game: their files games.json (docs/ADDING_A_GAME.md)."""
+"""What the crates of games tell tools of each game: their files games.json (README.md)."""
 import glob
 import json
 import os

@@ -1,5 +1,5 @@
 """What a page says of each game in its first line: the board, the names of its points, its men and its sides (docs/FORMATS.md). The crates of the games say it
-in short in their files games.json (docs/ADDING_A_GAME.md)."""
+in short in their files games.json (tools/lib/README.md)."""
 from lib.games import TOLD
 
 # The board of chess, whose squares are all alike in it, and their names from the eighth rank down.
