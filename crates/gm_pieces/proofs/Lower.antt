@@ -17,4 +17,4 @@ pub use Rattle.gm_pieces.specs.laws.SideTextFacts.{cell_back, text_length}
 pub use Rattle.gm_pieces.specs.laws.TextFacts.{move_found, move_missing}
 pub use Rattle.gm_pieces.specs.laws.TriedFacts.{all_below, edge_at, edge_past, puts_none, puts_same, puts_some, tried_cases, tried_in, tried_none, tried_out}
 pub use Rattle.gm_pieces.specs.laws.TriedFacts.{tried_room}
-pub use Rattle.std.specs.Prelude.{slice_index, ◌&&◌, ◌++◌, ◌+◌, ◌<◌, ◌^◌, ◌↔◌, ◌∷◌, ◌≡◌, ◌≤◌}
+pub use Rattle.std.specs.Prelude.{slice_index, ◌&&◌, ◌++◌, ◌+◌, ◌-◌, ◌<◌, ◌^◌, ◌↔◌, ◌∷◌, ◌≡◌, ◌≤◌}

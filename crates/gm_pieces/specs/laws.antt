@@ -7,6 +7,10 @@ pub mod StepFacts
 pub mod Listed
 pub mod Skipped
 pub mod TriedFacts
+pub mod MarkFacts
+pub mod MarkedFacts
+pub mod CountFacts
+pub mod RunFacts
 pub mod CellFacts
 pub mod MoveFacts
 pub mod NumberFacts

@@ -7,6 +7,8 @@ pub mod board;
 pub mod boards;
 pub mod candidates;
 pub mod lists;
+pub mod marked;
+pub mod marks;
 pub mod moves;
 pub mod on_boards;
 pub mod on_numbers;

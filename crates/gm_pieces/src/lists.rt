@@ -1,9 +1,9 @@
 //! What follows from the rules of a game: its lists of moves, children and parents.
-ghost use Rattle.std.specs.Prelude.{◌≡◌, ◌==◌, true, [], map, length};
+ghost use Rattle.std.specs.Prelude.{◌≡◌, ◌==◌, ◌<◌, ◌≤◌, true, [], map, length};
 ghost use Rattle.gm_game.specs.Ascending.{put_all};
 ghost use Rattle.gm_game.specs.Boards.{least_index as least_index_of, next_images};
 ghost use Rattle.gm_game.specs.Children.{IsSetOf, HasSame, set_of};
-ghost use Rattle.gm_game.specs.Rules.{IsKind};
+ghost use Rattle.gm_game.specs.Rules.{IsKind, AreHoles};
 ghost use Rattle.gm_pieces.specs.MoveGames.{board_game, move_rules, steps, befores};
 ghost use Rattle.gm_pieces.specs.FirstBoards.{IsFirstBoard};
 
@@ -102,15 +102,33 @@ pub trait MoveLists: MoveRules {
         Self::end(board).map_or(Kind::Inner, |end| Kind::Ended(end))
     }
 
+    /// Returns `index`, or a later one such that no index from `index` up to it is that of a canonical legal position. A game whose holes lie together passes over many of them in constant time.
+    #[inline(always)]
+    fn skip_holes(tier: u64, index: u64) -> u64
+        requires { index < Self.game.size tier }
+        ensures low { index ≤ result }
+        ensures holes { AreHoles (move_rules Self.game) tier index result }
+    {
+        index
+    }
+
     /// Returns the first canonical legal position of the tier with an index from `lo` up to `hi`: its index and its board; `None` if there is no such position.
     fn first_board(tier: u64, lo: u64, hi: u64) -> Option<(u64, Self::Board)>
         ensures { IsFirstBoard Self.cells Self.game tier lo hi result }
     {
-        for index in lo..hi.min(Self::tier_size(tier)) {
+        let end = hi.min(Self::tier_size(tier));
+        let mut index = lo;
+        while index < end {
+            let next = Self::skip_holes(tier, index);
+            if next > index {
+                index = next;
+                continue;
+            }
             let board = Self::board(tier, index);
             if Self::is_canonical(Position { tier, index }, board) {
                 return Some((index, board));
             }
+            index += 1;
         }
         None
     }

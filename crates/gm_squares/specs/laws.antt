@@ -1,17 +1,26 @@
 -- What follows from the definitions.
 pub mod Texts
+pub mod LineFacts
 pub mod AttackFacts
+pub mod ReachFacts
 pub mod MenFacts
 pub mod MenNumbering
+pub mod MenMasks
+pub mod MenMarks
+pub mod HomeFacts
 pub mod TriedMoves
 pub mod MenMoves
 pub mod MenImages
 pub mod MenTexts
 pub mod DarkFacts
+pub mod WayFacts
 pub mod MaskFacts
 pub mod ChaseFacts
 pub mod ChaseLaws
+pub mod ChaseMarks
+pub mod ChaseBack
 pub mod ChaseNumbering
+pub mod ChaseApart
 pub mod ChaseTexts
 pub mod MenPictured
 pub mod ChasePictured

@@ -10,14 +10,20 @@ ghost use Rattle.gm_squares.specs.laws.ChaseTexts.{readable};
 use crate::chase::{Chase, can_go, gone, has_square, lowest, toggled};
 use crate::dark_squares::{dark, dark_in, leads, to_square};
 use crate::text::{byte_at, push_square};
+use crate::ways::{by_ways, comers, goers};
 use arrayvec::ArrayVec;
 use gm_board::arrangement::Arrangement;
 use gm_game::game::Game;
-use gm_game::limits::{CHILD_TIERS, NAME};
+use gm_game::limits::{CHILD_TIERS, MOVES, NAME, PARENTS};
 use gm_game::position::{End, Position};
 use gm_game::shown::{Line, Shown};
 use gm_game::text::push_text;
 use gm_pieces::lists::MoveLists;
+use gm_pieces::marked::{
+    MarkedMoves, count_moves, has_no_mark, list_marked_results, put_marked_befores,
+};
+use gm_pieces::marks::Marks;
+use gm_pieces::moves::plays_on;
 use gm_pieces::on_boards::OnBoards;
 use gm_pieces::rules::MoveRules;
 
@@ -188,7 +194,52 @@ impl MoveRules for FoxRules {
     ghost readable = { readable };
 }
 
-impl MoveLists for FoxRules {}
+impl MarkedMoves for FoxRules {
+    fn open_marks(board: Chase) -> Marks {
+        by_ways(
+            goers(board, 0),
+            goers(board, 1),
+            goers(board, 2),
+            goers(board, 3),
+        )
+    }
+
+    fn earlier_marks(tier: u64, board: Chase) -> Marks {
+        if tier != 0 {
+            return Marks::none();
+        }
+        by_ways(
+            comers(board, 0),
+            comers(board, 1),
+            comers(board, 2),
+            comers(board, 3),
+        )
+    }
+}
+
+impl MoveLists for FoxRules {
+    fn is_stuck(board: Chase) -> bool {
+        has_no_mark::<Self>(board)
+    }
+
+    // Different moves lead to different positions.
+    #[tactic(auto, using(crate::specs::laws::ChaseApart::children_counted, crate::specs::laws::ChaseApart::over_counted))]
+    fn count_children(board: Chase) -> usize {
+        if plays_on::<Self>(board) {
+            count_moves::<Self>(board) as usize
+        } else {
+            0
+        }
+    }
+
+    fn fill_results(board: Chase, list: &mut ArrayVec<Position, MOVES>) {
+        list_marked_results::<Self>(board, list);
+    }
+
+    fn fill_parents(tier: u64, board: Chase, list: &mut ArrayVec<u64, PARENTS>) {
+        put_marked_befores::<Self>(tier, board, list);
+    }
+}
 
 /// The rules and texts of Fox and Hounds are those that `specs/` states.
 pub fn foxhounds_is()

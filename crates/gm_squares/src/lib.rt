@@ -1,5 +1,5 @@
-//! Games on the squares of a chess board: endings of chess (king and rook, or king and queen, against king), and Fox and Hounds. They share the next square on
-//! a way and the texts of squares. Their rules are in docs/GAMES.md, and `specs/` states them.
+//! Games on the squares of a chess board: endings of chess (king and rook, or king and queen, against king), and Fox and Hounds. They share the
+//! texts of squares, and in `specs/` the next square on a way. Their rules are in docs/GAMES.md, and `specs/` states them.
 #![tactic(auto)]
 
 pub mod attacks;
@@ -7,8 +7,11 @@ pub mod chase;
 pub mod chess;
 pub mod dark_squares;
 pub mod foxhounds;
+pub mod goals;
+pub mod homes;
+pub mod lines;
 pub mod men;
 pub mod men_text;
 pub mod picture;
-pub mod squares;
 pub mod text;
+pub mod ways;

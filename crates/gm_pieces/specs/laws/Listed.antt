@@ -1,14 +1,63 @@
 -- Lists of numbers that ascend, and room in a list into which indexes are put one at a time.
-use Rattle.std.specs.Prelude.{◌≡◌, ◌+◌, ◌<◌, ◌≤◌, ◌∷◌}
-use Rattle.gm_pieces.specs.Lower.{ℕ, zero, suc, Bool, List, [], map, length, Option, Some, refl, sym, subst, arith, Contains, filter}
+use Rattle.std.specs.Prelude.{◌≡◌, ◌↔◌, ◌+◌, ◌<◌, ◌≤◌, ◌∷◌}
+use Rattle.gm_pieces.specs.Lower.{ℕ, zero, suc, Bool, List, [], map, length, Option, Some, refl, sym, ap, ◌∙◌, inl, inr, subst, arith, Contains, filter}
 use Rattle.gm_pieces.specs.Lower.{filter_map, range_with_len, cond_both, length-map, IsAscending, put_all, range_in, one_more_map, room, contains_head}
 use Rattle.gm_pieces.specs.Lower.{filter_from}
-use Rattle.gm_game.proofs.Putting.{put_all_few}
+use Rattle.gm_game.proofs.Lists.{contains_none, contains_first, contains_later, contains_cases}
+use Rattle.gm_game.proofs.Putting.{put_all_ascending, put_all_few, put_all_from, put_all_later}
 
 -- ---- ascending lists
-ascending_cons : (x : ℕ) (xs : List ℕ) → ((y : ℕ) → Contains xs y → x < y) → IsAscending xs → IsAscending (x ∷ xs)
+pub ascending_cons : (x : ℕ) (xs : List ℕ) → ((y : ℕ) → Contains xs y → x < y) → IsAscending xs → IsAscending (x ∷ xs)
 ascending_cons x [] h a = tt
 ascending_cons x (y ∷ xs) h a = (h y (contains_head y xs), a)
+
+pub ascending_above : (x : ℕ) (xs : List ℕ) → IsAscending (x ∷ xs) → (y : ℕ) → Contains xs y → x < y
+ascending_above x [] up y h = absurd (contains_none y h)
+ascending_above x (z ∷ zs) up y h = elim (contains_cases z y zs h) [
+  | inl e ↦ (let l = up.0 in omega (arith, l, e))
+  | inr t ↦ (let l = up.0 in let k = ascending_above z zs up.1 y t in omega arith)
+]
+
+ascending_rest : (x : ℕ) (xs : List ℕ) → IsAscending (x ∷ xs) → IsAscending xs
+ascending_rest x [] up = tt
+ascending_rest x (y ∷ ys) up = up.1
+
+same_first : (x y : ℕ) (xs ys : List ℕ) → IsAscending (x ∷ xs) → IsAscending (y ∷ ys) → Contains (y ∷ ys) x → Contains (x ∷ xs) y → x ≡ y
+same_first x y xs ys a b i j = elim (contains_cases y x ys i) [
+  | inl e ↦ sym e
+  | inr k ↦ elim (contains_cases x y xs j) [
+    | inl e ↦ e
+    | inr l ↦ absurd (let u = ascending_above x xs a y l in let v = ascending_above y ys b x k in omega (arith, u, v))
+  ]
+]
+
+rest_in : (x y : ℕ) (xs ys : List ℕ) → x ≡ y → IsAscending (x ∷ xs) → ((m : ℕ) → Contains (x ∷ xs) m → Contains (y ∷ ys) m) → (m : ℕ) → Contains xs m → Contains ys m
+rest_in x y xs ys e a f m i = elim (contains_cases y m ys (f m (contains_later x m xs i))) [
+  | inl s ↦ absurd (let l = ascending_above x xs a m i in omega (arith, l, s, e))
+  | inr j ↦ j
+]
+
+-- an ascending list is determined by its elements
+pub ascending_once : (xs ys : List ℕ) → IsAscending xs → IsAscending ys → ((m : ℕ) → Contains xs m ↔ Contains ys m) → xs ≡ ys
+ascending_once [] [] a b f = refl
+ascending_once [] (y ∷ ys) a b f = absurd (contains_none y ((f y).1 (contains_first y ys)))
+ascending_once (x ∷ xs) [] a b f = absurd (contains_none x ((f x).0 (contains_first x xs)))
+ascending_once (x ∷ xs) (y ∷ ys) a b f =
+    let e = same_first x y xs ys a b ((f x).0 (contains_first x xs)) ((f y).1 (contains_first y ys)) in
+    let s = ascending_once xs ys (ascending_rest x xs a) (ascending_rest y ys b)
+    (λ m. (rest_in x y xs ys e a (λ z. (f z).0) m, rest_in y x ys xs (sym e) b (λ z. (f z).1) m)) in
+    ap (λ (z : ℕ). z ∷ xs) e ∙ ap (λ (zs : List ℕ). y ∷ zs) s
+
+has_part : (xs ys : List ℕ) → ((m : ℕ) → Contains xs m → Contains ys m) → (m : ℕ) → Contains (put_all [] xs) m → Contains (put_all [] ys) m
+has_part xs ys f m c = elim (put_all_from [] xs m c) [
+  | inl n ↦ absurd (contains_none m n)
+  | inr i ↦ put_all_later [] ys m (f m i)
+]
+
+-- numbers that are put into a list give it by what they are
+pub put_all_same : (xs ys : List ℕ) → ((m : ℕ) → Contains xs m → Contains ys m) → ((m : ℕ) → Contains ys m → Contains xs m) → put_all [] xs ≡ put_all [] ys
+put_all_same xs ys f h =
+    ascending_once (put_all [] xs) (put_all [] ys) (put_all_ascending [] xs tt) (put_all_ascending [] ys tt) (λ m. (has_part xs ys f m, has_part ys xs h m))
 
 -- the numbers of a range that pass a test ascend
 pub filter_ascending : (p : ℕ → Bool) (a n : ℕ) → IsAscending (filter p (range_with_len a n))

@@ -4,6 +4,8 @@ use Rattle.gm_pieces.specs.Common.{ℕ, zero, suc, Bool, true, false, not, eqb, 
 use Rattle.gm_pieces.specs.Common.{subst, arith, inl, inr, Contains, list_all, list_any, range_with_len, cases_Bool, true≢false}
 use Rattle.gm_pieces.specs.Common.{and_left, and_right, and_both, all_at, any_at, any_from, same_tests, at_below, at_all, at_each, range_below}
 use Rattle.gm_pieces.specs.Common.{agree, agree_same, or_cases, contains_head, contains_later}
+use Rattle.gm_pieces.specs.Common.{get_or, has_cell}
+use Rattle.gm_squares.specs.declared.attacks.TheConstants.{NEXT}
 use Rattle.gm_squares.specs.Squares.{goes_on_board, beside}
 use Rattle.gm_squares.specs.Chess.{ray, reaches, attacks, king_attacks, piece_attacks, piece_ways, all_ways, rook_ways, image_square}
 
@@ -190,7 +192,7 @@ way_to a c =
     else (if a / 8 + c % 8 == c / 8 + a % 8 then (if nat_lt (a / 8) (c / 8) then 8 else 0)
     else (if a / 8 + a % 8 == c / 8 + c % 8 then (if nat_lt (a / 8) (c / 8) then 6 else 2) else 4)))
 
-abbrev is_among : List ℕ → ℕ → Bool
+abbrev pub is_among : List ℕ → ℕ → Bool
 is_among xs c = list_any (λ x. eqb x c) xs
 
 -- a man that meets a square on one of its ways goes there on the way from one square to the other
@@ -202,7 +204,7 @@ unfolding goes_on_board beside ray way_to
 only_way true = refl
 only_way false = refl
 
-met : (xs : List ℕ) (c u v : ℕ) → reaches xs c u v ≡ true → is_among xs c ≡ true
+pub met : (xs : List ℕ) (c u v : ℕ) → reaches xs c u v ≡ true → is_among xs c ≡ true
 unfolding reaches
 met [] c u v e = absurd (true≢false (sym e))
 met (x ∷ xs) c u v e = elim (or_cases (eqb x c) (not (eqb x u || eqb x v) && reaches xs c u v) e) [
@@ -234,17 +236,6 @@ unfolding piece_attacks ray goes_on_board reaches
 none_from true a c u v e = rw e refl
 none_from false a c u v e = rw e refl
 
--- which ways the rook and the queen go
-abbrev is_way : Bool → ℕ → Bool
-is_way q d = eqb (d % 2) 1 || (q && not (eqb d 4))
-
-way_table : (q : Bool) → list_all (λ d. agree (is_way q d) (is_among (piece_ways q) d)) (range_with_len 0 9) ≡ true
-way_table true = refl
-way_table false = refl
-
-pub way_test : (q : Bool) (d : ℕ) → d < 9 → is_way q d ≡ is_among (piece_ways q) d
-way_test q d l = agree_same _ _ (at_below 9 (λ d. agree (is_way q d) (is_among (piece_ways q) d)) (way_table q) d l)
-
 -- a king attacks the squares next to its own
 abbrev pub is_near : ℕ → ℕ → Bool
 is_near a c =
@@ -264,3 +255,10 @@ mutual_table = refl
 pub king_mutual : (a c : ℕ) → a < 64 → c < 64 → king_attacks a c ≡ king_attacks c a
 king_mutual a c l h =
     sym (near_test a c l h) ∙ agree_same _ _ (at_each 64 64 (λ a c. agree (is_near a c) (is_near c a)) mutual_table a c l h) ∙ near_test c a h l
+
+-- the table of the squares next to each
+next_table : at_all 64 64 (λ a c. agree (has_cell (get_or NEXT a 0) c) (is_near a c)) ≡ true
+next_table = refl
+
+pub next_test : (a c : ℕ) → a < 64 → c < 64 → has_cell (get_or NEXT a 0) c ≡ king_attacks a c
+next_test a c l h = agree_same _ _ (at_each 64 64 (λ a c. agree (has_cell (get_or NEXT a 0) c) (is_near a c)) next_table a c l h) ∙ near_test a c l h

@@ -19,11 +19,11 @@ bare_board i = record { white_moves = true; king = i / 64 % 64; piece = 64; foe 
 abbrev armed_board : ℕ → Men
 armed_board i = record { white_moves = eqb (i / 262144) 0; king = i / 4096 % 64; piece = i / 64 % 64; foe = i % 64 }
 
-bare_is : (b : Men) → eqb b.piece 64 ≡ true → (tier b ≡ 0) × (index b ≡ bare_index b)
+pub bare_is : (b : Men) → eqb b.piece 64 ≡ true → (tier b ≡ 0) × (index b ≡ bare_index b)
 unfolding tier index
 bare_is b e = rw e (refl, refl)
 
-armed_is : (b : Men) → eqb b.piece 64 ≡ false → (tier b ≡ 1) × (index b ≡ armed_index b)
+pub armed_is : (b : Men) → eqb b.piece 64 ≡ false → (tier b ≡ 1) × (index b ≡ armed_index b)
 unfolding tier index
 armed_is b e = rw e (refl, refl)
 
@@ -93,7 +93,7 @@ board_back q b h = elim (cases_Bool (eqb b.piece 64)) [
 armed_piece : (i : ℕ) → eqb (i / 64 % 64) 64 ≡ false
 armed_piece i = grind (arith, nat_tests)
 
-index_back : (t i : ℕ) → i < size t → index (board t i) ≡ i
+pub index_back : (t i : ℕ) → i < size t → index (board t i) ≡ i
 index_back zero i l =
     let s = sizes.0 in
     ap (λ (g : ℕ → Men). index (g i)) sizes.2 ∙ (bare_is (bare_board i) refl).1 ∙ omega (arith, l, s)

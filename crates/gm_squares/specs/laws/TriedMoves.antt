@@ -44,7 +44,7 @@ black_tried q b l w =
       ]
     ])
 
-pub white_earlier : (q : Bool) (d : Men) → legal q d ≡ true → d.white_moves ≡ false
+white_earlier : (q : Bool) (d : Men) → legal q d ≡ true → d.white_moves ≡ false
     → AreCandidates (can_have_led_here d) 12288 (record { low = row d.king 64; high = row (4096 + d.piece) 64 })
 white_earlier q d l w =
     let king = king_below q d l in
@@ -60,7 +60,7 @@ white_earlier q d l w =
       ]
     ])
 
-pub black_earlier : (q : Bool) (d : Men) → legal q d ≡ true → d.white_moves ≡ true → AreCandidates (can_have_led_here d) 12288 (one (row (8192 + d.foe) 64))
+black_earlier : (q : Bool) (d : Men) → legal q d ≡ true → d.white_moves ≡ true → AreCandidates (can_have_led_here d) 12288 (one (row (8192 + d.foe) 64))
 black_earlier q d l w =
     let foe = foe_below q d l in
     one_run (can_have_led_here d) 12288 (row (8192 + d.foe) 64) (omega arith) (λ j k h e. omega (arith, h)) (λ k h. omega (arith, h, foe))

@@ -1,0 +1,16 @@
+use Rattle.gm_pieces.proofs.Lower.{◌≡◌, ◌≤◌, ◌+◌, ℕ, [], length, map, Contains, board_game, befores, least_index, put_all}
+use Rattle.gm_pieces.specs.Marking.{IsLed, marked, index_before}
+use Rattle.gm_pieces.proofs.marked.put_marked_befores.Given as goal
+
+abbrev pub invariant-loop-number : goal.invariant-loop-number
+invariant-loop-number g l =
+    let r = g.T.MoveRules.game in
+    let d = g.T.MoveRules.cells l.fn.board in
+    record {
+      led : (m : ℕ) → Contains (marked l.marks) m → IsLed r l.fn.tier d m;
+      room : length l.list.items + length (marked l.marks) ≤ 128;
+      same : put_all l.list.items (map (index_before r l.fn.tier d) (marked l.marks)) ≡ put_all [] (map (least_index (board_game r)) (befores r l.fn.tier d));
+    }
+
+abbrev pub decreases-loop-number : goal.decreases-loop-number
+decreases-loop-number g l = length (marked l.marks)
