@@ -73,6 +73,12 @@ def value_of(answer: str) -> Tuple[str, str, int]:
     return members["position"], members["positionValue"], members["remoteness"]
 
 
+def position_in(answer: str) -> str:
+    """Reads the text of the position of an answer that begins with it, as those of `ask --values` do. A text with an escape is left to the JSON reader."""
+    text: str = json.loads(answer)["position"] if "\\" in answer else answer.split('"', 4)[3]
+    return text
+
+
 @dataclass(frozen=True)
 class Place:
     """Where a position stands in the tables."""

@@ -14,6 +14,8 @@ from typing import TYPE_CHECKING, Any, Dict, Iterator, List, NamedTuple, Optiona
 from .errors import BadFile
 
 if TYPE_CHECKING:
+    from .game import Game
+
     Numbers = array[int]
 else:
     Numbers = array
@@ -90,6 +92,21 @@ class Tier:
         for record, many in self.counts().items():
             found[record.value] += many
         return found
+
+    def texts(self, game: "Game") -> Iterator[Tuple[int, str]]:
+        """Returns each index that has a record, with the text of its position, for which this game is asked."""
+        indexes = [index for index, number in enumerate(self.numbers) if number]
+        return zip(indexes, game.texts_of(self.tier, indexes))
+
+    def frame(self, game: "Game") -> Any:
+        """Returns the positions that have a record, by index: their texts, values and numbers of moves to the end, as a DataFrame of pandas, or as a list of
+        tuples if pandas is not installed. This game is asked for the texts."""
+        rows = [(index, text, *record) for (index, text), (_, record) in zip(self.texts(game), self)]
+        try:
+            import pandas
+        except ImportError:
+            return rows
+        return pandas.DataFrame(rows, columns=["index", "text", "value", "remoteness"]).set_index("index")
 
     def numpy(self) -> Any:
         """Returns the numbers as an array of numpy that shares their memory. `>> 20` has the codes, `& 0xFFFFF` the remoteness."""

@@ -7,15 +7,16 @@ from collections import Counter
 from types import TracebackType
 from typing import Any, Callable, Counter as Counts, Dict, Iterable, Iterator, List, Optional, Tuple, Type, Union
 
-from .answers import ERROR, Place, Progress, Summary
+from .answers import ERROR, Place, Progress, Summary, position_in
 from .errors import Failed, NoSuchGame, NoSuchPlace, NoSuchPosition
 from .folder import VALUES, Record
 from .notebook import Page
 from .position import Position
 from .process import Asker, program_of, run, run_with_progress
 
-# What can be the text of a position: visible ASCII characters and spaces. In place of any other text the program is asked a line that is none.
-PLAIN = re.compile(r"[ -~]{0,1024}")
+# What can be the text of a position: visible ASCII characters and spaces, but no line that names a place. For any other text the program is asked a line that
+# is none.
+PLAIN = re.compile(r"(?!@\d+ \d+\Z)[ -~]{0,1024}")
 NOT_PLAIN = b"\xff"
 
 
@@ -115,6 +116,24 @@ class Game:
         """Returns where a position stands in the tables. No table is needed for it."""
         tier, index, word, least, canonical = self._about(text, "locate", self.name)[:-1].split("\t")
         return Place(int(tier), int(index), word == "canonical", int(least), canonical)
+
+    def text_of(self, tier: int, index: int) -> str:
+        """Returns the text of the legal position with this index of this tier, canonical or not."""
+        return next(self.texts_of(tier, [index]))
+
+    def texts_of(self, tier: int, indexes: Iterable[int]) -> Iterator[str]:
+        """Returns the texts of the legal positions with these indexes of a tier, in their order, by one process.
+
+        The first index that has none raises NoSuchPlace."""
+        for place, line in self._lines((f"@{tier:d} {index:d}" for index in indexes), ("--values",), str.encode):
+            if line.startswith(ERROR):
+                raise NoSuchPlace(f"{self.name} has no legal position with the index {place.partition(' ')[2]} of tier {tier}")
+            yield position_in(line)
+
+    def index_of(self, text: str) -> Tuple[int, int]:
+        """Returns the tier and the index of the canonical position of this one: where its record is stored."""
+        canonical: Dict[str, Any] = self._asked(text, "--values", "--with", "canonical")["canonical"]
+        return canonical["tier"], canonical["index"]
 
     def at(self, tier: int, index: int) -> Position:
         """Returns the canonical position with this index of this tier."""
@@ -225,14 +244,14 @@ class Game:
             found = self._askers[words] = Asker([self.program, "ask", self.name, *words, *self._kept()])
         return found
 
-    def _lines(self, texts: Iterable[str], words: Tuple[str, ...]) -> Iterator[Tuple[str, str]]:
+    def _lines(self, texts: Iterable[str], words: Tuple[str, ...], line_of: Callable[[str], bytes] = bytes_of) -> Iterator[Tuple[str, str]]:
         """Asks for texts, and returns each with the line that answers it."""
         asked: List[str] = []
 
         def lines() -> Iterator[bytes]:
             for text in texts:
                 asked.append(text)
-                yield bytes_of(text)
+                yield line_of(text)
 
         for answers in self._asker(words).ask(lines()):
             some = asked[: len(answers)]

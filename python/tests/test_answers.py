@@ -88,6 +88,34 @@ class Answers(WithRoom):
                 self.assertEqual(astuple(position.place()), place)
                 self.assertEqual(game.at(place[0], place[3]).text, least)
 
+    def test_each_place(self) -> None:
+        """Each legal position by its place, in one process for all, and each text by its record's place."""
+        for game, right in self.games():
+            texts: Dict[int, Dict[int, str]] = defaultdict(dict)
+            for text in right.game.legal:
+                texts[right.game.tier(text)][right.game.index(text)] = text
+            for tier, found in texts.items():
+                self.assertEqual(dict(zip(found, game.texts_of(tier, found))), found)
+                free = next(index for index in range(right.game.size(tier) + 1) if index not in found)
+                for place in ((tier, free), (tier, -1), (-1, 0), (2**64, 0)):
+                    with self.assertRaises(NoSuchPlace):
+                        game.text_of(*place)
+            for text in sorted(right.game.legal)[:: len(right.game.legal) // FEW + 1]:
+                least = right.least[text]
+                self.assertEqual(game.index_of(text), (right.game.tier(least), right.game.index(least)))
+            with self.assertRaises(NoSuchPosition):
+                game.position(f"@{right.game.tier(right.game.start)} {right.game.index(right.game.start)}")
+
+    def test_frames(self) -> None:
+        for game, right in self.games():
+            to = self.folder(game.name)
+            game.solve(to)
+            for tier in Folder(to):
+                wanted = [(index, text, *right.values[text]) for index, text in sorted(right.canonical()[tier.tier])]
+                found = tier.frame(game)
+                rows = found if isinstance(found, list) else list(found.itertuples(name=None))
+                self.assertEqual(rows, wanted)
+
     def test_best_play(self) -> None:
         """The line of best play is that of the best moves, and its end is what the value says."""
         for game, right in self.games():

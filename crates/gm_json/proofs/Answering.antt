@@ -1,7 +1,8 @@
 -- The answer about a position, put together.
 use Rattle.gm_json.proofs.Lower.{◌≡◌, ℕ, Bool, true, false, List, refl, sym, ap, ◌∙◌, if◌then◌else◌, Members, member, compact_text, Position, Solved, Rules}
 use Rattle.gm_json.proofs.Lower.{MoveValue, AreMovesOf, move_trees, position_members, extras, object, chosen, Asked, answer_members, IsPositionJson, IsTold}
-use Rattle.std.specs.Prelude.{codes}
+use Rattle.gm_json.proofs.Lower.{None, Some, inl, inr, subst, IsAnswer, IsAskedAs, IsAskedAsNone, error_tree, without_return}
+use Rattle.std.specs.Prelude.{codes, ◌↔◌}
 
 not_both : (b : Bool) → b ≡ true → b ≡ false → ⊥
 not_both true e h = let z : ⊥ = cc in z
@@ -47,3 +48,22 @@ module _ (r : Rules) (shown : Position → List ℕ) (move_shown : Position → 
     out_is = told.out_is ∙ ap (λ (ms : Members). compact_text (object ms)) (same_members told.value xs (chosen r asked.distinct xs)
         (extras r shown move_shown asked.with tiers p told.best) e);
   }
+
+module _ (r : Rules) (shown : Position → List ℕ) (move_shown : Position → ℕ → List ℕ) (asked : Asked) (tiers line : List ℕ) (n : ℕ) (text out : List ℕ)
+    (cut : text ≡ without_return line) where
+  -- the line asks about a position
+  pub answered : (p q : Position) → IsAskedAs r shown move_shown text p → q ≡ p → IsPositionJson r shown move_shown asked tiers (shown q) out → IsAnswer r
+      shown move_shown asked tiers line n out
+  answered p q is same json =
+      let of_p = subst (λ (x : Position). IsPositionJson r shown move_shown asked tiers (shown x) out) same json in
+      elim (subst (λ (t : List ℕ). IsAskedAs r shown move_shown t p) cut is) [
+        | inl read ↦ inl (subst (λ (t : List ℕ). IsPositionJson r shown move_shown asked tiers t out) read.1 of_p)
+        | inr place ↦ inr (inl (p, place, of_p))
+      ]
+
+  -- the line asks about none
+  pub unanswered : ((p : Position) → (None ≡ Some p) ↔ IsAskedAs r shown move_shown text p) → out ≡ compact_text (error_tree n text)
+      → IsAnswer r shown move_shown asked tiers line n out
+  unanswered none e =
+      let nothing : IsAskedAsNone r shown move_shown text = λ p is. absurd (let some : None ≡ Some p = (none p).1 is in cc) in
+      inr (inr (subst (λ (t : List ℕ). IsAskedAsNone r shown move_shown t) cut nothing, e ∙ ap (λ (t : List ℕ). compact_text (error_tree n t)) cut))

@@ -7,7 +7,7 @@ pub use Rattle.gm_game.specs.declared.position.Position.{Position}
 pub use Rattle.gm_game.specs.declared.position.Solved.{Solved}
 pub use Rattle.gm_game.specs.declared.position.Value.{Value}
 pub use Rattle.gm_game.specs.declared.position.Value.TheVariants.{Draw, Lose, Tie, Win}
-pub use Rattle.gm_json.specs.Answers.{IsAnswer, IsPositionJson, IsTold, answer_members}
+pub use Rattle.gm_json.specs.Answers.{IsAnswer, IsPositionJson, IsTold, answer_members, error_tree}
 pub use Rattle.gm_json.specs.Asking.{AreAnswers, IsBroken, IsCut, IsLineBroken, IsLineDone, IsOfLine, IsOfOutput, IsServed, IsUnanswered, IsUnread, IsUnwritten}
 pub use Rattle.gm_json.specs.Asking.{block_bytes, kept_bytes, lines_from, lines_of}
 pub use Rattle.gm_json.specs.Extras.{AddsMember, AreBestMoves, around, canonical_tree, class_below, class_size, extras, member_if, move_texts_along, parents_in}
@@ -17,6 +17,7 @@ pub use Rattle.gm_json.specs.Lines.{AreSteps, end_line, step_tree, steps_from}
 pub use Rattle.gm_json.specs.Midst.{GoesOn, Midst}
 pub use Rattle.gm_json.specs.Moves.{move_tree, move_trees, moves_tree, position_members}
 pub use Rattle.gm_json.specs.Parts.{is_clear, item_text, key_text, member_text}
+pub use Rattle.gm_json.specs.Places.{IsAskedAs, IsAskedAsNone, IsPlaceLine}
 pub use Rattle.gm_json.specs.Words.{line_of, move_or_null, text, whole}
 pub use Rattle.gm_json.specs.declared.ask_error.AskError.{AskError}
 pub use Rattle.gm_json.specs.declared.ask_error.AskError.TheVariants.{NotHeld, OutOfMemory, OutputClosed, ReadFailed, WriteFailed}
@@ -24,6 +25,7 @@ pub use Rattle.gm_json.specs.declared.asked.Asked.{Asked}
 pub use Rattle.gm_json.specs.declared.asked.With.{With}
 pub use Rattle.gm_play.proofs.Rows.{after_true, best_step, flat_all, flat_more}
 pub use Rattle.gm_play.specs.BestLines.{AreBest}
+pub use Rattle.gm_play.specs.Dialogue.{without_return}
 pub use Rattle.gm_play.specs.Firsts.{chosen}
 pub use Rattle.gm_play.specs.PlayTexts.{AreMovesOf, IsMoveOf, after_best, value_word}
 pub use Rattle.gm_play.specs.Sessions.{AppendsPart}

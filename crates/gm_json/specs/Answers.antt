@@ -1,17 +1,18 @@
 -- The answer to a line that should be the text of a position.
 use Rattle.std.specs.Prelude.{◌≡◌, ℕ, ◌⊎◌, true, false, List, take, codes, if◌then◌else◌}
 use Rattle.gm_json.specs.Lower.{Data, string, object, Members, member, no_members, compact_text, Position, Solved, Rules, IsTrueValue, MoveValue, chosen}
-use Rattle.gm_json.specs.Lower.{AreMoveValues, BeginsBest, IsReadAs, without_return, IsNoPosition}
+use Rattle.gm_json.specs.Lower.{AreMoveValues, BeginsBest, IsReadAs, without_return}
 use Rattle.gm_json.specs.declared.asked.Asked.{Asked}
 use Rattle.gm_json.specs.Words.{whole, text}
 use Rattle.gm_json.specs.Moves.{move_trees, position_members}
 use Rattle.gm_json.specs.Extras.{extras, AreBestMoves}
+use Rattle.gm_json.specs.Places.{IsAskedAsNone, IsAskedByPlace}
 
--- how much of a line that is the text of no position is reported
+-- how much of a line that asks about no position is reported
 abbrev pub read_bytes : ℕ
 read_bytes = 64
 
--- what is reported of a line that is the text of no position: its number, and what was read
+-- what is reported of a line that asks about no position: its number, and what was read
 abbrev pub unread_tree : ℕ → List ℕ → Data
 unread_tree n read =
     object (member (codes "error") (string (codes "no such position"))
@@ -50,7 +51,12 @@ module _ (r : Rules) (shown : Position → List ℕ) (move_shown : Position → 
       pub out_is : out ≡ compact_text (object (answer_members position value (chosen r asked.distinct list)
           (extras r shown move_shown asked.with tiers position best)))
 
-    -- the answer to the line with this number: the answer for the position, or that there is no such position
+    -- the answer to a line that is the text of no position, and names the tier and the index of a legal one
+    abbrev pub IsPlaceAnswer : List ℕ → List ℕ → Type 0
+    IsPlaceAnswer line out = (p : Position) × IsAskedByPlace r shown move_shown line p × IsPositionJson (shown p) out
+
+    -- the answer to the line with this number: the answer for the position that it asks about, or that there is no such position
     abbrev pub IsAnswer : List ℕ → ℕ → List ℕ → Type 0
     IsAnswer line n out = IsPositionJson (without_return line) out
-        ⊎ (IsNoPosition r shown move_shown (without_return line) × (out ≡ compact_text (error_tree n (without_return line))))
+        ⊎ (IsPlaceAnswer (without_return line) out
+        ⊎ (IsAskedAsNone r shown move_shown (without_return line) × (out ≡ compact_text (error_tree n (without_return line)))))

@@ -4,6 +4,7 @@ pub mod Moves
 pub mod Lines
 pub mod Founds
 pub mod Extras
+pub mod Places
 pub mod Answers
 pub mod Asking
 pub mod Midst

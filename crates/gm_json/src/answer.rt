@@ -1,15 +1,17 @@
-//! The answer to one line that should be the text of a position.
+//! The answer to one line that should ask about a position.
 ghost use Rattle.std.specs.Prelude.{◌≡◌, ◌++◌, ◌∷◌, true, false, take, IfOk, IfErr, OnOk, IsErrOf, ◌↔◌};
-ghost use Rattle.gm_json.specs.Lower.{All, Position, Members, compact_text, members_text, IsNotHeld, IsMoveOf, IsReadAs};
+ghost use Rattle.gm_json.specs.Lower.{All, Position, Members, compact_text, members_text, IsNotHeld, IsMoveOf};
 ghost use Rattle.gm_play.specs.Dialogue.{without_return as without_return_spec};
 ghost use Rattle.gm_json.specs.Answers.{IsAnswer, IsPositionJson, IsTold, answer_members, read_bytes, error_tree};
 ghost use Rattle.gm_json.specs.Asking.{IsOfLine};
+ghost use Rattle.gm_json.specs.Places.{IsAskedAs};
 
 use crate::ask_error::AskError;
 use crate::asked::Asked;
 use crate::extras::push_extras;
 use crate::moves::{push_moves, push_value};
 use crate::parts::{push_bytes, push_number_member, push_text_member};
+use crate::place::asked_about;
 use gm_game::position::{Position, Solved};
 use gm_game::shown::Shown;
 use gm_play::closed::Closed;
@@ -19,12 +21,12 @@ use gm_play::move_values::MoveValue;
 use gm_play::streams::without_return;
 use std::alloc::{AllocError, Global};
 
-// The number of bytes that are repeated of a line that is the text of no position.
+// The number of bytes that are repeated of a line that asks about no position.
 const READ: usize = 64;
 
-/// Returns the answer to the line with this number: the answer for the position with this text, or the error that there is no such position, with the first 64
-/// bytes of the line. A carriage return at the end of the line is no part of it. Parents are looked for in these tiers. `NotHeld` comes exactly if the tier of
-/// the position has no table.
+/// Returns the answer to the line with this number: the answer for the position with this text, or with the tier and the index of a line `@TIER INDEX`, or the
+/// error that there is no such position, with the first 64 bytes of the line. A carriage return at the end of the line is no part of it. Parents are looked for
+/// in these tiers. `NotHeld` comes exactly if the tier of the position has no table.
 pub fn ask_line<G: Shown>(
     alloc: Global,
     tables: &Closed<'_, G>,
@@ -35,11 +37,11 @@ pub fn ask_line<G: Shown>(
 ) -> Result<Vec<u8>, AskError>
     ensures answer { IfOk result (λ out. IsAnswer G.Game.rules G.shown G.move_shown asked tiers.now line.now number out.items) }
     ensures kind { IfErr result IsOfLine }
-    ensures not_held { IsErrOf result AskError.NotHeld ↔ ((p : Position) × IsReadAs G.Game.rules G.shown G.move_shown (without_return_spec line.now) p
+    ensures not_held { IsErrOf result AskError.NotHeld ↔ ((p : Position) × IsAskedAs G.Game.rules G.shown G.move_shown (without_return_spec line.now) p
         × IsNotHeld G.Game.rules tables.now.tables.now p) }
 {
     let text = without_return(line);
-    let answered = match G::read(text) {
+    let answered = match asked_about::<G>(text) {
         Some(p) => match tables.known(p) {
             Some(known) => position_json(alloc, &known, tiers, asked),
             None => return Err(AskError::NotHeld),
@@ -108,7 +110,7 @@ fn push_front<G: Shown>(
     push_value::<G>(alloc, out, true, p, value)
 }
 
-// Returns the answer to a line that is the text of no position.
+// Returns the answer to a line that asks about no position.
 fn no_position(alloc: Global, number: u64, line: &[u8]) -> Result<Vec<u8>, AllocError>
     ensures { IfOk result (λ out. out.items ≡ compact_text (error_tree number line.now)) }
 {

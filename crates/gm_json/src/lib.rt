@@ -12,4 +12,5 @@ pub mod find;
 pub mod line;
 pub mod moves;
 mod parts;
+mod place;
 mod words;
