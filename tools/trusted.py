@@ -179,12 +179,21 @@ def head_of(path, function):
 
 
 def starts_of(path, function, cited=()):
-    """What a function's conditions name, and its clauses of the cited names or with the cited definitions; all clauses, if nothing is cited."""
+    """What a function's conditions name, and its clauses of the cited names or with the cited definitions; all clauses, if nothing is cited. Of a clause that
+    names no cited definition, those of its definitions' equations."""
     known, found = imports(read(f"{CRATES}/{path}")), []
     for kind, name, text in re.findall(r"(?ms)\b(requires|ensures)\b(?: (\w+))? \{(.*?)\}\s*?$", head_of(f"{CRATES}/{path}", function)):
         if kind == "requires" or not cited or name in cited or set(cited) & set(WORD.findall(text)):
             found += named(text, known)
+        else:
+            found += [key for key in equations_of(named(text, known)) if key[1] in cited]
     return found
+
+
+def equations_of(keys):
+    """What the equations of these definitions name."""
+    text = {key: "\n".join(line for _, line in module(key[0]).definitions[key[1]].lines) for key in keys if is_ours(key)}
+    return [it for key, lines in text.items() for it in named(lines, module(key[0]).imports, key[0])]
 
 
 def promises():
@@ -204,12 +213,18 @@ def promises():
 
 def commands():
     """The commands, each with the definition of its answer, and how the equations begin that are its own."""
-    questions = {"query": "Value", "moves": "(Moves", "why": "Why", "line": "(Line", "show": "(Show", "show --svg": "(Diagram", "page": "(Page"}
-    others = {"page --engine": "(EnginePage", "query -` and `moves -": "(Filter", "solve": "Solve", "check": "(Check", "at": "(At", "locate": "(Locate",
-              "find": "(Find", "counts": "(Counts", "longest": "(Longest", "ask": "(Ask", "analyse": "Analyse", "play": "(Play"}
-    explored = {name: ("IsAnswered", {"IsAnswered": "IsAnswered g (Explore ", "IsTextFor": f"IsTextFor g {of} "}) for name, of in questions.items()}
-    about_games = {name: ("IsAnswered", {"IsAnswered": f"IsAnswered g {of} "}) for name, of in others.items()}
-    return {"list": ("IsDone", {"IsDone": "IsDone (Names "}), **explored, **about_games, "page --all": ("IsDone", {"IsDone": "IsDone (AllGames "})}
+    questions = {"query": "Value", "moves": "(Moves", "why": "Why", "line": "(Line", "show": "(Show", "show --svg": "(Diagram"}
+    from_tables = {"query -` and `moves -": "(Filter", "solve": "Solve", "at": "(At", "find": "(Find", "counts": "(Counts", "longest": "(Longest",
+                   "ask": "(Ask", "analyse": "Analyse", "play": "(Play"}
+    pages = {"page": "None", "page --engine": "(Some"}
+    others = {"check": "(Check", "locate": "(Locate"}
+    table = "IsAnsweredFromTables"
+    explored = {name: (table, {table: f"{table} g (Explore ", "IsTextFor": f"IsTextFor g {of} "}) for name, of in questions.items()}
+    paged = {name: (table, {table: f"{table} g (Page ", "IsPagedWith": f"IsPagedWith {of} "}) for name, of in pages.items()}
+    about_games = {name: (table, {table: f"{table} g {of} "}) for name, of in from_tables.items()}
+    beside = {name: ("IsAnswered", {"IsAnswered": f"IsAnswered g {of} "}) for name, of in others.items()}
+    lists = {"list": ("IsDone", {"IsDone": "IsDone (Names "}), "page --all": ("IsDone", {"IsDone": "IsDone (AllGames "})}
+    return {**lists, **explored, **paged, **about_games, **beside}
 
 
 @lru_cache(None)
@@ -334,8 +349,10 @@ def faults():
     """A headline that rests on too many lines; commands whose equations are not there, and equations that are no command's."""
     lines = count(promise(HEADLINE))[1]
     yield from [f"the headline rests on {lines} lines of definitions, more than {MOST}"] if lines > MOST else []
-    begun = {(word, it) for _, only in commands().values() for word, it in only.items()} | {("IsDone", "IsDone (Game "), ("IsDone", "IsDone _ "), ("IsAnswered", "IsAnswered g _ ")}
-    for where, word in (("gamesman.specs.Answers", "IsDone"), ("gamesman.specs.Answers", "IsAnswered"), ("gamesman.specs.Texts", "IsTextFor")):
+    beside = ["IsDone (Game ", "IsDone _ ", "IsAnswered g _ ", "IsAnswered g (FromTables "]
+    begun = {(word, it) for _, only in commands().values() for word, it in only.items()} | {(it.split()[0], it) for it in beside}
+    for where, word in (("gamesman.specs.Answers", "IsDone"), ("gamesman.specs.Answers", "IsAnswered"), ("gamesman.specs.Answers", "IsAnsweredFromTables"),
+                        ("gamesman.specs.Answers", "IsPagedWith"), ("gamesman.specs.Texts", "IsTextFor")):
         equations = [line for _, line in module(where).definitions[word].lines if re.match(rf"{word} (?!:)", line)]
         expected = [it for name, it in begun if name == word]
         yield from (f"no equation of {where} begins with '{it}'" for it in expected if not any(line.startswith(it) for line in equations))

@@ -2,12 +2,12 @@
 use Rattle.gamesman.proofs.Lower.{◌≡◌, ℕ, zero, suc, ◌+◌, ◌-◌, inl, inr, Bool, List, [], ◌∷◌, ◌++◌, length, take, drop, Option, None, Some, Result, Ok, Err}
 use Rattle.gamesman.proofs.Lower.{refl, sym, ap, subst, ◌∙◌, arith, append-nil, take-append-drop, Contains, flat_map, Appends, Keeps, Appends-trans}
 use Rattle.gamesman.proofs.Lower.{Appends-kept, flat_map-append, Position, Rules, contains_none, contains_cases, TableData, AreAllHeld, AppendsPart, part_after}
-use Rattle.gamesman.proofs.Lower.{Found, IsFound, AreFound, AreChosen, Form, PositionSearch, Fault, NoSuchGame, NoSuchPosition, NoSuchPositionInLine}
+use Rattle.gamesman.proofs.Lower.{Found, IsFound, AreFound, AreChosen, LineForm, Report, Lines, PositionSearch, Fault, NoSuchGame, NoSuchPosition, NoSuchPositionInLine}
 use Rattle.gamesman.proofs.Lower.{NoSuchTier, NoSuchIndex, NotLegal, NotCanonical, OutOfMemory, NotBuilt, AnotherGames, InputFailed, OutputFailed, OutputClosed}
 use Rattle.gamesman.proofs.Lower.{TooMuchInput, EngineNotRead, NotAnEngine, GameSpec, IsOutputFault, IsCutOff, IsMemoryFault, board_row, IsTextOf, IsFoundAt}
-use Rattle.gamesman.proofs.Lower.{AreTiersFor, IsFoundSoFar, IsLeft, limit_by_tier, AreFoundWith, ◌⊎◌, map, ap₂, map-append, length-map, All-append, same_Some}
-use Rattle.gamesman.proofs.Lower.{Choice, First, Random, Sought, IsFirst, IsMatch, all_positions, positions_in, position_of, found_row, first_append}
-use Rattle.gamesman.proofs.Lower.{found_line, Rows, Json, Sheet, Boards, IsToldByTier, IsTierTold}
+use Rattle.gamesman.proofs.Lower.{AreTiersFor, IsFoundSoFar, IsLeft, AreLinesOf, AreFoundWith, ◌⊎◌, map, ap₂, map-append, length-map, All-append}
+use Rattle.gamesman.proofs.Lower.{Choice, First, Sought, IsFirst, IsMatch, all_positions, positions_in, position_of, found_row, first_append}
+use Rattle.gamesman.proofs.Lower.{found_line, Rows, Json, Boards, IsToldByTier, IsTierTold}
 use Rattle.std.proofs.Common.{length-append}
 
 -- ---- the tables
@@ -18,34 +18,21 @@ held_one r entries tier held t has = elim (contains_cases tier t [] has) [
   | inr c ↦ absurd (contains_none t c)
 ]
 
--- ---- the limit
--- only the first positions are written tier by tier, and a sheet never is
-pub told_by_tier : (form : Form) (choice : Choice) (n : ℕ) → limit_by_tier form choice ≡ Some n → (choice ≡ First n) × (form ≡ Sheet → ⊥)
-told_by_tier Rows (First k) n e = (ap First (same_Some k n e), λ f. absurd (cc))
-told_by_tier Json (First k) n e = (ap First (same_Some k n e), λ f. absurd (cc))
-told_by_tier Boards (First k) n e = (ap First (same_Some k n e), λ f. absurd (cc))
-told_by_tier Rows (Random k seed) n e = absurd (cc)
-told_by_tier Json (Random k seed) n e = absurd (cc)
-told_by_tier Boards (Random k seed) n e = absurd (cc)
-told_by_tier Sheet choice n e = absurd (cc)
-
 -- ---- the texts
 joined : (f : Found → List ℕ) (xs ys : List Found) (out more : List ℕ) → out ≡ flat_map f xs → more ≡ flat_map f ys → out ++ more ≡ flat_map f (xs ++ ys)
 joined f xs ys out more is too = ap₂ (λ (a b : List ℕ). a ++ b) is too ∙ sym (flat_map-append f xs ys)
 
 module _ (g : GameSpec) where
-  text_none : (form : Form) → (form ≡ Sheet → ⊥) → IsTextOf g form [] []
-  text_none Rows other = refl
-  text_none Json other = refl
-  text_none Boards other = refl
-  text_none Sheet other = absurd (other refl)
+  lines_none : (form : LineForm) → AreLinesOf g form [] []
+  lines_none Rows = refl
+  lines_none Json = refl
+  lines_none Boards = refl
 
-  text_more : (form : Form) (xs ys : List Found) (out more : List ℕ) → (form ≡ Sheet → ⊥) → IsTextOf g form xs out → IsTextOf g form ys more → IsTextOf g
-      form (xs ++ ys) (out ++ more)
-  text_more Rows xs ys out more other is too = joined (found_row g.shown g.move_shown) xs ys out more is too
-  text_more Json xs ys out more other is too = joined (found_line g.shown g.move_shown) xs ys out more is too
-  text_more Boards xs ys out more other is too = joined (board_row g) xs ys out more is too
-  text_more Sheet xs ys out more other is too = absurd (other refl)
+  lines_more : (form : LineForm) (xs ys : List Found) (out more : List ℕ) → AreLinesOf g form xs out → AreLinesOf g form ys more
+      → AreLinesOf g form (xs ++ ys) (out ++ more)
+  lines_more Rows xs ys out more is too = joined (found_row g.shown g.move_shown) xs ys out more is too
+  lines_more Json xs ys out more is too = joined (found_line g.shown g.move_shown) xs ys out more is too
+  lines_more Boards xs ys out more is too = joined (board_row g) xs ys out more is too
 
 -- ---- the positions
 none_first : {A : Type 0} (P : A → Type 0) (n : ℕ) (xs : List A) → n ≡ 0 → IsFirst P n xs []
@@ -90,9 +77,9 @@ module _ (r : Rules) (q : Sought) (reached : Bool) (limit : ℕ) where
 
 -- ---- tier by tier
 -- the found positions of some tiers are written, and this many more may be
-abbrev pub IsSoFar : GameSpec → PositionSearch → ℕ → List ℕ → Option (List ℕ) → Option (List ℕ) → ℕ → Type 0
-IsSoFar g asked limit tiers before now left = (xs : List Found) × AreFound g.rules asked.sought asked.reached limit tiers xs × (left ≡ limit - length xs)
-    × ((text : List ℕ) × IsTextOf g asked.form xs text × Appends before now text)
+abbrev pub IsSoFar : GameSpec → PositionSearch → LineForm → ℕ → List ℕ → Option (List ℕ) → Option (List ℕ) → ℕ → Type 0
+IsSoFar g asked form limit tiers before now left = (xs : List Found) × AreFound g.rules asked.sought asked.reached limit tiers xs × (left ≡ limit - length xs)
+    × ((text : List ℕ) × AreLinesOf g form xs text × Appends before now text)
 
 neither : ⊥ ⊎ ⊥ → ⊥
 neither (inl x) = x
@@ -102,61 +89,62 @@ append_none : (o : Option (List ℕ)) → Appends o o []
 append_none None = tt
 append_none (Some xs) = sym (append-nil xs)
 
-module _ (g : GameSpec) (asked : PositionSearch) (limit : ℕ) (by_tier : limit_by_tier asked.form asked.choice ≡ Some limit) where
-  no_sheet : asked.form ≡ Sheet → ⊥
-  no_sheet = (told_by_tier asked.form asked.choice limit by_tier).1
+module _ (g : GameSpec) (asked : PositionSearch) (form : LineForm) (limit : ℕ) (lines : asked.report ≡ Lines form) (first : asked.choice ≡ First limit) where
+  -- lines are the text that is asked for
+  as_asked : (xs : List Found) (text : List ℕ) → AreLinesOf g form xs text → IsTextOf g asked.report xs text
+  as_asked xs text is = subst (λ (report : Report). IsTextOf g report xs text) (sym lines) is
 
-  pub so_far_none : (o : Option (List ℕ)) → IsSoFar g asked limit [] o o limit
-  so_far_none o = ([], found_none g.rules asked.sought asked.reached limit, omega arith, ([], text_none g asked.form no_sheet, append_none o))
+  pub so_far_none : (o : Option (List ℕ)) → IsSoFar g asked form limit [] o o limit
+  so_far_none o = ([], found_none g.rules asked.sought asked.reached limit, omega arith, ([], lines_none g form, append_none o))
 
-  so_far_more : (tiers : List ℕ) (tier n next left : ℕ) (a b c : Option (List ℕ)) → IsSoFar g asked limit tiers a b left → IsTierTold g asked tier left b c
+  so_far_more : (tiers : List ℕ) (tier n next left : ℕ) (a b c : Option (List ℕ)) → IsSoFar g asked form limit tiers a b left → IsTierTold g asked form tier left b c
       (Ok n) → next ≡ left - n
-      → IsSoFar g asked limit (tiers ++ tier ∷ []) a c next
+      → IsSoFar g asked form limit (tiers ++ tier ∷ []) a c next
   so_far_more tiers tier n next left a b c (xs, are, is, (text, told, put)) (ys, those, many, (more, too, written)) e =
       let long : length (xs ++ ys) ≡ length xs + length ys = length-append xs ys in
       let those_left = subst (λ (k : ℕ). AreFound g.rules asked.sought asked.reached k (tier ∷ []) ys) is those in (
         xs ++ ys,
         found_more g.rules asked.sought asked.reached limit tiers tier xs ys are those_left,
         omega arith,
-        (text ++ more, text_more g asked.form xs ys text more no_sheet told too, Appends-trans a b c text more put written),
+        (text ++ more, lines_more g form xs ys text more told too, Appends-trans a b c text more put written),
       )
 
   -- the positions of the next tier are written
-  pub next_told : (tiers : List ℕ) (k tier n next left : ℕ) (a b c : Option (List ℕ)) → take (k + 1) tiers ≡ take k tiers ++ tier ∷ [] → IsSoFar g asked
+  pub next_told : (tiers : List ℕ) (k tier n next left : ℕ) (a b c : Option (List ℕ)) → take (k + 1) tiers ≡ take k tiers ++ tier ∷ [] → IsSoFar g asked form
       limit (take k tiers) a b left
-      → IsTierTold g asked tier left b c (Ok n) → next ≡ left - n → IsSoFar g asked limit (take (k + 1) tiers) a c next
+      → IsTierTold g asked form tier left b c (Ok n) → next ≡ left - n → IsSoFar g asked form limit (take (k + 1) tiers) a c next
   next_told tiers k tier n next left a b c longer so_far told e =
-      subst (λ (ts : List ℕ). IsSoFar g asked limit ts a c next) (sym longer) (so_far_more (take k tiers) tier n next left a b c so_far told e)
+      subst (λ (ts : List ℕ). IsSoFar g asked form limit ts a c next) (sym longer) (so_far_more (take k tiers) tier n next left a b c so_far told e)
 
   chosen : (tiers : List ℕ) (xs : List Found) → AreFound g.rules asked.sought asked.reached limit tiers xs → AreChosen g.rules asked.sought asked.reached
       asked.choice tiers xs
   chosen tiers xs are = subst (λ (choice : Choice). AreChosen g.rules asked.sought asked.reached choice tiers xs)
-      (sym (told_by_tier asked.form asked.choice limit by_tier).0) are
+      (sym first) are
 
   module _ (IsWhy : Fault → Type 0) (tiers : List ℕ) (are_asked : AreTiersFor g.rules asked.tier tiers) (a b : Option (List ℕ)) where
     -- the positions of all tiers are written
-    all_told : (left : ℕ) → IsSoFar g asked limit tiers a b left → IsToldByTier g asked IsWhy a b (Ok 0)
+    all_told : (left : ℕ) → IsSoFar g asked form limit tiers a b left → IsToldByTier g asked IsWhy a b (Ok 0)
     all_told left (xs, are, is, (text, told, put)) =
-        record { written = (refl, (text, (tiers, are_asked, (xs, chosen tiers xs are, told)), put)); refused = tt }
+        record { written = (refl, (text, (tiers, are_asked, (xs, chosen tiers xs are, as_asked xs text told)), put)); refused = tt }
 
-    pub end_told : (k left : ℕ) → take k tiers ≡ tiers → IsSoFar g asked limit (take k tiers) a b left → IsToldByTier g asked IsWhy a b (Ok 0)
-    end_told k left e so_far = all_told left (subst (λ (ts : List ℕ). IsSoFar g asked limit ts a b left) e so_far)
+    pub end_told : (k left : ℕ) → take k tiers ≡ tiers → IsSoFar g asked form limit (take k tiers) a b left → IsToldByTier g asked IsWhy a b (Ok 0)
+    end_told k left e so_far = all_told left (subst (λ (ts : List ℕ). IsSoFar g asked form limit ts a b left) e so_far)
 
     -- the limit is reached
-    pub full_told : (k left : ℕ) → IsSoFar g asked limit (take k tiers) a b left → left ≡ 0 → IsToldByTier g asked IsWhy a b (Ok 0)
+    pub full_told : (k left : ℕ) → IsSoFar g asked form limit (take k tiers) a b left → left ≡ 0 → IsToldByTier g asked IsWhy a b (Ok 0)
     full_told k left (xs, are, is, told) none = all_told left (xs, found_full g.rules asked.sought asked.reached limit k tiers xs are (sym is ∙ none), is, told)
 
-    module _ (k tier left : ℕ) (c : Option (List ℕ)) (so_far : IsSoFar g asked limit (take k tiers) a b left)
+    module _ (k tier left : ℕ) (c : Option (List ℕ)) (so_far : IsSoFar g asked form limit (take k tiers) a b left)
         (next : take (k + 1) tiers ≡ take k tiers ++ tier ∷ []) where
       -- a write fails in the next tier
-      part_told : (text : List ℕ) × IsFoundAt g asked tier left text × AppendsPart b c text → (text : List ℕ) × IsFoundSoFar g asked text × AppendsPart a c text
+      part_told : (text : List ℕ) × IsFoundAt g asked form tier left text × AppendsPart b c text → (text : List ℕ) × IsFoundSoFar g asked text × AppendsPart a c text
       part_told (more, (ys, those, too), part) =
           let (xs, are, is, (text, told, put)) = so_far in
           let those_left = subst (λ (n : ℕ). AreFound g.rules asked.sought asked.reached n (tier ∷ []) ys) is those in
           let all = found_more g.rules asked.sought asked.reached limit (take k tiers) tier xs ys are those_left in
           let here = subst (λ (ts : List ℕ). AreFound g.rules asked.sought asked.reached limit ts (xs ++ ys)) (sym next) all in (
             text ++ more,
-            (tiers, are_asked, (k + 1, (xs ++ ys, chosen (take (k + 1) tiers) (xs ++ ys) here, text_more g asked.form xs ys text more no_sheet told too))),
+            (tiers, are_asked, (k + 1, (xs ++ ys, chosen (take (k + 1) tiers) (xs ++ ys) here, as_asked (xs ++ ys) (text ++ more) (lines_more g form xs ys text more told too)))),
             part_after a b c text more put part,
           )
 
@@ -164,9 +152,9 @@ module _ (g : GameSpec) (asked : PositionSearch) (limit : ℕ) (by_tier : limit_
       memory_told : Keeps b c → (text : List ℕ) × IsFoundSoFar g asked text × Appends a c text
       memory_told keeps =
           let (xs, are, is, (text, told, put)) = so_far in
-          (text, (tiers, are_asked, (k, (xs, chosen (take k tiers) xs are, told))), Appends-kept a b c text put keeps)
+          (text, (tiers, are_asked, (k, (xs, chosen (take k tiers) xs are, as_asked xs text told))), Appends-kept a b c text put keeps)
 
-      left_told : (fault : Fault) → IsCutOff (IsFoundAt g asked tier left) b c fault → IsOutputFault fault ⊎ IsMemoryFault fault → IsLeft
+      left_told : (fault : Fault) → IsCutOff (IsFoundAt g asked form tier left) b c fault → IsOutputFault fault ⊎ IsMemoryFault fault → IsLeft
           (IsFoundSoFar g asked) a c fault
       left_told OutputFailed told why = part_told told
       left_told OutputClosed told why = part_told told
@@ -185,7 +173,7 @@ module _ (g : GameSpec) (asked : PositionSearch) (limit : ℕ) (by_tier : limit_
       left_told EngineNotRead told why = absurd (neither why)
       left_told NotAnEngine told why = absurd (neither why)
 
-      pub failed_told : ((fault : Fault) → IsMemoryFault fault → IsWhy fault) → (fault : Fault) → IsTierTold g asked tier left b c (Err fault) →
+      pub failed_told : ((fault : Fault) → IsMemoryFault fault → IsWhy fault) → (fault : Fault) → IsTierTold g asked form tier left b c (Err fault) →
           IsOutputFault fault ⊎ IsMemoryFault fault
           → IsToldByTier g asked IsWhy a c (Err fault)
       failed_told refused fault told why = record {

@@ -2,6 +2,7 @@ pub mod Reached
 pub mod Cut
 pub mod Fronts
 pub mod Telling
+pub mod Answering
 pub mod Checks
 pub mod Analyses
 pub mod Finds

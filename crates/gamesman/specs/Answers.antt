@@ -1,9 +1,10 @@
 -- The answer of each command.
-use Rattle.std.specs.Prelude.{◌≡◌, ℕ, List, Option, None, Some, Result, Ok, Err, IfErr}
-use Rattle.gamesman.specs.Lower.{Bor, Keeps, option_map, unknown_texts, Position, Rules, IsNoPosition, IsPlaceText, IsUnlocated, game_of_name, Question, Request, GameCommand}
+use Rattle.std.specs.Prelude.{◌≡◌, ℕ, max, List, [], Option, None, Some, Result, Ok, Err, IfErr}
+use Rattle.gamesman.specs.Lower.{Bor, Keeps, option_map, unknown_texts, Position, Rules, IsNoPosition, IsPlaceText, IsUnlocated, game_of_name, Question, PageRequest, Request}
+use Rattle.gamesman.specs.Lower.{GameCommand, TableCommand, IsPage}
 use Rattle.gm_command.specs.declared.requests.Request.TheVariants.{List as Names, Game, AllGames}
-use Rattle.gm_command.specs.declared.requests.GameCommand.TheVariants.{Solve, Explore, Filter, EnginePage, At, Locate, Find, Counts, Longest, Ask, Analyse}
-use Rattle.gm_command.specs.declared.requests.GameCommand.TheVariants.{Check, Play}
+use Rattle.gm_command.specs.declared.requests.GameCommand.TheVariants.{FromTables, Locate, Check}
+use Rattle.gm_command.specs.declared.requests.TableCommand.TheVariants.{Solve, Explore, Filter, Page, At, Find, Counts, Longest, Ask, Analyse, Play}
 use Rattle.gamesman.specs.declared.fault.Fault.{Fault}
 use Rattle.gamesman.specs.declared.fault.Fault.TheVariants.{NoSuchGame, NoSuchPosition, OutOfMemory, OutputFailed, OutputClosed}
 use Rattle.gamesman.specs.Games.{GameSpec, spec_of}
@@ -20,7 +21,7 @@ use Rattle.gamesman.specs.Analysing.{IsAnalysedBy}
 use Rattle.gamesman.specs.Plays.{IsPlayed}
 use Rattle.gamesman.specs.Listing.{listed}
 use Rattle.gamesman.specs.Told.{IsPut, IsTold}
-use Rattle.gamesman.specs.Engines.{IsPaged, IsEnginePaged, IsEveryGame}
+use Rattle.gamesman.specs.Engines.{IsEnginePaged, IsEveryGame}
 
 module _ (r : Rules) (shown : Position → List ℕ) (move_shown : Position → ℕ → List ℕ) (position : List ℕ) where
   -- a question about the position with this text is answered by such a text; if no position has the text, that is the fault
@@ -38,9 +39,15 @@ abbrev pub IsExplored : GameSpec → Option (Bor (List ℕ)) → Question → Op
 IsExplored g position question before after result =
     IsAnsweredBy g.rules g.shown g.move_shown (text_asked g position) (IsTextFor g question (text_asked g position)) before after result
 
--- the page of a legal position is written with an engine that was read
-abbrev pub IsEnginePagedBy : GameSpec → List ℕ → ℕ → Option (List ℕ) → Option (List ℕ) → Result ℕ Fault → Type 0
-IsEnginePagedBy g position limit = IsAnsweredBy g.rules g.shown g.move_shown position (IsPaged g position limit)
+-- the page of the position with this text is written, without an engine, or with that in the file
+abbrev pub IsPagedWith : Option (Bor (List ℕ)) → GameSpec → List ℕ → ℕ → Option (List ℕ) → Option (List ℕ) → Result ℕ Fault → Type 0
+IsPagedWith None g position limit before after result = IsAnsweredBy g.rules g.shown g.move_shown position
+    (IsPage g.rules g.shown g.move_shown g.picture position limit []) before after result
+IsPagedWith (Some engine) g position limit before after result = IsEnginePaged g position limit before after result
+
+-- a page is written as requested
+abbrev pub IsPagedBy : GameSpec → PageRequest → Option (List ℕ) → Option (List ℕ) → Result ℕ Fault → Type 0
+IsPagedBy g asked before after result = IsPagedWith asked.engine g (text_asked g asked.position) (max asked.limit 1) before after result
 
 -- the reason why a position is not located: no position has this text, or a write failed
 abbrev pub IsUnlocatedFor : Rules → (Position → List ℕ) → List ℕ → Fault → Type 0
@@ -56,23 +63,28 @@ pub record IsLocatedBy (r : Rules) (shown : Position → List ℕ) (text : List 
   pub refused : IfErr result (IsUnlocatedFor r shown text)
   pub unread : IsUnlocated r shown text → result ≡ Err NoSuchPosition
 
--- a command about a game is answered, from the rest of the input, the output before and the output after
-unfoldable pub IsAnswered : GameSpec → GameCommand → Option (List ℕ) → Option (List ℕ) → Option (List ℕ) → Result ℕ Fault → Type 0
-IsAnswered g Solve input before after result = IsSolvedBy g.rules before after result
-IsAnswered g (Explore position question) input before after result = IsExplored g position question before after result
-IsAnswered g (Filter question) input before after result = IsFiltered g question input before after result
-IsAnswered g (EnginePage request) input before after result = IsEnginePaged g request before after result
-IsAnswered g (At tier index) input before after result = IsPlaced g.rules g.shown tier index before after result
-IsAnswered g (Locate position) input before after result = IsLocatedBy g.rules g.shown position.now before after result
-IsAnswered g (Find search) input before after result = AreFoundBy g search (IsUnsearched g.rules search.tier) before after result
-IsAnswered g (Counts request) input before after result = IsTold (IsCountsOf g.rules request) (IsUnsearched g.rules None) before after result
-IsAnswered g (Longest reached limit) input before after result =
+-- a command is answered from tables of a game, from the rest of the input, the output before and the output after
+unfoldable pub IsAnsweredFromTables : GameSpec → TableCommand → Option (List ℕ) → Option (List ℕ) → Option (List ℕ) → Result ℕ Fault → Type 0
+IsAnsweredFromTables g Solve input before after result = IsSolvedBy g.rules before after result
+IsAnsweredFromTables g (Explore position question) input before after result = IsExplored g position question before after result
+IsAnsweredFromTables g (Filter question) input before after result = IsFiltered g question input before after result
+IsAnsweredFromTables g (Page request) input before after result = IsPagedBy g request before after result
+IsAnsweredFromTables g (At tier index) input before after result = IsPlaced g.rules g.shown tier index before after result
+IsAnsweredFromTables g (Find search) input before after result = AreFoundBy g search (IsUnsearched g.rules search.tier) before after result
+IsAnsweredFromTables g (Counts request) input before after result =
+    IsTold (IsCountsOf g.rules request) (IsUnsearched g.rules None) before after result
+IsAnsweredFromTables g (Longest reached limit) input before after result =
     IsTold (IsLongestOf g.rules g.shown g.move_shown reached limit) (IsUnsearched g.rules None) before after result
-IsAnswered g (Ask request) input before after result =
+IsAnsweredFromTables g (Ask request) input before after result =
     IsAskedBy g.rules g.shown g.move_shown request (IsUnsearched g.rules None) input before after result
-IsAnswered g Analyse input before after result = IsAnalysedBy g.rules before after result
+IsAnsweredFromTables g Analyse input before after result = IsAnalysedBy g.rules before after result
+IsAnsweredFromTables g (Play request) input before after result = IsPlayed g.rules g.shown g.move_shown g.picture request input before after result
+
+-- a command about a game is answered
+unfoldable pub IsAnswered : GameSpec → GameCommand → Option (List ℕ) → Option (List ℕ) → Option (List ℕ) → Result ℕ Fault → Type 0
+IsAnswered g (FromTables command) input before after result = IsAnsweredFromTables g command input before after result
+IsAnswered g (Locate position) input before after result = IsLocatedBy g.rules g.shown position.now before after result
 IsAnswered g (Check folder) input before after result = IsCheckedBy g.rules unknown_texts before after result
-IsAnswered g (Play request) input before after result = IsPlayed g.rules g.shown g.move_shown g.picture request input before after result
 IsAnswered g _ input before after result = Unit {0}
 
 -- a command about a game is answered; if there is no such game, that is the fault

@@ -1,6 +1,6 @@
 -- Pages with the engine.
-use Rattle.std.specs.Prelude.{◌≡◌, ◌⊎◌, ◌++◌, ℕ, max, true, false, List, [], ◌∷◌, Option, None, Some, Result, Err, IfErr}
-use Rattle.gamesman.specs.Lower.{flat_map, IsNoPosition, AreDigits, IsPage, game_tree, with_viewer, script_line, EnginePageRequest}
+use Rattle.std.specs.Prelude.{◌≡◌, ◌⊎◌, ◌++◌, ℕ, true, false, List, [], ◌∷◌, Option, Result, Err, IfErr}
+use Rattle.gamesman.specs.Lower.{flat_map, IsNoPosition, AreDigits, IsPage, game_tree, with_viewer, script_line}
 use Rattle.gamesman.specs.declared.fault.Fault.{Fault}
 use Rattle.gamesman.specs.declared.fault.Fault.TheVariants.{NoSuchPosition, OutOfMemory, EngineNotRead, NotAnEngine}
 use Rattle.gamesman.specs.Games.{GameSpec, countdown_spec, takeaway_spec, wheel_spec, nine_spec, mutorere_spec, dao_spec, hare_spec, pong_spec, shisima_spec}
@@ -24,18 +24,10 @@ IsPaged g position limit out = (digits : List ℕ) × AreDigits digits
 
 -- the page of the position with this text is written; if no position has the text, that is the fault, and else it is that of the engine or of a question about
 -- the position
-pub record IsEnginePagedAt (g : GameSpec) (position : List ℕ) (limit : ℕ) (before after : Option (List ℕ)) (result : Result ℕ Fault) : Type 0 where
+pub record IsEnginePaged (g : GameSpec) (position : List ℕ) (limit : ℕ) (before after : Option (List ℕ)) (result : Result ℕ Fault) : Type 0 where
   pub written : IsWritten (IsPaged g position limit) before after result
   pub refused : IfErr result (λ fault. IsEngineFault fault ⊎ IsRefused g.rules g.shown g.move_shown position fault)
   pub unread : IsNoPosition g.rules g.shown g.move_shown position → result ≡ Err NoSuchPosition
-
--- the text of the position that a page begins with: that of the start if none is given
-abbrev pub text_paged : GameSpec → EnginePageRequest → List ℕ
-text_paged g asked = elim asked.position [ None ↦ g.shown g.rules.initial | Some text ↦ text.now ]
-
--- a page is written as requested
-abbrev pub IsEnginePaged : GameSpec → EnginePageRequest → Option (List ℕ) → Option (List ℕ) → Result ℕ Fault → Type 0
-IsEnginePaged g asked = IsEnginePagedAt g (text_paged g asked) (max asked.limit 1)
 
 -- ---- all games
 -- the line of a game

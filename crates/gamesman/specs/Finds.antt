@@ -1,7 +1,7 @@
 -- The output of `find`.
 use Rattle.std.specs.Prelude.{◌≡◌, ◌++◌, ℕ, ◌⊎◌, List, [], ◌∷◌, codes, length, take, Option, None, Some, Result, Ok, Err, IfErr}
 use Rattle.gamesman.specs.Lower.{Keeps, Appends, flat_map, Rules, IsTierOrder, AppendsPart, Found, Choice, First, Random, AreFound, AreChosen, found_row}
-use Rattle.gamesman.specs.Lower.{found_line, Entry, AreEntries, sheet_of, Form, Rows, Json, Sheet, Boards, PositionSearch, drawn}
+use Rattle.gamesman.specs.Lower.{found_line, Entry, AreEntries, sheet_of, LineForm, Rows, Json, Boards, Report, Lines, Sheet, PositionSearch, drawn}
 use Rattle.gamesman.specs.declared.fault.Fault.{Fault}
 use Rattle.gamesman.specs.declared.fault.Fault.TheVariants.{OutOfMemory, OutputFailed, OutputClosed}
 use Rattle.gamesman.specs.Games.{GameSpec}
@@ -12,21 +12,25 @@ use Rattle.gamesman.specs.Told.{IsTold}
 abbrev pub board_row : GameSpec → Found → List ℕ
 board_row g x = (drawn g.picture g.shown x.position ++ codes "\n") ++ found_row g.shown g.move_shown x
 
--- found positions as a text: for each its row, its line of JSON, or its row below its board; or a sheet of all
-abbrev pub IsTextOf : GameSpec → Form → List Found → List ℕ → Type 0
-IsTextOf g Rows xs out = out ≡ flat_map (found_row g.shown g.move_shown) xs
-IsTextOf g Json xs out = out ≡ flat_map (found_line g.shown g.move_shown) xs
-IsTextOf g Boards xs out = out ≡ flat_map (board_row g) xs
+-- for each found position its row, its line of JSON, or its row below its board
+abbrev pub AreLinesOf : GameSpec → LineForm → List Found → List ℕ → Type 0
+AreLinesOf g Rows xs out = out ≡ flat_map (found_row g.shown g.move_shown) xs
+AreLinesOf g Json xs out = out ≡ flat_map (found_line g.shown g.move_shown) xs
+AreLinesOf g Boards xs out = out ≡ flat_map (board_row g) xs
+
+-- found positions as a text: a line for each, or a sheet of all
+abbrev pub IsTextOf : GameSpec → Report → List Found → List ℕ → Type 0
+IsTextOf g (Lines form) xs out = AreLinesOf g form xs out
 IsTextOf g Sheet xs out = (es : List Entry)
     × AreEntries g.rules g.shown g.move_shown g.picture xs es × (out ≡ sheet_of g.picture.title es)
 
 -- the chosen ones of the positions of these tiers that are searched for, as a text
 abbrev pub IsFoundIn : GameSpec → PositionSearch → List ℕ → List ℕ → Type 0
-IsFoundIn g asked tiers out = (xs : List Found) × AreChosen g.rules asked.sought asked.reached asked.choice tiers xs × IsTextOf g asked.form xs out
+IsFoundIn g asked tiers out = (xs : List Found) × AreChosen g.rules asked.sought asked.reached asked.choice tiers xs × IsTextOf g asked.report xs out
 
--- the first of them in one tier, up to a limit, as a text
-abbrev pub IsFoundAt : GameSpec → PositionSearch → ℕ → ℕ → List ℕ → Type 0
-IsFoundAt g asked tier left out = (xs : List Found) × AreFound g.rules asked.sought asked.reached left (tier ∷ []) xs × IsTextOf g asked.form xs out
+-- the first of them in one tier, up to a limit, as lines
+abbrev pub IsFoundAt : GameSpec → PositionSearch → LineForm → ℕ → ℕ → List ℕ → Type 0
+IsFoundAt g asked form tier left out = (xs : List Found) × AreFound g.rules asked.sought asked.reached left (tier ∷ []) xs × AreLinesOf g form xs out
 
 -- the tiers that are searched: the named one, or all of the game in their order
 abbrev pub AreTiersFor : Rules → Option ℕ → List ℕ → Type 0
@@ -59,10 +63,10 @@ pub record IsToldByTier (g : GameSpec) (q : PositionSearch) (IsWhy : Fault → T
   pub refused : IfErr result (λ fault. IsOutputFault fault ⊎ IsWhy fault)
 
 -- the first positions of one tier are written, and their number is returned; after a fault a part of them if a write failed, and otherwise nothing
-abbrev pub IsTierTold : GameSpec → PositionSearch → ℕ → ℕ → Option (List ℕ) → Option (List ℕ) → Result ℕ Fault → Type 0
-IsTierTold g asked tier left before after (Ok n) = (xs : List Found) × AreFound g.rules asked.sought asked.reached left (tier ∷ []) xs × (n ≡ length xs)
-    × ((text : List ℕ) × IsTextOf g asked.form xs text × Appends before after text)
-IsTierTold g asked tier left before after (Err fault) = IsCutOff (IsFoundAt g asked tier left) before after fault
+abbrev pub IsTierTold : GameSpec → PositionSearch → LineForm → ℕ → ℕ → Option (List ℕ) → Option (List ℕ) → Result ℕ Fault → Type 0
+IsTierTold g asked form tier left before after (Ok n) = (xs : List Found) × AreFound g.rules asked.sought asked.reached left (tier ∷ []) xs × (n ≡ length xs)
+    × ((text : List ℕ) × AreLinesOf g form xs text × Appends before after text)
+IsTierTold g asked form tier left before after (Err fault) = IsCutOff (IsFoundAt g asked form tier left) before after fault
 
 -- the limit, if the first positions are requested
 abbrev pub first_limit : Choice → Option ℕ
@@ -70,10 +74,8 @@ first_limit (First n) = Some n
 first_limit (Random n seed) = None
 
 -- the limit for positions that are written tier by tier; no limit if all are written at once: a sheet, or positions chosen by chance
-abbrev pub limit_by_tier : Form → Choice → Option ℕ
-limit_by_tier Rows choice = first_limit choice
-limit_by_tier Json choice = first_limit choice
-limit_by_tier Boards choice = first_limit choice
+abbrev pub limit_by_tier : Report → Choice → Option ℕ
+limit_by_tier (Lines form) choice = first_limit choice
 limit_by_tier Sheet choice = None
 
 -- found positions are written tier by tier, or at once
@@ -83,4 +85,4 @@ AreFoundWith None g asked IsWhy before after result = IsTold (IsFoundOf g asked)
 
 -- the positions that `find` finds are written
 abbrev pub AreFoundBy : GameSpec → PositionSearch → (Fault → Type 0) → Option (List ℕ) → Option (List ℕ) → Result ℕ Fault → Type 0
-AreFoundBy g asked IsWhy before after result = AreFoundWith (limit_by_tier asked.form asked.choice) g asked IsWhy before after result
+AreFoundBy g asked IsWhy before after result = AreFoundWith (limit_by_tier asked.report asked.choice) g asked IsWhy before after result

@@ -17,15 +17,18 @@ pub use Rattle.gm_command.specs.Names.{game_of_name}
 pub use Rattle.gm_command.specs.declared.names.TheConstants.{GAMES, LATER_GAMES}
 pub use Rattle.gm_command.specs.declared.requests.AskRequest.{AskRequest}
 pub use Rattle.gm_command.specs.declared.requests.CountsRequest.{CountsRequest}
-pub use Rattle.gm_command.specs.declared.requests.EnginePageRequest.{EnginePageRequest}
-pub use Rattle.gm_command.specs.declared.requests.Form.{Form}
-pub use Rattle.gm_command.specs.declared.requests.Form.TheVariants.{Boards, Json, Rows, Sheet}
 pub use Rattle.gm_command.specs.declared.requests.GameCommand.{GameCommand}
+pub use Rattle.gm_command.specs.declared.requests.LineForm.{LineForm}
+pub use Rattle.gm_command.specs.declared.requests.LineForm.TheVariants.{Boards, Json, Rows}
+pub use Rattle.gm_command.specs.declared.requests.PageRequest.{PageRequest}
 pub use Rattle.gm_command.specs.declared.requests.PlayRequest.{PlayRequest}
 pub use Rattle.gm_command.specs.declared.requests.PositionSearch.{PositionSearch}
 pub use Rattle.gm_command.specs.declared.requests.Question.{Question}
-pub use Rattle.gm_command.specs.declared.requests.Question.TheVariants.{Diagram, Line, Moves, Page, Show, Value, Why}
+pub use Rattle.gm_command.specs.declared.requests.Question.TheVariants.{Diagram, Line, Moves, Show, Value, Why}
+pub use Rattle.gm_command.specs.declared.requests.Report.{Report}
+pub use Rattle.gm_command.specs.declared.requests.Report.TheVariants.{Lines, Sheet}
 pub use Rattle.gm_command.specs.declared.requests.Request.{Request}
+pub use Rattle.gm_command.specs.declared.requests.TableCommand.{TableCommand}
 pub use Rattle.gm_draw.specs.Pictures.{PictureSpec, drawn}
 pub use Rattle.gm_find.specs.Founds.{AreChosen, AreFound, IsFound}
 pub use Rattle.gm_find.specs.Rows.{found_row}

@@ -1,7 +1,7 @@
 -- The texts about a position: the answers to questions about it.
-use Rattle.std.specs.Prelude.{ℕ, max, Bool, true, false, List, []}
-use Rattle.gamesman.specs.Lower.{Position, Rules, IsAnswerText, AreMoveRows, IsLineText, IsWhyText, IsLineJson, IsMovesJson, IsShowText, IsDiagram, IsPage}
-use Rattle.gamesman.specs.Lower.{Question, Value, Moves, Why, Line, Show, Diagram, Page}
+use Rattle.std.specs.Prelude.{ℕ, Bool, true, false, List}
+use Rattle.gamesman.specs.Lower.{Position, Rules, IsAnswerText, AreMoveRows, IsLineText, IsWhyText, IsLineJson, IsMovesJson, IsShowText, IsDiagram}
+use Rattle.gamesman.specs.Lower.{Question, Value, Moves, Why, Line, Show, Diagram}
 use Rattle.gamesman.specs.Games.{GameSpec}
 use Rattle.gamesman.specs.Outputs.{IsLine}
 
@@ -24,4 +24,3 @@ IsTextFor g (Line limit true) position out = IsLineJson g.rules g.shown g.move_s
 IsTextFor g (Line limit false) position out = IsLineText g.rules g.shown g.move_shown position limit out
 IsTextFor g (Show explained) position out = IsShowText g.rules g.shown g.move_shown g.picture explained position out
 IsTextFor g (Diagram valued) position out = IsDiagram g.rules g.shown g.move_shown g.picture valued position out
-IsTextFor g (Page limit) position out = IsPage g.rules g.shown g.move_shown g.picture position (max limit 1) [] out

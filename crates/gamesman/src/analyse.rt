@@ -1,12 +1,8 @@
 //! The counts of a game, tier by tier.
 ghost use Rattle.std.specs.Prelude.{◌≡◌, ◌++◌, ℕ, List, IfOk, OnOk, string_bytes};
 ghost use Rattle.gamesman.specs.Lower.{IsHeld, HoldsExactly};
-ghost use Rattle.gamesman.specs.Analysing.{IsAnalysisLine, AreAnalysisLines, IsAnalysedBy};
+ghost use Rattle.gamesman.specs.Analysing.{IsAnalysisLine, AreAnalysisLines};
 
-use crate::fault::Fault;
-use crate::host::Host;
-use crate::output::put_all;
-use crate::tables::BuildOptions;
 use gm_analyse::analysis::analyse as count;
 use gm_analyse::json::to_json;
 use gm_build::build::Built;
@@ -14,27 +10,10 @@ use gm_game::shown::Shown;
 use gm_table::table::Table;
 use gm_table::tables::Tables;
 use std::alloc::{AllocError, Global};
-use std::io::Write;
 use std::string::String;
 
-/// Prints the counts of each tier, in the order of tiers.
-pub fn analyse<G: Shown + Send + Sync, R: Host, O: Write, E: Write + Send>(
-    rt: &R,
-    options: BuildOptions<'_>,
-    output: &mut O,
-    errors: &mut E,
-) -> Result<u8, Fault>
-    ensures { IsAnalysedBy G.Game.rules (O.contents output.old) (O.contents output.new) result }
-{
-    let built = options.build::<G, R, E>(rt, errors)?;
-    let lines = lines_of(rt.alloc(), &built);
-    drop(built);
-    let lines = lines?;
-    put_all(output, lines.as_slice())
-}
-
-// Returns a line with the counts of each tier.
-fn lines_of<G: Shown>(alloc: Global, built: &Built<G>) -> Result<Vec<u8>, AllocError>
+/// Returns a line with the counts of each tier, in the order of tiers.
+pub fn analysis_lines<G: Shown>(alloc: Global, built: &Built<G>) -> Result<Vec<u8>, AllocError>
     requires { HoldsExactly built.now.tables built.now.order }
     ensures { IfOk result (λ v. AreAnalysisLines G.Game.rules built.now.order v.items) }
 {

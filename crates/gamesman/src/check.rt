@@ -102,7 +102,7 @@ fn check_tier<G: Game + Send + Sync, R: Host, S: Store, O: Write, E: Write + Sen
     store: &mut S,
     tables: &mut Tables<G>,
     output: &mut O,
-    teller: &Teller<'_, G, R, E>,
+    teller: &Teller<'_, R, E>,
 ) -> Result<Finding, Fault>
     requires small { G.rules.tier_size tier ≤ TIER_SIZE }
     requires few { S.failed store.old < u64.MAX }
@@ -130,7 +130,7 @@ fn check_tiers<G: Game + Send + Sync, R: Host, S: Store, O: Write, E: Write + Se
     store: &mut S,
     tables: &mut Tables<G>,
     output: &mut O,
-    teller: &Teller<'_, G, R, E>,
+    teller: &Teller<'_, R, E>,
 ) -> Result<u8, Fault>
     requires small { (tier : ℕ) → Contains tiers.now tier → G.rules.tier_size tier ≤ TIER_SIZE }
     requires none { HoldsExactly tables.old [] }
@@ -170,7 +170,7 @@ pub fn check<G: Game + Send + Sync, R: Host, S: Store, O: Write, E: Write + Send
     let alloc = rt.alloc();
     let order = order_of::<G>(alloc)?;
     let mut tables: Tables<G> = Tables::new(alloc);
-    let teller: Teller<'_, G, R, E> = Teller::new(rt, errors, telling, order.tiers());
+    let teller = Teller::new::<G>(alloc, rt, errors, telling, order.tiers())?;
     let checked = check_tiers(rt, order.tiers(), store, &mut tables, output, &teller);
     drop((order, tables, teller));
     checked

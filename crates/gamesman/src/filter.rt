@@ -4,14 +4,12 @@ ghost use Rattle.gamesman.specs.Lower.{Appends, IsTierOrder, HoldsExactly};
 ghost use Rattle.gm_play.specs.Dialogue.{without_return as without_return_spec};
 ghost use Rattle.gamesman.specs.Games.{game_spec};
 ghost use Rattle.gamesman.specs.Texts.{IsTextFor};
-ghost use Rattle.gamesman.specs.Filters.{IsOfNone, IsLineFault, AreLinesAnswered, IsFiltered};
+ghost use Rattle.gamesman.specs.Filters.{IsOfNone, IsLineFault, AreLinesAnswered};
 
 use crate::explore::text_for;
 use crate::fault::Fault;
-use crate::host::Host;
 use crate::output::put;
 use crate::run::DONE;
-use crate::tables::BuildOptions;
 use arrayvec::ArrayVec;
 use gm_build::build::Built;
 use gm_command::requests::Question;
@@ -28,25 +26,7 @@ const KEPT: usize = LINE + 2;
 
 /// Answers each position of the input, one in each line, before it reads more than the input has available. The first line that is
 /// not the text of a position ends the command.
-pub fn filter<G: Pictured + Send + Sync, R: Host, I: Read, O: Write, E: Write + Send>(
-    rt: &R,
-    question: Question,
-    options: BuildOptions<'_>,
-    input: &mut I,
-    output: &mut O,
-    errors: &mut E,
-) -> Result<u8, Fault>
-    ensures { IsFiltered (game_spec G.Game.rules G.shown G.move_shown G.picture) question
-        (I.remaining input.old) (O.contents output.old) (O.contents output.new) result }
-{
-    let built = options.build::<G, R, E>(rt, errors)?;
-    let answered = answer_input(rt.alloc(), &built, question, input, output);
-    drop(built);
-    answered
-}
-
-// Answers the lines of the input. Each read takes as much as is available.
-fn answer_input<G: Pictured, I: Read, O: Write>(
+pub fn answer_input<G: Pictured, I: Read, O: Write>(
     alloc: Global,
     built: &Built<G>,
     question: Question,

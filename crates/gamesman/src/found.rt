@@ -1,18 +1,18 @@
 //! Printing the positions that a search finds.
-ghost use Rattle.std.specs.Prelude.{◌≡◌, ◌⊎◌, ◌++◌, ℕ, Some, [], ◌∷◌, IfOk, OnOk, IfErr, is_some};
-ghost use Rattle.gamesman.specs.Lower.{All, flat_map, IsOrderFrom, HoldsExactly, AreAllHeld, IsFound, Sheet};
+ghost use Rattle.std.specs.Prelude.{◌≡◌, ◌⊎◌, ◌++◌, ℕ, List, [], ◌∷◌, IfOk, OnOk, IfErr, is_some};
+ghost use Rattle.gamesman.specs.Lower.{All, flat_map, IsOrderFrom, HoldsExactly, AreAllHeld, AreChosen, IsFound, Found, First, Lines};
 ghost use Rattle.gamesman.specs.Games.{game_spec};
 ghost use Rattle.gamesman.specs.Outputs.{IsOutputFault};
 ghost use Rattle.gamesman.specs.Told.{IsMemoryFault};
 ghost use Rattle.gamesman.specs.Searches.{first_of, IsUnsearched};
-ghost use Rattle.gamesman.specs.Finds.{board_row, IsTextOf, IsFoundIn, AreTiersFor, IsToldByTier, IsTierTold, first_limit, limit_by_tier, AreFoundBy};
+ghost use Rattle.gamesman.specs.Finds.{board_row, AreLinesOf, AreTiersFor, IsToldByTier, IsTierTold, AreFoundBy};
 
 use crate::fault::Fault;
-use crate::output::{put, put_all};
+use crate::output::{put, put_text};
 use crate::run::DONE;
 use crate::search::reached_from_start;
 use gm_build::build::Built;
-use gm_command::requests::{Form, PositionSearch};
+use gm_command::requests::{LineForm, PositionSearch, Report};
 use gm_draw::drawn::draw;
 use gm_draw::pictured::Pictured;
 use gm_find::choice::find_some;
@@ -75,32 +75,20 @@ fn write_in<G: Pictured, O: Write>(
     ensures { AreFoundBy (game_spec G.Game.rules G.shown G.move_shown G.picture)
         asked (IsUnsearched G.Game.rules asked.tier) (O.contents output.old) (O.contents output.new) result }
 {
-    match limit_of(asked) {
-        Some(limit) => write_by_tier(alloc, known, asked, reached, limit, output),
-        None => {
-            let text = text_at_once(alloc, known, asked, reached)?;
-            put_all(output, text.as_slice())
+    match asked.report {
+        Report::Sheet => {
+            let sheet = sheet_text(alloc, known, asked.sought, reached, asked.choice);
+            put_text(output, sheet)
         }
-    }
-}
-
-// Returns the limit for positions that are written tier by tier. `None` means that they are written at once: a sheet, or positions
-// chosen by chance.
-fn limit_of(asked: PositionSearch) -> Option<usize>
-    ensures { result ≡ limit_by_tier asked.form asked.choice }
-{
-    match asked.form {
-        Form::Rows | Form::Json | Form::Boards => limit_for(asked.choice),
-        Form::Sheet => None,
-    }
-}
-
-fn limit_for(choice: Choice) -> Option<usize>
-    ensures { result ≡ first_limit choice }
-{
-    match choice {
-        Choice::First(limit) => Some(limit),
-        Choice::Random { .. } => None,
+        Report::Lines(form) => match asked.choice {
+            Choice::First(limit) => {
+                write_by_tier(alloc, known, asked, reached, form, limit, output)
+            }
+            Choice::Random { .. } => {
+                let lines = lines_at_once(alloc, known, asked, reached, form);
+                put_text(output, lines)
+            }
+        },
     }
 }
 
@@ -110,18 +98,29 @@ fn write_by_tier<G: Pictured, O: Write>(
     known: &KnownTiers<'_, G>,
     asked: PositionSearch,
     reached: Option<&Reached<G>>,
+    form: LineForm,
     limit: usize,
     output: &mut O,
 ) -> Result<u8, Fault>
     requires tiers { AreTiersFor G.Game.rules asked.tier known.now.tiers.now }
     requires reached { is_some reached ≡ asked.reached }
-    requires limit { limit_by_tier asked.form asked.choice ≡ Some limit }
+    requires lines { asked.report ≡ Lines form }
+    requires first { asked.choice ≡ First limit }
     ensures { IsToldByTier (game_spec G.Game.rules G.shown G.move_shown G.picture)
         asked (IsUnsearched G.Game.rules asked.tier) (O.contents output.old) (O.contents output.new) result }
 {
     let mut left = limit;
     for tier in known.tiers {
-        let many = write_tier(alloc, known.tables, *tier, asked, reached, left, output)?;
+        let many = write_tier(
+            alloc,
+            known.tables,
+            *tier,
+            asked,
+            reached,
+            form,
+            left,
+            output,
+        )?;
         left = left.saturating_sub(many);
         if left == 0 {
             return Ok(DONE);
@@ -137,14 +136,14 @@ fn write_tier<G: Pictured, O: Write>(
     tier: u64,
     asked: PositionSearch,
     reached: Option<&Reached<G>>,
+    form: LineForm,
     left: usize,
     output: &mut O,
 ) -> Result<usize, Fault>
     requires held { AreAllHeld G.Game.rules tables.now tier }
     requires reached { is_some reached ≡ asked.reached }
-    requires lines { asked.form ≡ Sheet → ⊥ }
     ensures told { IsTierTold (game_spec G.Game.rules G.shown G.move_shown G.picture)
-        asked tier left (O.contents output.old) (O.contents output.new) result }
+        asked form tier left (O.contents output.old) (O.contents output.new) result }
     ensures fault { IfErr result (λ fault. IsOutputFault fault ⊎ IsMemoryFault fault) }
 {
     let known = KnownTiers {
@@ -152,44 +151,9 @@ fn write_tier<G: Pictured, O: Write>(
         tiers: &[tier],
     };
     let found = find(alloc, &known, asked.sought, reached, left)?;
-    let lines = lines_of::<G>(alloc, found.as_slice(), asked.form)?;
+    let lines = lines_of::<G>(alloc, found.as_slice(), form)?;
     put(output, lines.as_slice())?;
     Ok(found.len())
-}
-
-// Returns all chosen positions as one text.
-fn text_at_once<G: Pictured>(
-    alloc: Global,
-    known: &KnownTiers<'_, G>,
-    asked: PositionSearch,
-    reached: Option<&Reached<G>>,
-) -> Result<Vec<u8>, Fault>
-    requires reached { is_some reached ≡ asked.reached }
-    ensures text { IfOk result (λ v. IsFoundIn (game_spec G.Game.rules G.shown G.move_shown G.picture)
-        asked known.now.tiers.now v.items) }
-    ensures fault { IfErr result IsMemoryFault }
-{
-    match asked.form {
-        Form::Sheet => sheet_at_once(alloc, known, asked, reached),
-        Form::Rows | Form::Json | Form::Boards => lines_at_once(alloc, known, asked, reached),
-    }
-}
-
-// Returns the sheet of the chosen positions.
-fn sheet_at_once<G: Pictured>(
-    alloc: Global,
-    known: &KnownTiers<'_, G>,
-    asked: PositionSearch,
-    reached: Option<&Reached<G>>,
-) -> Result<Vec<u8>, Fault>
-    requires reached { is_some reached ≡ asked.reached }
-    requires sheet { asked.form ≡ Sheet }
-    ensures text { IfOk result (λ v. IsFoundIn (game_spec G.Game.rules G.shown G.move_shown G.picture)
-        asked known.now.tiers.now v.items) }
-    ensures fault { IfErr result IsMemoryFault }
-{
-    let sheet = sheet_text(alloc, known, asked.sought, reached, asked.choice)?;
-    Ok(sheet)
 }
 
 // Returns the lines of the chosen positions.
@@ -198,30 +162,30 @@ fn lines_at_once<G: Pictured>(
     known: &KnownTiers<'_, G>,
     asked: PositionSearch,
     reached: Option<&Reached<G>>,
-) -> Result<Vec<u8>, Fault>
+    form: LineForm,
+) -> Result<Vec<u8>, AllocError>
     requires reached { is_some reached ≡ asked.reached }
-    requires lines { asked.form ≡ Sheet → ⊥ }
-    ensures text { IfOk result (λ v. IsFoundIn (game_spec G.Game.rules G.shown G.move_shown G.picture)
-        asked known.now.tiers.now v.items) }
-    ensures fault { IfErr result IsMemoryFault }
+    ensures { IfOk result (λ v. (xs : List Found) × AreChosen G.Game.rules asked.sought asked.reached asked.choice known.now.tiers.now xs
+        × AreLinesOf (game_spec G.Game.rules G.shown G.move_shown G.picture) form xs v.items) }
 {
     let found = find_some(alloc, known, asked.sought, reached, asked.choice)?;
-    let lines = lines_of::<G>(alloc, found.as_slice(), asked.form)?;
-    Ok(lines)
+    lines_of::<G>(alloc, found.as_slice(), form)
 }
 
-// Returns found positions as a text other than a sheet.
-fn lines_of<G: Pictured>(alloc: Global, found: &[Found], form: Form) -> Result<Vec<u8>, AllocError>
-    requires found { All (IsFound G.Game.rules) found.now }
-    requires lines { form ≡ Sheet → ⊥ }
-    ensures { IfOk result (λ v. IsTextOf (game_spec G.Game.rules G.shown G.move_shown G.picture)
+// Returns a line of this form for each found position.
+fn lines_of<G: Pictured>(
+    alloc: Global,
+    found: &[Found],
+    form: LineForm,
+) -> Result<Vec<u8>, AllocError>
+    requires { All (IsFound G.Game.rules) found.now }
+    ensures { IfOk result (λ v. AreLinesOf (game_spec G.Game.rules G.shown G.move_shown G.picture)
         form found.now v.items) }
 {
     match form {
-        Form::Rows => found_rows::<G>(alloc, found),
-        Form::Json => found_lines::<G>(alloc, found),
-        Form::Boards => board_rows::<G>(alloc, found),
-        Form::Sheet => unreachable!(),
+        LineForm::Rows => found_rows::<G>(alloc, found),
+        LineForm::Json => found_lines::<G>(alloc, found),
+        LineForm::Boards => board_rows::<G>(alloc, found),
     }
 }
 

@@ -3,18 +3,12 @@ ghost use Rattle.std.specs.Prelude.{◌≡◌};
 ghost use Rattle.gamesman.specs.Games.{game_spec, spec_of};
 ghost use Rattle.gamesman.specs.Answers.{IsAnswered};
 
-use crate::analyse::analyse;
 use crate::check::check_folder;
-use crate::engine::engine_page;
-use crate::explore::explore;
 use crate::fault::Fault;
-use crate::filter::filter;
+use crate::from_tables::answer_from_tables;
 use crate::host::Host;
-use crate::located::{at_place, locate};
+use crate::located::locate;
 use crate::naming::write_naming;
-use crate::play::play;
-use crate::search::{counts, find, longest, serve};
-use crate::solve::solve;
 use crate::tables::BuildOptions;
 use gm_command::names::GameName;
 use gm_command::requests::GameCommand;
@@ -37,29 +31,10 @@ fn answer<G: Pictured + Send + Sync, R: Host, I: Read, O: Write, E: Write + Send
     ensures naming { command.entry ≡ GameCommand.Naming → output.new ≡ output.old }
 {
     match command {
-        GameCommand::Solve => solve::<G, R, O, E>(rt, options, output, errors),
-        GameCommand::Explore { position, question } => {
-            explore::<G, R, O, E>(rt, position, question, options, output, errors)
-        }
-        GameCommand::Filter { question } => {
-            filter::<G, R, I, O, E>(rt, question, options, input, output, errors)
-        }
-        GameCommand::EnginePage(request) => {
-            engine_page::<G, R, O, E>(rt, request, options, output, errors)
-        }
-        GameCommand::At { tier, index } => {
-            at_place::<G, R, O, E>(rt, tier, index, options, output, errors)
+        GameCommand::FromTables(command) => {
+            answer_from_tables::<G, R, I, O, E>(rt, command, options, input, output, errors)
         }
         GameCommand::Locate { position } => locate::<G, O>(rt.alloc(), position, output),
-        GameCommand::Find(search) => find::<G, R, O, E>(rt, search, options, output, errors),
-        GameCommand::Counts(request) => counts::<G, R, O, E>(rt, request, options, output, errors),
-        GameCommand::Longest { reached, limit } => {
-            longest::<G, R, O, E>(rt, reached, limit, options, output, errors)
-        }
-        GameCommand::Ask(request) => {
-            serve::<G, R, I, O, E>(rt, request, options, input, output, errors)
-        }
-        GameCommand::Analyse => analyse::<G, R, O, E>(rt, options, output, errors),
         GameCommand::Check { folder } => check_folder::<G, R, O, E>(
             rt,
             folder,
@@ -67,9 +42,6 @@ fn answer<G: Pictured + Send + Sync, R: Host, I: Read, O: Write, E: Write + Send
             errors,
             options.progress,
         ),
-        GameCommand::Play(request) => {
-            play::<G, R, I, O, E>(rt, request, options, input, output, errors)
-        }
         GameCommand::Naming => write_naming::<G, E>(errors),
     }
 }

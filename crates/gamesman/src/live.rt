@@ -2,12 +2,10 @@
 
 use arrayvec::ArrayString;
 use gm_build::progress::{Stage, is_due};
-use gm_game::game::Game;
 use gm_game::position::{Phase, Place};
 use gm_immediate::observer::Observer;
 use std::fmt::{self, Write as _};
 use std::io::Write;
-use std::marker::PhantomData;
 use std::sync::atomic::{AtomicU64, AtomicUsize, Ordering};
 use std::sync::{Mutex, Wait};
 use std::time::{Clock, Duration};
@@ -91,11 +89,12 @@ impl<E: Write> Screen<'_, E> {
 /// Observes a build, and shows its progress in one line of a terminal that is overwritten again and again. No thread waits for
 /// another one that is writing.
 #[derive(Drop)]
-pub struct Live<'a, G: Game, C, E: Write> {
+pub struct Live<'a, C, E: Write> {
     clock: &'a C,
     // The time at which the build began. If the clock can't be read, nothing is shown.
     begun: Option<Duration>,
-    // The number of indexes of all tiers.
+    // The number of indexes of each tier, in the order in which the tiers are read, and of all tiers.
+    sizes: Vec<u64>,
     total: u64,
     tiers: AtomicUsize,
     number: AtomicU64,
@@ -104,7 +103,6 @@ pub struct Live<'a, G: Game, C, E: Write> {
     size: AtomicU64,
     settled: AtomicU64,
     screen: Mutex<Screen<'a, E>>,
-    game: PhantomData<G>,
 }
 
 // The contents of the line.
@@ -143,9 +141,19 @@ fn seconds_left(took: Duration, done: u64, total: u64) -> Option<u64> {
     Some(u64::try_from(seconds).unwrap_or(u64::MAX))
 }
 
-impl<'a, G: Game, C: Clock, E: Write> Live<'a, G, C, E> {
-    /// Makes the line for a build that is about to begin, of tiers with this many indexes together.
-    pub fn new(clock: &'a C, errors: &'a mut E, total: u64) -> Self {
+// Returns the sum of these numbers.
+fn total_of(sizes: &[u64]) -> u64 {
+    let mut total = 0u64;
+    for size in sizes {
+        total = total.saturating_add(*size);
+    }
+    total
+}
+
+impl<'a, C: Clock, E: Write> Live<'a, C, E> {
+    /// Makes the line for a build that is about to begin, of tiers with these numbers of indexes.
+    pub fn new(clock: &'a C, errors: &'a mut E, sizes: Vec<u64>) -> Self {
+        let total = total_of(sizes.as_slice());
         let screen = Screen {
             errors,
             last: None,
@@ -155,6 +163,7 @@ impl<'a, G: Game, C: Clock, E: Write> Live<'a, G, C, E> {
         Live {
             clock,
             begun: clock.monotonic().ok(),
+            sizes,
             total,
             tiers: AtomicUsize::new(0),
             number: AtomicU64::new(0),
@@ -162,7 +171,6 @@ impl<'a, G: Game, C: Clock, E: Write> Live<'a, G, C, E> {
             size: AtomicU64::new(0),
             settled: AtomicU64::new(0),
             screen: Mutex::new(screen),
-            game: PhantomData,
         }
     }
 
@@ -211,17 +219,18 @@ impl<'a, G: Game, C: Clock, E: Write> Live<'a, G, C, E> {
     }
 }
 
-impl<G: Game + Sync, C: Clock + Sync, E: Write + Send> Observer for Live<'_, G, C, E> {
+impl<C: Clock + Sync, E: Write + Send> Observer for Live<'_, C, E> {
     fn begin<R: Wait>(&self, _rt: &R, tiers: usize) {
         self.tiers.store(tiers, Ordering::SeqCst);
     }
 
-    fn read<R: Wait>(&self, _rt: &R, tier: u64) {
+    fn read<R: Wait>(&self, _rt: &R, _tier: u64) {
         let before = self.size.load(Ordering::SeqCst);
         self.done.fetch_add(before, Ordering::SeqCst);
-        self.size.store(G::tier_size(tier), Ordering::SeqCst);
+        let number = self.number.fetch_add(1, Ordering::SeqCst);
+        let size = self.sizes.get(number as usize).copied().unwrap_or(0);
+        self.size.store(size, Ordering::SeqCst);
         self.settled.store(0, Ordering::SeqCst);
-        self.number.fetch_add(1, Ordering::SeqCst);
         self.show(Stage::Check);
     }
 

@@ -15,11 +15,13 @@ mod fault;
 mod filter;
 mod finding;
 mod found;
+mod from_tables;
 mod games;
 mod host;
 mod live;
 mod located;
 mod naming;
+mod needs;
 mod output;
 mod play;
 mod reasons;
@@ -32,9 +34,9 @@ mod teller;
 
 use crate::fault::Fault;
 use crate::host::Host;
-use crate::run::{BAD_LINE, bad_line, explain, refused, run_words};
+use crate::run::{BAD_LINE, Manner, bad_line, explain, refused, run_words};
 use std::alloc::{AllocError, Global};
-use std::env::{self, Args};
+use std::env::{self, Args, Env};
 use std::io::{ErrorKind, IsTerminal, Read, Write};
 use std::process::ExitCode;
 
@@ -73,7 +75,14 @@ fn words_lent<'a>(alloc: Global, owned: &'a [String]) -> Result<Vec<&'a str>, Al
     Ok(words)
 }
 
-// Runs the line of these words, unless memory runs out before it is read. If standard error is a terminal, a bad line is also explained.
+// Returns whether the environment asks for explanations: it has the variable GAMESMAN_EXPLAIN with the value 1.
+fn asks_for_reasons<R: Env>(rt: &R) -> bool {
+    let mut value = [0; 2];
+    matches!(rt.var("GAMESMAN_EXPLAIN", &mut value), Ok(1)) && value[0] == b'1'
+}
+
+// Runs the line of these words, unless memory runs out before it is read. A bad line is also explained at a terminal, or if the
+// environment asks for explanations.
 fn run_args<R: Host, I: Read, O: Write, E: Write + IsTerminal + Send>(
     rt: &R,
     args: Args,
@@ -87,8 +96,12 @@ fn run_args<R: Host, I: Read, O: Write, E: Write + IsTerminal + Send>(
     let owned = words_owned(rt.alloc(), args)?;
     let words = words_lent(rt.alloc(), owned.as_slice())?;
     let terminal = errors.is_terminal();
-    let status = run_words(rt, words.as_slice(), terminal, input, output, errors);
-    if status == BAD_LINE && terminal {
+    let manner = Manner {
+        terminal,
+        explained: terminal || asks_for_reasons(rt),
+    };
+    let status = run_words(rt, words.as_slice(), manner, input, output, errors);
+    if status == BAD_LINE && manner.explained {
         explain(rt.alloc(), words.as_slice(), errors);
     }
     Ok(status)

@@ -1,5 +1,5 @@
 //! Writing to standard output.
-ghost use Rattle.std.specs.Prelude.{◌≡◌, ◌≤◌, ◌++◌, codes, length, IfErr, OnErr, OnOk};
+ghost use Rattle.std.specs.Prelude.{◌≡◌, ◌≤◌, ◌++◌, codes, length, Err, IfOk, IfErr, OnErr, OnOk};
 ghost use Rattle.gamesman.specs.Lower.{Appends, AppendsPart};
 ghost use Rattle.gamesman.specs.Outputs.{IsOutputFault};
 ghost use Rattle.gamesman.specs.Told.{IsPut};
@@ -8,6 +8,7 @@ use crate::fault::Fault;
 use crate::run::DONE;
 use arrayvec::ArrayVec;
 use gm_game::limits::LINE;
+use std::alloc::AllocError;
 use std::io::{ErrorKind, Write};
 
 // The bytes of the longest line with its end.
@@ -41,6 +42,15 @@ pub fn put_all<O: Write>(output: &mut O, text: &[u8]) -> Result<u8, Fault>
 {
     put(output, text)?;
     Ok(DONE)
+}
+
+/// Writes a text as `put_all` does, unless memory for it was refused.
+pub fn put_text<O: Write>(output: &mut O, text: Result<Vec<u8>, AllocError>) -> Result<u8, Fault>
+    ensures put { IfOk text (λ v. IsPut v.items (O.contents output.old) (O.contents output.new) result) }
+    ensures refused { IfErr text (λ error. (result ≡ Err (Fault.OutOfMemory error)) × (O.contents output.new ≡ O.contents output.old)) }
+{
+    let text = text?;
+    put_all(output, text.as_slice())
 }
 
 /// Writes a line of at most `LINE` bytes before its end, as `put` writes a text.

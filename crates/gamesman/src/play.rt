@@ -1,21 +1,16 @@
 //! A session of play, from the start of a game or from a position.
-ghost use Rattle.std.specs.Prelude.{◌≡◌, ◌++◌, ℕ, codes, true, IfErr, OnErr, OnOk};
-ghost use Rattle.gamesman.specs.Lower.{Appends, IsOrderFrom, HoldsExactly, IsWonIn, IsEven, Advice, IsKnown, EndsWon, EndsUnlost, WritesOne, IsSession};
+ghost use Rattle.std.specs.Prelude.{◌≡◌, ◌++◌, ℕ, codes, IfErr, OnErr, OnOk};
+ghost use Rattle.gamesman.specs.Lower.{Appends, IsWonIn, IsEven, Advice, IsKnown, EndsWon, EndsUnlost, WritesOne, IsSession};
 ghost use Rattle.gamesman.specs.Lower.{IsBroken, AppendsPart};
 ghost use Rattle.gamesman.specs.Outputs.{IsOutputFault};
-ghost use Rattle.gamesman.specs.Plays.{first_text as first_text_spec, whose_text as whose_text_spec, sides_text, opening, seen_by, IsSitting, IsPlayed};
+ghost use Rattle.gamesman.specs.Plays.{first_text as first_text_spec, whose_text as whose_text_spec, sides_text, opening, seen_by, IsSitting};
 
-use crate::explore::position_of;
 use crate::fault::Fault;
-use crate::host::Host;
 use crate::output::put;
 use crate::run::DONE;
-use crate::tables::BuildOptions;
-use gm_build::build::Built;
 use gm_command::requests::PlayRequest;
 use gm_draw::drawn::mover;
 use gm_draw::pictured::Pictured;
-use gm_game::position::Position;
 use gm_page::boards::Boards;
 use gm_play::known::Known;
 use gm_play::session::session_with;
@@ -23,24 +18,6 @@ use gm_play::session_error::SessionError;
 use gm_play::sides::Side;
 use gm_play::view::Plain;
 use std::io::{Read, Write};
-
-/// Plays with the person who reads the output and writes the input.
-pub fn play<G: Pictured + Send + Sync, R: Host, I: Read, O: Write, E: Write + Send>(
-    rt: &R,
-    asked: PlayRequest<'_>,
-    options: BuildOptions<'_>,
-    input: &mut I,
-    output: &mut O,
-    errors: &mut E,
-) -> Result<u8, Fault>
-    ensures { IsPlayed G.Game.rules G.shown G.move_shown G.picture asked.entry (I.remaining input.old) (O.contents output.old) (O.contents output.new) result }
-{
-    let start = position_of::<G>(asked.position)?;
-    let built = options.build_from::<G, R, E>(rt, start.tier, errors)?;
-    let played = play_from(&built, start, asked, input, output);
-    drop(built);
-    played
-}
 
 // Returns the line that states who moves first.
 fn first_text(first: Side) -> &'static [u8]
@@ -90,21 +67,20 @@ fn write_sides<O: Write>(mover: &[u8], first: Side, output: &mut O) -> Result<()
 }
 
 // Writes the opening before the dialogue. It states who the person is if boards are drawn, and otherwise it is empty.
-fn write_opening<G: Pictured, O: Write>(
-    start: Position,
+fn write_opening<O: Write>(
+    mover: &[u8],
     first: Side,
     drawn: bool,
     output: &mut O,
 ) -> Result<(), Fault>
-    requires { G.Game.rules.is_legal start ≡ true }
-    ensures ok { OnOk result (Appends (O.contents output.old) (O.contents output.new) (opening drawn (G.picture.mover start) first)) }
-    ensures err { OnErr result (AppendsPart (O.contents output.old) (O.contents output.new) (opening drawn (G.picture.mover start) first)) }
+    ensures ok { OnOk result (Appends (O.contents output.old) (O.contents output.new) (opening drawn mover.now first)) }
+    ensures err { OnErr result (AppendsPart (O.contents output.old) (O.contents output.new) (opening drawn mover.now first)) }
     ensures fault { IfErr result IsOutputFault }
 {
     if !drawn {
         return Ok(());
     }
-    write_sides(mover::<G>(start), first, output)
+    write_sides(mover, first, output)
 }
 
 // Holds the session, with or without boards.
@@ -133,25 +109,18 @@ fn sit<G: Pictured, I: Read, O: Write>(
     }
 }
 
-// Plays over the tables of all tiers that play from its start can reach.
-fn play_from<G: Pictured, I: Read, O: Write>(
-    built: &Built<G>,
-    start: Position,
+/// Plays from a position with the person who reads the output and writes the input.
+pub fn play<G: Pictured, I: Read, O: Write>(
+    known: &Known<'_, G>,
     asked: PlayRequest<'_>,
     input: &mut I,
     output: &mut O,
 ) -> Result<u8, Fault>
-    requires order { IsOrderFrom G.Game.rules start.tier built.now.order }
-    requires held { HoldsExactly built.now.tables built.now.order }
-    requires legal { G.Game.rules.is_legal start ≡ true }
-    ensures { IsSitting G.Game.rules G.shown G.move_shown G.picture asked.entry start (I.remaining input.old) (O.contents output.old) (O.contents output.new)
-        result }
+    ensures { IsSitting G.Game.rules G.shown G.move_shown G.picture asked.entry known.now.position
+        (I.remaining input.old) (O.contents output.old) (O.contents output.new) result }
 {
-    write_opening::<G, O>(start, asked.first, asked.drawn, output)?;
-    let known = Known {
-        tables: &built.tables,
-        position: start,
-    };
-    sit(&known, asked.first, asked.drawn, input, output)?;
+    let mover = mover::<G>(known.position);
+    write_opening(mover, asked.first, asked.drawn, output)?;
+    sit(known, asked.first, asked.drawn, input, output)?;
     Ok(DONE)
 }

@@ -1,4 +1,4 @@
-//! Advice to a person at a terminal after a fault: a second line below it.
+//! Advice after a fault, to a person at a terminal or on request: a second line below it.
 ghost use Rattle.std.specs.Prelude.{◌≡◌};
 
 use crate::fault::Fault;

@@ -32,6 +32,15 @@ pub const REFUSED: u8 = 1;
 /// The status of a line that the program doesn't know.
 pub const BAD_LINE: u8 = 2;
 
+/// What standard error is written for.
+#[derive(Clone, Copy)]
+pub struct Manner {
+    /// Standard error is a terminal, at which the progress of a build is shown.
+    pub terminal: bool,
+    /// What is wrong, or what to do, follows the line of a fault.
+    pub explained: bool,
+}
+
 // More bytes than the line of any fault has: two numbers of twenty digits and the words between them.
 const LINE: usize = 192;
 
@@ -63,7 +72,7 @@ fn write_help<O: Write>(text: Help, output: &mut O) -> Result<u8, Fault>
 fn answer<R: Host, I: Read, O: Write, E: Write + Send>(
     rt: &R,
     request: Request<'_>,
-    terminal: bool,
+    manner: Manner,
     input: &mut I,
     output: &mut O,
     errors: &mut E,
@@ -74,7 +83,7 @@ fn answer<R: Host, I: Read, O: Write, E: Write + Send>(
         Request::List { all } => list(all, output),
         Request::Game(request) => match game_named(request.game) {
             Some(game) => {
-                let options = BuildOptions::of(request, terminal);
+                let options = BuildOptions::of(request, manner.terminal);
                 answer_for(rt, game, request.command, options, input, output, errors)
             }
             None => Err(Fault::NoSuchGame),
@@ -126,22 +135,22 @@ pub fn explain<E: Write>(alloc: Global, words: &[&str], errors: &mut E) {
     }
 }
 
-/// Answers a request, and returns the exit status. A refusal is reported with its reason, and at a terminal also with advice.
+/// Answers a request, and returns the exit status. A refusal is reported with its reason, and on request also with advice.
 pub fn run_request<R: Host, I: Read, O: Write, E: Write + Send>(
     rt: &R,
     request: Request<'_>,
-    terminal: bool,
+    manner: Manner,
     input: &mut I,
     output: &mut O,
     errors: &mut E,
 ) -> u8
     ensures { IsRun request.entry (I.remaining input.old) (O.contents output.old) (O.contents output.new) result }
 {
-    match answer(rt, request, terminal, input, output, errors) {
+    match answer(rt, request, manner, input, output, errors) {
         Ok(status) => status,
         Err(fault) => {
             let status = refused(&fault, errors);
-            if terminal {
+            if manner.explained {
                 advise(rt, request, &fault, input, output, errors);
             }
             status
@@ -149,12 +158,12 @@ pub fn run_request<R: Host, I: Read, O: Write, E: Write + Send>(
     }
 }
 
-/// Runs a line of words, and returns the exit status. The first word is the program's name. If standard error is a terminal, it
-/// also shows the progress of a build, and advice after a refusal.
+/// Runs a line of words, and returns the exit status. The first word is the program's name. Standard error also has the progress
+/// of a build at a terminal, and on request advice after a refusal.
 pub fn run_words<R: Host, I: Read, O: Write, E: Write + Send>(
     rt: &R,
     words: &[&str],
-    terminal: bool,
+    manner: Manner,
     input: &mut I,
     output: &mut O,
     errors: &mut E,
@@ -163,7 +172,7 @@ pub fn run_words<R: Host, I: Read, O: Write, E: Write + Send>(
         (O.contents output.old) (O.contents output.new) result }
 {
     match read_words(rt.alloc(), words) {
-        Ok(Reading::Request(request)) => run_request(rt, request, terminal, input, output, errors),
+        Ok(Reading::Request(request)) => run_request(rt, request, manner, input, output, errors),
         Ok(Reading::Help(text)) => match write_help(text, output) {
             Ok(status) => status,
             Err(fault) => refused(&fault, errors),

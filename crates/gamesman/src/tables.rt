@@ -1,6 +1,6 @@
 //! The tables of a game, in a folder or in memory.
-ghost use Rattle.std.specs.Prelude.{◌≡◌, ◌<◌, IfOk, IfErr, IfSome};
-ghost use Rattle.gamesman.specs.Lower.{Contains, IsTierOrder, IsOrderFrom, HoldsExactly, IsSomeWork};
+ghost use Rattle.std.specs.Prelude.{◌≡◌, ◌<◌, ℕ, IfOk, IfErr, IfSome};
+ghost use Rattle.gamesman.specs.Lower.{Contains, Rules, IsOrderFrom, HoldsExactly, IsSomeWork};
 ghost use Rattle.gamesman.specs.Shelves.{failed_in};
 ghost use Rattle.gamesman.specs.Refusals.{IsUnbuilt, reason_of};
 
@@ -15,6 +15,7 @@ use gm_build::build::{Built, build_from};
 use gm_build::build_error::BuildError;
 use gm_command::requests::{GameRequest, TableLocation, Telling};
 use gm_game::game::Game;
+use gm_game::limits::NAME;
 use gm_tiers::order::TierOrder;
 use std::alloc::AllocError;
 use std::fs::Files;
@@ -47,22 +48,8 @@ impl<'a> BuildOptions<'a> {
         }
     }
 
-    /// Builds a whole game. Progress is reported on standard error.
-    pub fn build<G: Game + Send + Sync, R: Host, E: Write + Send>(
-        self,
-        rt: &R,
-        errors: &mut E,
-    ) -> Result<Built<G>, Fault>
-        ensures order { IfOk result (λ built. IsTierOrder G.rules built.order) }
-        ensures held { IfOk result (λ built. HoldsExactly built.tables built.order) }
-        ensures work { IfOk result (λ built. IsSomeWork G.rules built.order built.work) }
-        ensures unbuilt { IfErr result (IsUnbuilt G.rules G.rules.initial.tier) }
-    {
-        self.build_from::<G, R, E>(rt, G::initial().tier, errors)
-    }
-
     /// Builds the tiers that one tier reaches: all tiers on which its values depend. Progress is reported on standard error.
-    pub fn build_from<G: Game + Send + Sync, R: Host, E: Write + Send>(
+    pub fn build<G: Game + Send + Sync, R: Host, E: Write + Send>(
         self,
         rt: &R,
         first: u64,
@@ -78,14 +65,19 @@ impl<'a> BuildOptions<'a> {
             plan,
             progress,
         } = self;
-        let order = TierOrder::<G>::from_tier(rt.alloc(), first)?;
-        let mut shelf = Shelf::at(rt.alloc(), tables)?;
-        let anothers = first_anothers::<G, R>(rt, &mut shelf, order.tiers())?;
-        if let Some(tier) = anothers {
-            return Err(Fault::AnotherGames { tier });
-        }
         let alloc = rt.alloc();
-        let teller: Teller<'_, G, R, E> = Teller::new(rt, errors, progress, order.tiers());
+        let order = match TierOrder::<G>::from_tier(alloc, first) {
+            Ok(order) => order,
+            Err(error) => return Err(Fault::from(error)),
+        };
+        let mut shelf = match shelf_for(rt, tables, order.tiers(), &G::name()) {
+            Ok(shelf) => shelf,
+            Err(fault) => return Err(fault),
+        };
+        let teller = match Teller::new::<G>(alloc, rt, errors, progress, order.tiers()) {
+            Ok(teller) => teller,
+            Err(error) => return Err(Fault::OutOfMemory(error)),
+        };
         let built = build_from(
             rt,
             alloc,
@@ -107,18 +99,35 @@ impl<'a> BuildOptions<'a> {
     }
 }
 
+// Makes the store at this place for these tiers. No call of it has failed, and no file of theirs is an intact one of another game.
+fn shelf_for<R: Files + AllocGlobal>(
+    rt: &R,
+    tables: TableLocation<'_>,
+    tiers: &[u64],
+    name: &[u8; NAME],
+) -> Result<Shelf, Fault>
+    ensures failed { IfOk result (λ s. failed_in s ≡ 0) }
+    ensures refused { (r : Rules) (first : ℕ) → IsOrderFrom r first tiers.now → IfErr result (IsUnbuilt r first) }
+{
+    let mut shelf = Shelf::at(rt.alloc(), tables)?;
+    match first_anothers(rt, &mut shelf, tiers, name)? {
+        Some(tier) => Err(Fault::AnotherGames { tier }),
+        None => Ok(shelf),
+    }
+}
+
 // Returns the first of these tiers that can't be written because its file is an intact one of another game.
-fn first_anothers<G: Game, R: Files>(
+fn first_anothers<R: Files>(
     rt: &R,
     shelf: &mut Shelf,
     tiers: &[u64],
+    name: &[u8; NAME],
 ) -> Result<Option<u64>, AllocError>
     ensures failed { failed_in shelf.new ≡ failed_in shelf.old }
     ensures among { IfOk result (λ tier. IfSome tier (Contains tiers.now)) }
 {
-    let name = G::name();
     for tier in tiers {
-        if shelf.is_anothers(rt, *tier, &name)? {
+        if shelf.is_anothers(rt, *tier, name)? {
             return Ok(Some(*tier));
         }
     }

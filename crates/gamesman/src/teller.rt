@@ -6,6 +6,7 @@ use gm_command::requests::Telling;
 use gm_game::game::Game;
 use gm_game::position::Place;
 use gm_immediate::observer::Observer;
+use std::alloc::{AllocError, Global};
 use std::io::Write;
 use std::sync::Wait;
 use std::time::Clock;
@@ -13,18 +14,27 @@ use std::time::Clock;
 /// The reporter of a build: by lines, by one line at a terminal, or not at all. One type covers all three, since a build is
 /// compiled once for each type of observer.
 #[derive(Drop)]
-pub enum Teller<'a, G: Game, C, E: Write> {
+pub enum Teller<'a, C, E: Write> {
     Lines(Progress<'a, C, E>),
-    Live(Live<'a, G, C, E>),
+    Live(Live<'a, C, E>),
 }
 
-impl<'a, G: Game, C: Clock, E: Write> Teller<'a, G, C, E> {
-    /// Returns the reporter for a build or a check of these tiers.
-    pub fn new(clock: &'a C, errors: &'a mut E, telling: Telling, tiers: &[u64]) -> Self {
+impl<'a, C: Clock, E: Write> Teller<'a, C, E> {
+    /// Returns the reporter for a build or a check of these tiers of a game.
+    pub fn new<G: Game>(
+        alloc: Global,
+        clock: &'a C,
+        errors: &'a mut E,
+        telling: Telling,
+        tiers: &[u64],
+    ) -> Result<Self, AllocError> {
         match telling {
-            Telling::Quiet => Teller::Lines(Progress::quiet(clock, errors)),
-            Telling::Lines => Teller::Lines(Progress::new(clock, errors)),
-            Telling::Terminal => Teller::Live(Live::new(clock, errors, indexes_of::<G>(tiers))),
+            Telling::Quiet => Ok(Teller::Lines(Progress::quiet(clock, errors))),
+            Telling::Lines => Ok(Teller::Lines(Progress::new(clock, errors))),
+            Telling::Terminal => {
+                let sizes = sizes_of::<G>(alloc, tiers)?;
+                Ok(Teller::Live(Live::new(clock, errors, sizes)))
+            }
         }
     }
 
@@ -37,16 +47,16 @@ impl<'a, G: Game, C: Clock, E: Write> Teller<'a, G, C, E> {
     }
 }
 
-// Returns the number of indexes that these tiers have together.
-fn indexes_of<G: Game>(tiers: &[u64]) -> u64 {
-    let mut all = 0u64;
+// Returns the number of indexes of each of these tiers.
+fn sizes_of<G: Game>(alloc: Global, tiers: &[u64]) -> Result<Vec<u64>, AllocError> {
+    let mut sizes = Vec::new(alloc);
     for tier in tiers {
-        all = all.saturating_add(G::tier_size(*tier));
+        sizes.push(G::tier_size(*tier))?;
     }
-    all
+    Ok(sizes)
 }
 
-impl<G: Game + Sync, C: Clock + Sync, E: Write + Send> Observer for Teller<'_, G, C, E> {
+impl<C: Clock + Sync, E: Write + Send> Observer for Teller<'_, C, E> {
     fn begin<R: Wait>(&self, rt: &R, tiers: usize) {
         match self {
             Teller::Lines(lines) => lines.begin(rt, tiers),

@@ -6,8 +6,9 @@ use Rattle.clap.proofs.OnLiterals.{clap_on_literals}
 use Rattle.gm_find.specs.declared.sought.Choice.TheVariants.{First}
 use Rattle.gm_game.specs.declared.position.Value.TheVariants.{Win}
 use Rattle.gm_play.specs.declared.sides.Side.TheVariants.{Computer}
-use Rattle.gm_command.specs.declared.requests.Form.TheVariants.{Rows}
+use Rattle.gm_command.specs.declared.requests.LineForm.TheVariants.{Rows}
 use Rattle.gm_command.specs.declared.requests.Question.TheVariants.{Value}
+use Rattle.gm_command.specs.declared.requests.Report.TheVariants.{Lines as Listed}
 use Rattle.gm_command.specs.declared.requests.Telling.{Telling}
 use Rattle.gm_command.specs.declared.requests.Telling.TheVariants.{Terminal, Quiet}
 use Rattle.gm_command.specs.Lines.{command_lines}
@@ -82,7 +83,7 @@ wins_of_a_span : reads (codes "find" ∷ codes "dao" ∷ codes "--value" ∷ cod
       tier = None;
       reached = false;
       choice = First no_limit;
-      form = Rows;
+      report = Listed Rows;
     })) None plan Terminal
 unfolding clap_on_literals command_lines
 wins_of_a_span = refl

@@ -10,6 +10,8 @@ use Rattle.gm_command.specs.declared.requests.AskRequest.{AskRequest}
 use Rattle.gm_command.specs.declared.requests.Telling.{Telling}
 use Rattle.gm_command.specs.declared.requests.TableLocation.{TableLocation}
 use Rattle.gm_command.specs.declared.requests.TableLocation.TheVariants.{Memory, Folder, ReadOnly}
+use Rattle.gm_command.specs.declared.requests.TableCommand.{TableCommand}
+use Rattle.gm_command.specs.declared.requests.TableCommand.TheVariants as table
 use Rattle.gm_command.specs.declared.requests.GameCommand.{GameCommand}
 use Rattle.gm_command.specs.declared.requests.GameCommand.TheVariants as command
 use Rattle.gm_command.specs.declared.requests.GameRequest.{GameRequest}
@@ -21,7 +23,7 @@ pub data CommandContent : Type 0 where
   solving : CommandContent
   exploring : Option (List ℕ) → Question → CommandContent
   filtering : Question → CommandContent
-  engine_page : Option (List ℕ) → ℕ → List ℕ → CommandContent
+  paging : Option (List ℕ) → ℕ → Option (List ℕ) → CommandContent
   placed : ℕ → ℕ → CommandContent
   locating : List ℕ → CommandContent
   finding : PositionSearch → CommandContent
@@ -65,20 +67,23 @@ kept_at (ReadOnly folder) = Some (folder.now, true)
 abbrev pub plan_of : Plan → PlanNumbers
 plan_of plan = record { workers = plan.workers; shards = plan.shards; piece = plan.piece; fastest = plan.fastest }
 
+abbrev pub table_content : TableCommand → CommandContent
+table_content table.Solve = solving
+table_content (table.Explore position question) = exploring (option_map (λ t. t.now) position) question
+table_content (table.Filter question) = filtering question
+table_content (table.Page page) = paging (option_map (λ t. t.now) page.position) page.limit (option_map (λ t. t.now) page.engine)
+table_content (table.At tier index) = placed tier index
+table_content (table.Find search) = finding search
+table_content (table.Counts request) = counting request
+table_content (table.Longest reached limit) = seeking_longest reached limit
+table_content (table.Ask request) = answering request
+table_content table.Analyse = analysing
+table_content (table.Play play) = playing (option_map (λ t. t.now) play.position) play.first play.drawn
+
 abbrev pub command_content : GameCommand → CommandContent
-command_content command.Solve = solving
-command_content (command.Explore position question) = exploring (option_map (λ t. t.now) position) question
-command_content (command.Filter question) = filtering question
-command_content (command.EnginePage page) = engine_page (option_map (λ t. t.now) page.position) page.limit page.engine.now
-command_content (command.At tier index) = placed tier index
+command_content (command.FromTables asked) = table_content asked
 command_content (command.Locate position) = locating position.now
-command_content (command.Find search) = finding search
-command_content (command.Counts request) = counting request
-command_content (command.Longest reached limit) = seeking_longest reached limit
-command_content (command.Ask request) = answering request
-command_content command.Analyse = analysing
 command_content (command.Check folder) = checking folder.now
-command_content (command.Play play) = playing (option_map (λ t. t.now) play.position) play.first play.drawn
 command_content command.Naming = naming
 
 abbrev pub game_content : GameRequest → GameContent

@@ -15,7 +15,7 @@ use Rattle.gm_command.specs.declared.manual.Manual.{Manual}
 use Rattle.gm_command.specs.declared.manual.Manual.TheVariants.{Bash, Zsh, Fish, Man as ManualPage}
 use Rattle.gm_command.specs.declared.requests.CountsRequest.{CountsRequest}
 use Rattle.gm_command.specs.declared.requests.Question.{Question}
-use Rattle.gm_command.specs.declared.requests.Question.TheVariants.{Value, Moves, Why, Line as BestLine, Show, Diagram, Page}
+use Rattle.gm_command.specs.declared.requests.Question.TheVariants.{Value, Moves, Why, Line as BestLine, Show, Diagram}
 use Rattle.gm_command.specs.declared.requests.Telling.{Telling}
 use Rattle.gm_command.specs.declared.requests.Telling.TheVariants.{Terminal, Lines, Quiet}
 use Rattle.gm_command.specs.declared.words.CommandName.{CommandName}
@@ -26,7 +26,7 @@ use Rattle.gm_command.specs.Lines.{Kind, Word, Line, number, tier, line_named}
 use Rattle.gm_command.specs.Given.{text_in, has, is_plain, no_limit, number_in, number_or}
 use Rattle.gm_command.specs.Relations.{are_related}
 use Rattle.gm_command.specs.Searching.{ask_in, search_in}
-use Rattle.gm_command.specs.Contents.{CommandContent, solving, exploring, filtering, engine_page, placed, locating, finding, counting, answering, analysing, checking, playing}
+use Rattle.gm_command.specs.Contents.{CommandContent, solving, exploring, filtering, paging, placed, locating, finding, counting, answering, analysing, checking, playing}
 use Rattle.gm_command.specs.Contents.{seeking_longest, PlanNumbers, GameContent, Content, list_of_games, about_game, page_of_games, about_program}
 
 -- the number that is written so in a text
@@ -95,9 +95,8 @@ module _ (rows : List Row) where
       else (if has rows (codes "no-value") then None else Some (Show (not (is_some (text_in rows (codes "POSITION"))))))
 
   -- a page of so many positions, with the engine if there is one
-  abbrev pub page_with : Option (List ℕ) → ℕ → CommandContent
-  page_with None limit = asking (Page limit)
-  page_with (Some engine) limit = engine_page (text_in rows (codes "POSITION")) limit engine
+  abbrev pub paging_in : ℕ → CommandContent
+  paging_in limit = paging (text_in rows (codes "POSITION")) limit (text_in rows (codes "engine"))
 
   abbrev pub place_in : Option CommandContent
   place_in = option_and_then (λ t. option_map (λ i. placed t i) (option_and_then written (text_in rows (codes "INDEX"))))
@@ -127,7 +126,7 @@ module _ (rows : List Row) where
   command_in command.Why = Some (asking Why)
   command_in command.Line = Some (asking (BestLine limit_in (has rows (codes "json"))))
   command_in command.Show = option_map asking drawing_in
-  command_in command.Page = option_map (page_with (text_in rows (codes "engine"))) (number_in rows (codes "limit"))
+  command_in command.Page = option_map paging_in (number_in rows (codes "limit"))
   command_in command.At = place_in
   command_in command.Locate = option_map (λ t. locating t) (text_in rows (codes "POSITION"))
   command_in command.Find = option_map (λ s. finding s) (search_in rows)

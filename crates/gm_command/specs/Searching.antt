@@ -12,8 +12,9 @@ use Rattle.gm_find.specs.declared.sought.Choice.TheVariants.{First, Random}
 use Rattle.gm_json.specs.declared.asked.Asked.{Asked}
 use Rattle.gm_json.specs.declared.asked.With.{With}
 use Rattle.gm_command.specs.declared.requests.AskRequest.{AskRequest}
-use Rattle.gm_command.specs.declared.requests.Form.{Form}
-use Rattle.gm_command.specs.declared.requests.Form.TheVariants.{Rows, Json, Sheet, Boards}
+use Rattle.gm_command.specs.declared.requests.LineForm.TheVariants.{Rows, Json, Boards}
+use Rattle.gm_command.specs.declared.requests.Report.{Report}
+use Rattle.gm_command.specs.declared.requests.Report.TheVariants.{Lines, Sheet}
 use Rattle.gm_command.specs.declared.requests.PositionSearch.{PositionSearch}
 use Rattle.gm_command.specs.Given.{text_in, has, is_plain, number_below, number_in, number_or, no_limit, tier_in}
 
@@ -115,12 +116,13 @@ module _ (rows : List Row) where
     | Some number ↦ Random number (number_or rows (codes "seed") 0)
   ]
 
-  abbrev pub form_in : Form
-  form_in = if has rows (codes "json") then Json else (if has rows (codes "page") then Sheet else (if has rows (codes "show") then Boards else Rows))
+  abbrev pub report_in : Report
+  report_in = if has rows (codes "json") then Lines Json else (if has rows (codes "page") then Sheet
+      else (if has rows (codes "show") then Lines Boards else Lines Rows))
 
   -- the search: its properties, its tier or none for all, whether positions are to be reached, how many, and how they are written
   abbrev pub search_in : Option PositionSearch
-  search_in = option_map (λ sought. record { sought = sought; tier = tier_in rows (codes "tier"); reached = has rows (codes "reached"); choice = choice_in; form = form_in })
+  search_in = option_map (λ sought. record { sought = sought; tier = tier_in rows (codes "tier"); reached = has rows (codes "reached"); choice = choice_in; report = report_in })
       sought_in
 
   -- `--with`; none if a word of it is unknown or comes twice

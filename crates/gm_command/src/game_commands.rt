@@ -3,10 +3,10 @@ ghost use Rattle.std.specs.Prelude.{◌≡◌, codes, option_and_then, option_ma
 ghost use Rattle.std.specs.Result.{result_ok};
 ghost use Rattle.gm_command.specs.Contents.{command_content};
 ghost use Rattle.gm_command.specs.Given.{rows_in, text_in, number_in};
-ghost use Rattle.gm_command.specs.Reading.{written, asking, asking_each, drawing_in, page_with, place_in, playing_in, command_in};
+ghost use Rattle.gm_command.specs.Reading.{written, asking, asking_each, drawing_in, paging_in, place_in, playing_in, command_in};
 
 use crate::given::{has, number_in, text_in};
-use crate::requests::{EnginePageRequest, GameCommand, PlayRequest, Question};
+use crate::requests::{GameCommand, PageRequest, PlayRequest, Question, TableCommand};
 use crate::searches::{ask_of, counts_of, limit_of, search_of};
 use crate::words::GameCommandName;
 use clap::ArgMatches;
@@ -33,10 +33,10 @@ fn show_of(inner: &ArgMatches<'_>) -> Option<Question>
 fn explore<'a>(inner: &ArgMatches<'a>, question: Question) -> GameCommand<'a>
     ensures { command_content result ≡ asking (rows_in inner.now) question }
 {
-    GameCommand::Explore {
+    GameCommand::FromTables(TableCommand::Explore {
         position: text_in(inner, "POSITION"),
         question,
-    }
+    })
 }
 
 // Returns the command for a question about a position, or for `-` about each position of the input.
@@ -44,25 +44,20 @@ fn explore_each<'a>(inner: &ArgMatches<'a>, question: Question) -> GameCommand<'
     ensures { command_content result ≡ asking_each (rows_in inner.now) question }
 {
     match text_in(inner, "POSITION") {
-        Some("-") => GameCommand::Filter { question },
+        Some("-") => GameCommand::FromTables(TableCommand::Filter { question }),
         _ => explore(inner, question),
     }
 }
 
-// Reads a line of `page`. With an engine the page is another one.
+// Reads a line of `page`.
 fn page_of<'a>(inner: &ArgMatches<'a>) -> Option<GameCommand<'a>>
-    ensures { option_map command_content result ≡
-        option_map (page_with (rows_in inner.now) (text_in (rows_in inner.now) (codes "engine"))) (number_in (rows_in inner.now) (codes "limit")) }
+    ensures { option_map command_content result ≡ option_map (paging_in (rows_in inner.now)) (number_in (rows_in inner.now) (codes "limit")) }
 {
-    let limit = number_in(inner, "limit")? as usize;
-    match text_in(inner, "engine") {
-        None => Some(explore(inner, Question::Page { limit })),
-        Some(engine) => Some(GameCommand::EnginePage(EnginePageRequest {
-            position: text_in(inner, "POSITION"),
-            limit,
-            engine,
-        })),
-    }
+    Some(GameCommand::FromTables(TableCommand::Page(PageRequest {
+        position: text_in(inner, "POSITION"),
+        limit: number_in(inner, "limit")? as usize,
+        engine: text_in(inner, "engine"),
+    })))
 }
 
 // Returns the number that is written in full as the word with this name.
@@ -86,23 +81,23 @@ pub(crate) fn place_of<'a>(inner: &ArgMatches<'a>) -> Result<GameCommand<'a>, &'
             "an index is a number from 0 to 18446744073709551615, without a sign and without zeros before it",
         );
     };
-    Ok(GameCommand::At { tier, index })
+    Ok(GameCommand::FromTables(TableCommand::At { tier, index }))
 }
 
 // Reads a line of `play`.
-fn play_of<'a>(inner: &ArgMatches<'a>) -> PlayRequest<'a>
-    ensures { command_content (GameCommand.Play result) ≡ playing_in (rows_in inner.now) }
+fn play_of<'a>(inner: &ArgMatches<'a>) -> GameCommand<'a>
+    ensures { command_content result ≡ playing_in (rows_in inner.now) }
 {
     let first = if has(inner, "second") {
         Side::Computer
     } else {
         Side::You
     };
-    PlayRequest {
+    GameCommand::FromTables(TableCommand::Play(PlayRequest {
         position: text_in(inner, "from"),
         first,
         drawn: has(inner, "show"),
-    }
+    }))
 }
 
 /// Reads a line with this command.
@@ -113,7 +108,7 @@ pub(crate) fn command_of<'a>(
     ensures { option_map command_content result ≡ command_in (rows_in inner.now) command }
 {
     match command {
-        GameCommandName::Solve => Some(GameCommand::Solve),
+        GameCommandName::Solve => Some(GameCommand::FromTables(TableCommand::Solve)),
         GameCommandName::Query => Some(explore_each(inner, Question::Value)),
         GameCommandName::Moves => Some(explore_each(
             inner,
@@ -136,17 +131,21 @@ pub(crate) fn command_of<'a>(
         GameCommandName::Locate => Some(GameCommand::Locate {
             position: text_in(inner, "POSITION")?,
         }),
-        GameCommandName::Find => Some(GameCommand::Find(search_of(inner)?)),
-        GameCommandName::Counts => Some(GameCommand::Counts(counts_of(inner))),
-        GameCommandName::Longest => Some(GameCommand::Longest {
+        GameCommandName::Find => Some(GameCommand::FromTables(TableCommand::Find(search_of(
+            inner,
+        )?))),
+        GameCommandName::Counts => Some(GameCommand::FromTables(TableCommand::Counts(counts_of(
+            inner,
+        )))),
+        GameCommandName::Longest => Some(GameCommand::FromTables(TableCommand::Longest {
             reached: has(inner, "reached"),
             limit: limit_of(inner),
-        }),
-        GameCommandName::Ask => Some(GameCommand::Ask(ask_of(inner)?)),
-        GameCommandName::Analyse => Some(GameCommand::Analyse),
+        })),
+        GameCommandName::Ask => Some(GameCommand::FromTables(TableCommand::Ask(ask_of(inner)?))),
+        GameCommandName::Analyse => Some(GameCommand::FromTables(TableCommand::Analyse)),
         GameCommandName::Check => Some(GameCommand::Check {
             folder: text_in(inner, "FOLDER")?,
         }),
-        GameCommandName::Play => Some(GameCommand::Play(play_of(inner))),
+        GameCommandName::Play => Some(play_of(inner)),
     }
 }

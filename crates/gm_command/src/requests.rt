@@ -34,32 +34,37 @@ pub enum Question {
     Show { explained: bool },
     /// The board as a diagram for print; on request, with the value under it.
     Diagram { valued: bool },
-    /// A page that explores at most this many of the positions that play reaches.
-    Page { limit: usize },
 }
 
-/// A request for a page with the engine.
+/// A request for a page that explores the positions that play reaches.
 #[derive(Clone, Copy)]
-pub struct EnginePageRequest<'a> {
+pub struct PageRequest<'a> {
     /// The position that the page begins with. Without one it begins with the game's start.
     pub position: Option<&'a str>,
     /// The number of positions that the page has at most.
     pub limit: usize,
-    /// The file with the engine's text.
-    pub engine: &'a str,
+    /// The file with the text of the engine, which solves the game in a browser. Without one the page has no engine.
+    pub engine: Option<&'a str>,
 }
 
-/// The form in which found positions are written.
+/// The form of the line for a found position.
 #[derive(Clone, Copy, Debug, PartialEq, Eq)]
-pub enum Form {
-    /// A row for each.
+pub enum LineForm {
+    /// A row.
     Rows,
-    /// A line of JSON for each.
+    /// A line of JSON.
     Json,
+    /// A row, below the board.
+    Boards,
+}
+
+/// What is written of found positions.
+#[derive(Clone, Copy, Debug, PartialEq, Eq)]
+pub enum Report {
+    /// A line of this form for each.
+    Lines(LineForm),
     /// A page of diagrams with their solutions.
     Sheet,
-    /// A row for each, below its board.
-    Boards,
 }
 
 /// A search for positions.
@@ -72,8 +77,8 @@ pub struct PositionSearch {
     pub reached: bool,
     /// Which of the found positions are returned.
     pub choice: Choice,
-    /// The form in which they are written.
-    pub form: Form,
+    /// What is written of them.
+    pub report: Report,
 }
 
 /// A request for counts of positions.
@@ -117,12 +122,12 @@ pub struct PlayRequest<'a> {
     pub drawn: bool,
 }
 
-/// A command about one game.
+/// A command that is answered from tables of a game.
 #[derive(Clone, Copy)]
-pub enum GameCommand<'a> {
+pub enum TableCommand<'a> {
     /// Solves the game into its folder.
     Solve,
-    /// A question about a position, or about the start if none is given: `query`, `moves`, `why`, `line`, `show` and `page`.
+    /// A question about a position, or about the start if none is given: `query`, `moves`, `why`, `line` and `show`.
     Explore {
         position: Option<&'a str>,
         question: Question,
@@ -131,16 +136,11 @@ pub enum GameCommand<'a> {
     Filter {
         question: Question,
     },
-    /// A page with the engine, which solves the game in a browser.
-    EnginePage(EnginePageRequest<'a>),
+    Page(PageRequest<'a>),
     /// The position at a tier and index.
     At {
         tier: u64,
         index: u64,
-    },
-    /// The tier and index of a position.
-    Locate {
-        position: &'a str,
     },
     Find(PositionSearch),
     /// The number of positions of each value and remoteness.
@@ -154,10 +154,16 @@ pub enum GameCommand<'a> {
     Ask(AskRequest),
     /// The counts of each tier.
     Analyse,
-    Check {
-        folder: &'a str,
-    },
     Play(PlayRequest<'a>),
+}
+
+/// A command about one game.
+#[derive(Clone, Copy)]
+pub enum GameCommand<'a> {
+    FromTables(TableCommand<'a>),
+    /// The tier and index of a position.
+    Locate { position: &'a str },
+    Check { folder: &'a str },
     /// How its positions and moves are written, for a person at a terminal. No line of words makes only this request.
     Naming,
 }

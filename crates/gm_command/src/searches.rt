@@ -3,11 +3,11 @@ ghost use Rattle.std.specs.Prelude.{◌≡◌, codes, is_none, option_and_then};
 ghost use Rattle.std.specs.Result.{result_ok};
 ghost use Rattle.gm_command.specs.Given.{rows_in, text_in};
 ghost use Rattle.gm_command.specs.Reading.{limit_in, counts_form_in, counts_in};
-ghost use Rattle.gm_command.specs.Searching.{value_named, is_possible, remoteness_in, sought_in, choice_in, form_in, search_in, with_word, with_words, with_nothing, split_at_commas, answer_in, ask_in};
+ghost use Rattle.gm_command.specs.Searching.{value_named, is_possible, remoteness_in, sought_in, choice_in, report_in, search_in, with_word, with_words, with_nothing, split_at_commas, answer_in, ask_in};
 
 use crate::given::{has, number_in, number_or, text_in, tier_in};
 use crate::numbers::span_of;
-use crate::requests::{AskRequest, CountsRequest, Form, PositionSearch};
+use crate::requests::{AskRequest, CountsRequest, LineForm, PositionSearch, Report};
 use clap::ArgMatches;
 use gm_analyse::among::Among;
 use gm_analyse::bars::Form as CountsForm;
@@ -116,18 +116,18 @@ fn choice_of(inner: &ArgMatches<'_>) -> Choice
     }
 }
 
-// Returns the form in which positions are written. The command line accepts at most one of these words.
-fn form_of(inner: &ArgMatches<'_>) -> Form
-    ensures { result ≡ form_in (rows_in inner.now) }
+// Returns what is written of found positions. The command line accepts at most one of these words.
+fn report_of(inner: &ArgMatches<'_>) -> Report
+    ensures { result ≡ report_in (rows_in inner.now) }
 {
     if has(inner, "json") {
-        Form::Json
+        Report::Lines(LineForm::Json)
     } else if has(inner, "page") {
-        Form::Sheet
+        Report::Sheet
     } else if has(inner, "show") {
-        Form::Boards
+        Report::Lines(LineForm::Boards)
     } else {
-        Form::Rows
+        Report::Lines(LineForm::Rows)
     }
 }
 
@@ -140,7 +140,7 @@ pub(crate) fn search_of(inner: &ArgMatches<'_>) -> Option<PositionSearch>
         tier: tier_in(inner, "tier"),
         reached: has(inner, "reached"),
         choice: choice_of(inner),
-        form: form_of(inner),
+        report: report_of(inner),
     })
 }
 

@@ -6,3 +6,8 @@ pub returns-in_err-order : goal.returns-in_err-order
 returns-in_err-order g c =
     let q = err_from_is_err_and c.from_residual.result c.from_residual.ensures.1 in
     rw (q.1, q.2) (inl (c.in_err-order.ensures.unbuilt, kept (g.O.Write.contents c.args.output.now)))
+
+pub returns-in_err-teller : goal.returns-in_err-teller
+returns-in_err-teller g c =
+    let q = err_from_is_err_and c.from_residual-in_err-teller.result c.from_residual-in_err-teller.ensures.1 in
+    rw (q.1, q.2) (inl (tt, kept (g.O.Write.contents c.args.output.now)))

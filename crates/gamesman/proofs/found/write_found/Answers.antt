@@ -1,17 +1,15 @@
-use Rattle.gamesman.proofs.Lower.{ℕ, ◌∷◌, [], Option, List, inr, refl, sym, subst, Contains, err_from_is_err_and, IsOrderFrom, game_spec, first_of, AreTiersFor}
+use Rattle.gamesman.proofs.Lower.{ℕ, ◌∷◌, [], Option, List, inr, refl, sym, subst, Contains, err_from_is_err_and, IsOrderFrom, OutOfMemory, game_spec, first_of, AreTiersFor}
 use Rattle.gamesman.proofs.Reached.{order_held, reached_held}
 use Rattle.gamesman.proofs.Finds.{held_one}
-use Rattle.gamesman.proofs.Telling.{memory_unbuilt, find_unsearched}
+use Rattle.gamesman.proofs.Telling.{find_unsearched}
 use Rattle.gamesman.proofs.found.write_found.Goals as goal
 
 pub returns-in_err-reached : goal.returns-in_err-reached
 returns-in_err-reached g c =
     let spec = game_spec g.G.Game.rules g.G.Shown.shown g.G.Shown.move_shown g.G.Pictured.picture in
-    let r = g.G.Game.rules in
     let asked = c.args.asked in
     let q = err_from_is_err_and c.from_residual.result c.from_residual.ensures.1 in
-    let fault = c.in_err-reached.field-0.0 in
-    rw (q.1, q.2) (find_unsearched _ spec asked _ fault (inr (memory_unbuilt r (first_of r asked.tier) fault c.in_err-reached.ensures.fault)))
+    rw (q.1, q.2) (find_unsearched _ spec asked _ (OutOfMemory c.in_err-reached.field-0.0) (inr tt))
 
 pub write_in-done-requires-clause-tiers : goal.write_in-done-requires-clause-tiers
 write_in-done-requires-clause-tiers g c = subst (λ (o : Option ℕ). AreTiersFor g.G.Game.rules o (c.in-Some.tier ∷ [])) (sym c.in-Some.is) refl

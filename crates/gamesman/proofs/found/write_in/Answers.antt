@@ -1,32 +1,54 @@
-use Rattle.gamesman.proofs.Lower.{None, Some, inr, sym, subst, ◌∙◌, err_from_is_err_and, game_spec, first_of, IsUnsearched, IsFoundOf}
-use Rattle.gamesman.specs.Finds.{IsFoundIn}
-use Rattle.gamesman.proofs.Telling.{memory_unbuilt, find_unsearched, put_told}
+use Rattle.gamesman.proofs.Lower.{Bool, None, Some, inr, sym, ap, ap₂, subst, IfOk-weaker, OutOfMemory, Report, Choice, game_spec, AreChosen, IsTextOf, IsUnsearched, IsFoundOf}
+use Rattle.gamesman.specs.Finds.{limit_by_tier}
+use Rattle.gamesman.proofs.Answering.{text_told}
 use Rattle.gamesman.proofs.Finds.{found_with}
 use Rattle.gamesman.proofs.found.write_in.Goals as goal
 
-pub returns-in-Some : goal.returns-in-Some
-returns-in-Some g c =
-    let spec = game_spec g.G.Game.rules g.G.Shown.shown g.G.Shown.move_shown g.G.Pictured.picture in
-    let asked = c.args.asked in
-    found_with (Some c.in-Some.limit) _ spec asked (IsUnsearched g.G.Game.rules asked.tier) _ _ c.write_by_tier.result
-    (sym c.in-Some.is ∙ c.limit_of.ensures) c.write_by_tier.ensures
-
-pub returns-in_err-text-in-None : goal.returns-in_err-text-in-None
-returns-in_err-text-in-None g c =
+pub returns-in-Sheet : goal.returns-in-Sheet
+returns-in-Sheet g c =
     let spec = game_spec g.G.Game.rules g.G.Shown.shown g.G.Shown.move_shown g.G.Pictured.picture in
     let r = g.G.Game.rules in
     let asked = c.args.asked in
-    let q = err_from_is_err_and c.from_residual.result c.from_residual.ensures.1 in
-    let fault = c.in_err-text-in-None.field-0.0 in
-    rw (q.1, q.2) (find_unsearched _ spec asked _ fault (inr (memory_unbuilt r (first_of r asked.tier) fault c.in_err-text-in-None.ensures.fault)))
+    let tiers = c.args.known.now.tiers.now in
+    let at_once = ap (λ (report : Report). limit_by_tier report asked.choice) (sym c.in-Sheet.is) in
+    let told = text_told c.sheet_text-sheet.result (λ v. v.items) (λ e. OutOfMemory e) (IsFoundOf spec asked) (IsUnsearched r asked.tier) _ _ c.put_text.result
+    (λ e. tt) (λ e. inr tt)
+    (IfOk-weaker c.sheet_text-sheet.result _ _
+    (λ v is. (
+      tiers,
+      c.requires.tiers,
+      (
+        is.found,
+        subst (λ (b : Bool). AreChosen r asked.sought b asked.choice tiers is.found) c.requires.reached is.are_found,
+        subst (λ (report : Report). IsTextOf spec report is.found v.items) (sym c.in-Sheet.is) (is.entries, is.are_entries, is.out_is),
+      ),
+    )) c.sheet_text-sheet.ensures) c.put_text.ensures.put c.put_text.ensures.refused in
+    found_with None _ spec asked (IsUnsearched r asked.tier) _ _ c.put_text.result at_once told
 
-pub returns-in_ok-text-in-None : goal.returns-in_ok-text-in-None
-returns-in_ok-text-in-None g c =
+pub returns-in-First : goal.returns-in-First
+returns-in-First g c =
+    let spec = game_spec g.G.Game.rules g.G.Shown.shown g.G.Shown.move_shown g.G.Pictured.picture in
+    let asked = c.args.asked in
+    let by_tier = ap₂ (λ (report : Report) (choice : Choice). limit_by_tier report choice) (sym c.in-Lines.is) (sym c.in-First.is) in
+    found_with (Some c.in-First.limit) _ spec asked (IsUnsearched g.G.Game.rules asked.tier) _ _ c.write_by_tier.result by_tier c.write_by_tier.ensures
+
+pub returns-in-Random : goal.returns-in-Random
+returns-in-Random g c =
     let spec = game_spec g.G.Game.rules g.G.Shown.shown g.G.Shown.move_shown g.G.Pictured.picture in
     let r = g.G.Game.rules in
     let asked = c.args.asked in
-    let text = c.as_slice.result.now in
-    let is = subst (IsFoundIn spec asked c.args.known.now.tiers.now) (sym c.as_slice.ensures.value) c.in_ok-text-in-None.ensures.text in
-    let told = put_told (IsFoundOf spec asked) (IsUnsearched r asked.tier) text _ _ c.put_all.result (c.args.known.now.tiers.now, c.requires.tiers, is)
-    c.put_all.ensures in
-    found_with None _ spec asked (IsUnsearched r asked.tier) _ _ c.put_all.result (sym c.in-None.is ∙ c.limit_of.ensures) told
+    let tiers = c.args.known.now.tiers.now in
+    let at_once = ap₂ (λ (report : Report) (choice : Choice). limit_by_tier report choice) (sym c.in-Lines.is) (sym c.in-Random.is) in
+    let told = text_told c.lines_at_once-lines.result (λ v. v.items) (λ e. OutOfMemory e) (IsFoundOf spec asked) (IsUnsearched r asked.tier) _ _
+    c.put_text-in-Random.result (λ e. tt) (λ e. inr tt)
+    (IfOk-weaker c.lines_at_once-lines.result _ _
+    (λ v is. let (xs, are, lines) = is in (
+      tiers,
+      c.requires.tiers,
+      (
+        xs,
+        are,
+        subst (λ (report : Report). IsTextOf spec report xs v.items) (sym c.in-Lines.is) lines,
+      ),
+    )) c.lines_at_once-lines.ensures) c.put_text-in-Random.ensures.put c.put_text-in-Random.ensures.refused in
+    found_with None _ spec asked (IsUnsearched r asked.tier) _ _ c.put_text-in-Random.result at_once told

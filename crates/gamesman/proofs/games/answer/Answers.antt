@@ -1,6 +1,6 @@
 use Rattle.gamesman.specs.Answers.{IsAnswered}
 use Rattle.gamesman.proofs.games.answer.Goals as goal
 
-pub returns-in-Explore-clause-answered : goal.returns-in-Explore-clause-answered
+pub returns-in-FromTables-clause-answered : goal.returns-in-FromTables-clause-answered
 unfolding IsAnswered
-returns-in-Explore-clause-answered g c = rw c.in-Explore.is c.explore.ensures
+returns-in-FromTables-clause-answered g c = rw c.in-FromTables.is c.answer_from_tables.ensures

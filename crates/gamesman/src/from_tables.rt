@@ -1,0 +1,115 @@
+//! The commands that are answered from tables: the tables are built once, and then one function writes the answer.
+ghost use Rattle.gamesman.specs.Lower.{IsOrderFrom, HoldsExactly, IsSomeWork};
+ghost use Rattle.std.specs.Prelude.{◌≡◌, true};
+ghost use Rattle.gamesman.specs.Games.{game_spec};
+ghost use Rattle.gamesman.specs.Needed.{IsNeeded};
+ghost use Rattle.gamesman.specs.Answers.{IsAnsweredFromTables};
+
+use crate::analyse::analysis_lines;
+use crate::explore::text_for;
+use crate::fault::Fault;
+use crate::filter::answer_input;
+use crate::found::write_found;
+use crate::host::Host;
+use crate::needs::{Needs, needs_of};
+use crate::output::put_text;
+use crate::play::play;
+use crate::search::{counts_of, longest_of, serve};
+use crate::solve::report_text;
+use crate::tables::BuildOptions;
+use gm_build::build::Built;
+use gm_command::requests::TableCommand;
+use gm_draw::pictured::Pictured;
+use gm_game::position::Position;
+use gm_page::page::page_text;
+use gm_play::known::Known;
+use gm_play::place_texts::position_text;
+use std::alloc::Global;
+use std::io::{Read, Write};
+
+/// Answers a command from tables. What it needs is read first, and then the tables are built.
+pub fn answer_from_tables<G: Pictured + Send + Sync, R: Host, I: Read, O: Write, E: Write + Send>(
+    rt: &R,
+    command: TableCommand<'_>,
+    options: BuildOptions<'_>,
+    input: &mut I,
+    output: &mut O,
+    errors: &mut E,
+) -> Result<u8, Fault>
+    ensures { IsAnsweredFromTables (game_spec G.Game.rules G.shown G.move_shown G.picture)
+        command.entry (I.remaining input.old) (O.contents output.old) (O.contents output.new) result }
+{
+    let needs = match needs_of::<G, R>(rt, command) {
+        Ok(needs) => needs,
+        Err(fault) => return Err(fault),
+    };
+    let built = match options.build::<G, R, E>(rt, needs.tier, errors) {
+        Ok(built) => built,
+        Err(fault) => return Err(fault),
+    };
+    let written = write_answer(rt.alloc(), &built, command, &needs, input, output);
+    drop((built, needs));
+    written
+}
+
+// Writes the answer to a command from its tables.
+fn write_answer<G: Pictured, I: Read, O: Write>(
+    alloc: Global,
+    built: &Built<G>,
+    command: TableCommand<'_>,
+    needs: &Needs,
+    input: &mut I,
+    output: &mut O,
+) -> Result<u8, Fault>
+    requires needed { IsNeeded (game_spec G.Game.rules G.shown G.move_shown G.picture) command needs.now }
+    requires order { IsOrderFrom G.Game.rules needs.now.tier built.now.order }
+    requires held { HoldsExactly built.now.tables built.now.order }
+    requires work { IsSomeWork G.Game.rules built.now.order built.now.work }
+    ensures { IsAnsweredFromTables (game_spec G.Game.rules G.shown G.move_shown G.picture)
+        command.entry (I.remaining input.old) (O.contents output.old) (O.contents output.new) result }
+{
+    match command {
+        TableCommand::Solve => put_text(output, report_text(alloc, built.work)),
+        TableCommand::Explore { question, .. } => {
+            let known = known_at(built, needs.position);
+            put_text(output, text_for(alloc, &known, question))
+        }
+        TableCommand::Filter { question } => answer_input(alloc, built, question, input, output),
+        TableCommand::Page(asked) => {
+            let known = known_at(built, needs.position);
+            let limit = asked.limit.max(1);
+            put_text(
+                output,
+                page_text(alloc, &known, limit, needs.engine.as_slice()),
+            )
+        }
+        TableCommand::At { .. } => {
+            let known = known_at(built, needs.position);
+            put_text(output, position_text(alloc, &known))
+        }
+        TableCommand::Find(search) => write_found(alloc, built, search, output),
+        TableCommand::Counts(asked) => put_text(output, counts_of(alloc, built, asked)),
+        TableCommand::Longest { reached, limit } => {
+            put_text(output, longest_of(alloc, built, reached, limit))
+        }
+        TableCommand::Ask(asked) => serve(alloc, built, asked, input, output),
+        TableCommand::Analyse => put_text(output, analysis_lines(alloc, built)),
+        TableCommand::Play(asked) => {
+            let known = known_at(built, needs.position);
+            play(&known, asked, input, output)
+        }
+    }
+}
+
+// Returns a position with the tables of all tiers that its tier reaches.
+fn known_at<G: Pictured>(built: &Built<G>, position: Position) -> Known<'_, G>
+    requires legal { G.Game.rules.is_legal position ≡ true }
+    requires order { IsOrderFrom G.Game.rules position.tier built.now.order }
+    requires held { HoldsExactly built.now.tables built.now.order }
+    ensures { result.position ≡ position }
+{
+    Known {
+        tables: &built.tables,
+        position,
+    }
+}
