@@ -26,7 +26,7 @@ b   . | . | .
 c   . | . | ."""
 
 # What need not be there.
-MAY_BE_MISSING = {"numpy", "matplotlib"}
+MAY_BE_MISSING = {"numpy", "pandas", "matplotlib"}
 
 
 def imports(tree: ast.AST, within: str = "") -> Iterator[Tuple[str, str]]:
