@@ -33,6 +33,17 @@ SHARED = (
     ("gm_patterns.specs.PatternGames", "pattern_rules"),
 )
 
+# Files of specs/ that no promise rests on, and that are not in specs/inner, with the reason.
+BESIDE = {
+    "gm_connect.specs.ConnectPicture": "the pictures of games that the program doesn't have",
+    "gm_numbers.specs.NumbersPictures": "the pictures of games that the program doesn't have",
+    "gm_patterns.specs.PatternTables": "tests that a new game has to pass",
+    "gm_pieces.specs.SmallTables": "tests that a new game has to pass",
+    "gm_ways.specs.WayTables": "tests that a new game has to pass",
+    "gm_solver.specs.Boards": "what callers with workers of their own see",
+    "gm_testing.specs.ByHand": "the words of tests",
+}
+
 # An import: the module and the names. The first line of a definition: a record or a data type, or a name with its type. A word of a
 # definition, or a name with its path; what comes after a dot is a field.
 USE = re.compile(r"(?s)\buse Rattle\.([\w.«»]+)\.\{(.*?)\}")
@@ -342,11 +353,23 @@ def lists():
     return [line for number, (title, found) in enumerate(numbered(), 1) for line in item(number, title, found)]
 
 
+def misplaced():
+    """Files of `specs/` that no promise rests on, and files of `specs/inner` that one does; exceptions that are none."""
+    reached = {name for _, items in believed() for _, found in items for name, _ in found.definitions}
+    every = {os.path.relpath(path, CRATES).removesuffix(".antt").replace("/", ".") for path in glob.glob(f"{CRATES}/*/specs/**/*.antt", recursive=True)}
+    for name in sorted(it for it in every if ".laws." not in it and module(it) and module(it).definitions):
+        if ".inner." in name and name in reached:
+            yield f"{short(module(name).path)} is in specs/inner, and a promise rests on it"
+        if ".inner." not in name and (name in reached) == (name in BESIDE):
+            yield f"{short(module(name).path)} " + ("need not be an exception (trusted.py)" if name in BESIDE else "belongs into specs/inner: no promise rests on it")
+    yield from (f"{name} is an exception, and is not there (trusted.py)" for name in sorted(set(BESIDE) - every))
+
+
 FIGURES = {"trusted": summary, "believed": table, "headline": headline, "definitions": lists}
 
 
 def faults():
-    """A headline that rests on too many lines; commands whose equations are not there, and equations that are no command's."""
+    """A headline that rests on too many lines; commands whose equations are not there, and equations that are no command's; files of specs/ in the wrong folder."""
     lines = count(promise(HEADLINE))[1]
     yield from [f"the headline rests on {lines} lines of definitions, more than {MOST}"] if lines > MOST else []
     beside = ["IsDone (Game ", "IsDone _ ", "IsAnswered g _ ", "IsAnswered g (FromTables "]
@@ -357,6 +380,7 @@ def faults():
         expected = [it for name, it in begun if name == word]
         yield from (f"no equation of {where} begins with '{it}'" for it in expected if not any(line.startswith(it) for line in equations))
         yield from (f"the equation '{line}' is no command's (trusted.py)" for line in equations if not line.startswith(tuple(expected)))
+    yield from misplaced()
 
 
 if __name__ == "__main__":

@@ -3,7 +3,7 @@ ghost use Rattle.std.specs.Prelude.{◌≡◌, ◌≤◌, length};
 ghost use Rattle.gm_game.specs.declared.position.Phase.TheVariants.{Ties};
 ghost use Rattle.gm_frontier.specs.Levels.{AreTiles};
 ghost use Rattle.gm_table.specs.Tables.{AreHeld};
-ghost use Rattle.gm_counters.specs.Begin.{AreStarts};
+ghost use Rattle.gm_counters.specs.inner.Begin.{AreStarts};
 ghost use Rattle.gm_counters.specs.Steps.{place_of};
 ghost use Rattle.gm_testing.specs.ByHand.{IsOfTier};
 

@@ -1,6 +1,6 @@
 -- Lines of analyses, with one more tier.
-use Rattle.gamesman.proofs.Lower.{◌≡◌, ℕ, ◌+◌, ◌<◌, List, [], ◌∷◌, ◌++◌, length, take, get_or, refl, sym, ap, subst, ◌∙◌, append_assoc, append-nil, take_more}
-use Rattle.gamesman.proofs.Lower.{Rules, IsAnalysisLine, AreAnalysisLines}
+use Rattle.gamesman.proofs.Lower.{◌≡◌, ℕ, ◌+◌, ◌<◌, List, [], ◌∷◌, ◌++◌, length, take, get_or, refl, sym, ap, subst, ◌∙◌, append_assoc, append-nil, take_more, Rules, AreAnalysisLines}
+use Rattle.gamesman.specs.Analysing.{IsAnalysisLine}
 
 lines_more : (r : Rules) (tiers : List ℕ) (tier : ℕ) (old line new : List ℕ) → AreAnalysisLines r tiers old → IsAnalysisLine r tier line → new ≡ old ++ line
     → AreAnalysisLines r (tiers ++ tier ∷ []) new

@@ -1,10 +1,22 @@
 -- The answers to commands that are answered from tables: what they need is not there, or their tables are not built, or a text is put.
-use Rattle.gamesman.proofs.Lower.{◌≡◌, ℕ, true, List, [], Option, None, Some, Result, Ok, Err, IfOk, IfErr, refl, sym, ap, subst, inl, inr, ◌⊎◌, Bor, Position, Rules}
-use Rattle.gamesman.proofs.Lower.{IsReadAs, Fault, NoSuchPosition, GameSpec, IsUnbuilt, IsMemoryFault, IsNoPlace, IsUnknown, IsPut, IsTold, IsAnsweredBy}
-use Rattle.gamesman.proofs.Lower.{IsTextFor, IsPage, IsPaged, IsPagedWith, IsEngineFault, IsReport, IsAtText, IsUnplaced, IsCountsOf, IsLongestOf, IsUnsearched}
-use Rattle.gamesman.proofs.Lower.{IsUnnamed, IsAnalysisText, IsFrom, IsAbout, IsAboutNone, IsAtPlace, AreDigitsOf, IsEngineFaultOf, IsNeeded, Needs}
-use Rattle.gamesman.specs.Answers.{IsAnsweredFromTables}
-use Rattle.gamesman.proofs.Lower.{TableCommand, PageRequest, PlayRequest, PositionSearch, Question, text_asked, first_of, max}
+use Rattle.gamesman.proofs.Lower.{◌≡◌, ℕ, true, List, [], Option, None, Some, Result, Ok, Err, refl, sym, ap, subst, inl, inr, Position, Rules, Fault, NoSuchPosition, GameSpec, IsUnbuilt, IsMemoryFault, IsPut, IsTextFor, IsEngineFault, IsUnsearched, PositionSearch, text_asked, first_of, max}
+use Rattle.std.proofs.Common.{IfOk, IfErr, ◌⊎◌}
+use Rattle.std.specs.Borrow.{Bor}
+use Rattle.gm_play.specs.PlayTexts.{IsReadAs}
+use Rattle.gamesman.specs.Told.{IsNoPlace, IsUnknown, IsTold}
+use Rattle.gamesman.specs.Answers.{IsAnsweredBy, IsPagedWith, IsAnsweredFromTables}
+use Rattle.gm_page.specs.Pages.{IsPage}
+use Rattle.gamesman.specs.Engines.{IsPaged}
+use Rattle.gamesman.specs.Solving.{IsReport}
+use Rattle.gamesman.specs.Searches.{IsAtText, IsUnplaced, IsCountsOf, IsLongestOf, IsUnnamed}
+use Rattle.gamesman.specs.Analysing.{IsAnalysisText}
+use Rattle.gamesman.specs.Plays.{IsFrom}
+use Rattle.gamesman.specs.inner.Needed.{IsAbout, IsAboutNone, IsAtPlace, AreDigitsOf, IsEngineFaultOf, IsNeeded}
+use Rattle.gamesman.specs.declared.needs.Needs.{Needs}
+use Rattle.gm_command.specs.declared.requests.TableCommand.{TableCommand}
+use Rattle.gm_command.specs.declared.requests.PageRequest.{PageRequest}
+use Rattle.gm_command.specs.declared.requests.PlayRequest.{PlayRequest}
+use Rattle.gm_command.specs.declared.requests.Question.{Question}
 use Rattle.gm_command.specs.declared.requests.TableCommand.TheVariants.{Solve, Explore, Filter, Page, At, Find, Counts, Longest, Ask, Analyse, Play}
 use Rattle.gamesman.proofs.Cut.{kept, write_refused, unbuilt_refused}
 use Rattle.gamesman.proofs.Paged.{engine_cut}

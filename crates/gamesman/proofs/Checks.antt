@@ -1,12 +1,14 @@
 -- The output of a check so far.
-use Rattle.gamesman.proofs.Lower.{◌≡◌, ℕ, suc, ◌<◌, inl, inr, List, [], ◌∷◌, ◌++◌, length, take, drop, get_or, Option, Some, Ok, refl, sym, ap, subst, ◌∙◌}
-use Rattle.gamesman.proofs.Lower.{append_assoc, append-nil, take-append-drop, Contains, Appends, Appends-nil, Appends-trans, Appends-kept, Rules, contains_none}
-use Rattle.gamesman.proofs.Lower.{contains_cases, TableData, HoldsExactly, part_after, Fault, NoFile, IsMemoryFault, drop-cons, contains_first, contains_later}
-use Rattle.gamesman.proofs.Lower.{AreTables, Inserts, holds_too, Finding, Right, Missing, NotChecked, NoTable, finding_line, right_with, status_with, IsFinding}
-use Rattle.gamesman.proofs.Lower.{IsFoundAfter, IsTableFor, AreLines, IsUnread, IsTierCut, IsCheckCut, IsCheckOf, Bool, None, IsTrue}
-use Rattle.gamesman.specs.Lower.{AreHeld, AreSame, StoreView, store_view}
-use Rattle.gamesman.specs.Checking.{finding_for, table_found}
-use Rattle.gm_tierdb.specs.StoreTexts.{Texts}
+use Rattle.gamesman.proofs.Lower.{◌≡◌, ℕ, suc, ◌<◌, inl, inr, List, [], ◌∷◌, ◌++◌, length, take, drop, get_or, Option, Some, Ok, refl, sym, ap, subst, ◌∙◌, append_assoc, append-nil, take-append-drop, Contains, Appends, Appends-trans, Appends-kept, Rules, TableData, HoldsExactly, part_after, Fault, IsMemoryFault, Bool, None}
+use Rattle.std.proofs.KnownBytes.{Appends-nil}
+use Rattle.gm_game.proofs.Lists.{contains_none, contains_cases, contains_first, contains_later}
+use Rattle.gamesman.specs.declared.finding.Finding.TheVariants.{NoFile, Right, Missing, NotChecked, NoTable}
+use Rattle.std.proofs.Common.{drop-cons, IsTrue}
+use Rattle.gm_table.specs.Tables.{AreTables, Inserts, AreHeld}
+use Rattle.gm_build.proofs.StoreLemmas.{holds_too}
+use Rattle.gamesman.specs.declared.finding.Finding.{Finding}
+use Rattle.gamesman.specs.Checking.{finding_line, right_with, status_with, IsFinding, IsFoundAfter, IsTableFor, AreLines, IsFileUnread, IsTierCut, IsCheckCut, IsCheckOf, finding_for, table_found}
+use Rattle.gm_tierdb.specs.StoreTexts.{AreSame, StoreView, store_view, Texts}
 use Rattle.gm_build.specs.Inspections.{IsInspectedIn}
 use Rattle.gm_build.specs.declared.inspect.Inspected.{Inspected}
 use Rattle.gm_build.specs.declared.inspect.Inspected.TheVariants.{Right as Found, Missing as Absent, NoFile as BadFile, NoTable as BadTable}
@@ -97,7 +99,7 @@ pub record IsToldTo (r : Rules) (store : StoreView) (done : List ℕ) (before af
   pub held : HoldsExactly entries right
   pub continues : Continues r store done out right status
 
-memory_unread : (left : List ℕ) (fault : Fault) → IsMemoryFault fault → IsUnread left fault
+memory_unread : (left : List ℕ) (fault : Fault) → IsMemoryFault fault → IsFileUnread left fault
 memory_unread [] fault is = is
 memory_unread (tier ∷ tiers) fault is = inl is
 

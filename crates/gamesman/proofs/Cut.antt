@@ -1,9 +1,15 @@
 -- The output of an answer after a fault.
-use Rattle.gamesman.proofs.Lower.{◌≡◌, ℕ, Bool, true, false, List, Option, None, Some, Result, Ok, Err, IfSome, refl, sym, ap, subst, ◌∙◌, Bor, Keeps, Position}
-use Rattle.gamesman.proofs.Lower.{Rules, AppendsPart, IsReadAs, Fault, NoSuchGame, NoSuchPosition, NoSuchPositionInLine, NoSuchTier, NoSuchIndex, NotLegal}
-use Rattle.gamesman.proofs.Lower.{NotCanonical, NotBuilt, AnotherGames, InputFailed, OutputFailed, OutputClosed, TooMuchInput, EngineNotRead, NotAnEngine}
-use Rattle.gamesman.proofs.Lower.{IsOutputFault, IsCutOff, IsPlaceText, IsAnsweredBy, IsUnbuilt, IfErr, IsErrAnd, BuildError, IsBuildError, IsUnlocatedFor}
-use Rattle.gamesman.proofs.Lower.{IsLocatedBy, reason_of, IsRefused}
+use Rattle.gamesman.proofs.Lower.{◌≡◌, ℕ, Bool, true, false, List, Option, None, Some, Result, Ok, Err, refl, sym, ap, subst, ◌∙◌, Keeps, Position, Rules, AppendsPart, Fault, NoSuchGame, NoSuchPosition, NoSuchPositionInLine, NoSuchTier, NoSuchIndex, NotLegal, NotCanonical, NotBuilt, AnotherGames, InputFailed, OutputFailed, OutputClosed, TooMuchInput, EngineNotRead, NotAnEngine, IsCutOff, IsUnbuilt}
+use Rattle.std.proofs.Common.{IfSome, IfErr}
+use Rattle.std.specs.Borrow.{Bor}
+use Rattle.gm_play.specs.PlayTexts.{IsReadAs}
+use Rattle.gamesman.specs.Outputs.{IsOutputFault}
+use Rattle.gm_play.specs.PlaceTexts.{IsPlaceText}
+use Rattle.gamesman.specs.Answers.{IsAnsweredBy, IsUnlocatedFor, IsLocatedBy}
+use Rattle.std.specs.Result.{IsErrAnd}
+use Rattle.gm_build.specs.declared.build_error.BuildError.{BuildError}
+use Rattle.gm_build.specs.Outcomes.{IsBuildError}
+use Rattle.gamesman.specs.Refusals.{reason_of, IsRefused}
 use Rattle.gm_build.specs.declared.build_error.BuildError.TheVariants.{OutOfMemory, TooFar, StoreFailed, TooManyTiers, TierTooLarge}
 use Rattle.gamesman.specs.declared.fault.Fault.TheVariants.{OutOfMemory as NoMemory}
 

@@ -1,18 +1,23 @@
 -- The answers to the lines of an input, before its end.
-use Rattle.gamesman.proofs.Lower.{◌≡◌, ℕ, ◌+◌, ◌≤◌, ◌<◌, true, false, List, [], ◌∷◌, ◌++◌, length, take, Option, Result, Ok, refl, sym, ap, subst, ◌∙◌}
-use Rattle.gamesman.proofs.Lower.{append_assoc, append-nil, arith, ◌==◌, if◌then◌else◌, length-take, length-append, Appends, Keeps, Appends-trans, Appends-nil}
-use Rattle.gamesman.proofs.Lower.{Appends-kept, Position, Rules, TableData, IsTierOrder, HoldsExactly, without_return, kept_bytes, Fault, NoSuchGame}
-use Rattle.gamesman.proofs.Lower.{NoSuchPosition, NoSuchPositionInLine, NoSuchTier, NoSuchIndex, NotLegal, NotCanonical, OutOfMemory, NotBuilt, AnotherGames}
-use Rattle.gamesman.proofs.Lower.{InputFailed, OutputFailed, OutputClosed, TooMuchInput, EngineNotRead, NotAnEngine, IsLineFault, IsOfNone, IfOk, min, ◌↔◌}
-use Rattle.gamesman.proofs.Lower.{Consumes, IsAtEnd, prepend_known, BufReader, Consumes-trans, Consumes-nil, Keeps-refl, prepend_known-nil, IsHeld, IsReached}
-use Rattle.gamesman.proofs.Lower.{lines_from, lines_of, last_number, AreTexts, AreAnswered, AreBefore, AreAllAnswered, IsStopped, IsLeftOff}
-use Rattle.std.specs.Prelude.{None, Some}
+use Rattle.gamesman.proofs.Lower.{◌≡◌, ℕ, ◌+◌, ◌≤◌, ◌<◌, true, false, List, [], ◌∷◌, ◌++◌, length, take, Option, Result, Ok, refl, sym, ap, subst, ◌∙◌, append_assoc, append-nil, arith, Appends, Keeps, Appends-trans, Appends-kept, Position, Rules, TableData, HoldsExactly, Fault, NoSuchGame, NoSuchPosition, NoSuchPositionInLine, NoSuchTier, NoSuchIndex, NotLegal, NotCanonical, OutOfMemory, NotBuilt, AnotherGames, InputFailed, OutputFailed, OutputClosed, TooMuchInput, EngineNotRead, NotAnEngine, IsOfNone}
+use Rattle.std.specs.Prelude.{◌==◌, if◌then◌else◌, min, ◌↔◌, None, Some}
+use Rattle.std.proofs.lemmas.List.{length-take, length-append}
+use Rattle.std.proofs.KnownBytes.{Appends-nil, Consumes-trans, Consumes-nil, Keeps-refl, prepend_known-nil}
+use Rattle.gm_tiers.specs.Orders.{IsTierOrder}
+use Rattle.gm_play.specs.Dialogue.{without_return}
+use Rattle.gm_json.specs.Asking.{kept_bytes, lines_from, lines_of}
+use Rattle.gamesman.specs.Filters.{IsLineFault, last_number, AreLineTexts, AreAnswered, AreBefore, AreAllAnswered, IsFilterStopped, IsLeftOff}
+use Rattle.std.proofs.Common.{IfOk}
+use Rattle.std.specs.Io.KnownBytes.{Consumes, IsAtEnd, prepend_known}
+use Rattle.std.specs.declared.io.buffered.BufReader.{BufReader}
+use Rattle.gm_table.specs.Tables.{IsHeld}
+use Rattle.gm_tiers.specs.Reach.{IsReached}
 use Rattle.std.specs.Io.Buffered.{reader_remaining, reader_capacity, reader_buffer, reader_inner}
 use Rattle.gm_json.proofs.Splitting.{lines_more, lines_next, lines_end, lines_none, none_kept, kept_push, kept_full}
 
 module _ (IsText : List ℕ → List ℕ → Type 0) where
   -- the texts of some lines and of one more
-  texts_more : (xs : List (List ℕ)) (line t out : List ℕ) → AreTexts IsText xs t → IsText (without_return (take kept_bytes line)) out → AreTexts IsText
+  texts_more : (xs : List (List ℕ)) (line t out : List ℕ) → AreLineTexts IsText xs t → IsText (without_return (take kept_bytes line)) out → AreLineTexts IsText
       (xs ++ line ∷ []) (t ++ out)
   texts_more [] line t out e is = (out, [], is, ap (λ (l : List ℕ). l ++ out) e ∙ sym (append-nil out), refl)
   texts_more (x ∷ xs) line t out (text, rest, first, e, more) is =
@@ -42,13 +47,15 @@ module _ (IsText : List ℕ → List ℕ → Type 0) where
     };
   }
 
-  pub stopped : (number : ℕ) (kept : List ℕ) (input left before after : Option (List ℕ)) → Amid number kept input left before after → IsStopped IsText input
+  pub stopped : (number : ℕ) (kept : List ℕ) (input left before after : Option (List ℕ)) → Amid number kept input left before after → IsFilterStopped
+      IsText input
       before after
   stopped number kept input left before after h = (h.lines, h.line, left, h.so_far)
 
   module _ (IsNone : List ℕ → Type 0) (lines : List (List ℕ)) (line kept : List ℕ) (number : ℕ) (input before w1 w2 : Option (List ℕ))
       (keeps : kept ≡ take kept_bytes line) (numbered : number ≡ min (1 + length lines) last_number)
-      (stop : Keeps w1 w2 → IsStopped IsText input before w2) (come : (w : Option (List ℕ)) → Keeps w1 w → AreBefore IsText lines line input before w) where
+      (stop : Keeps w1 w2 → IsFilterStopped IsText input before w2) (come : (w : Option (List ℕ)) → Keeps w1 w → AreBefore IsText lines line input before
+      w) where
     -- the output if a line is not answered
     left_off : (fault : Fault) → IsLineFault IsText IsNone kept number w1 w2 fault → IsLeftOff IsText IsNone input before w2 fault
     left_off (NoSuchPositionInLine n) (same, none, kept_out) =
@@ -170,7 +177,7 @@ module _ (IsText : List ℕ → List ℕ → Type 0) where
           text = h.so_far.text;
           reads = h.so_far.reads;
           end = end;
-          answers = subst (λ (ls : List (List ℕ)). AreTexts IsText ls h.so_far.text) (sym lines) h.so_far.answers;
+          answers = subst (λ (ls : List (List ℕ)). AreLineTexts IsText ls h.so_far.text) (sym lines) h.so_far.answers;
           writes = h.so_far.writes;
         }
 
@@ -186,7 +193,7 @@ module _ (IsText : List ℕ → List ℕ → Type 0) where
         text = h.so_far.text ++ out;
         reads = h.so_far.reads;
         end = end;
-        answers = subst (λ (ls : List (List ℕ)). AreTexts IsText ls (h.so_far.text ++ out)) (sym last_lines)
+        answers = subst (λ (ls : List (List ℕ)). AreLineTexts IsText ls (h.so_far.text ++ out)) (sym last_lines)
             (texts_more h.lines h.line h.so_far.text out h.so_far.answers (subst (λ (l : List ℕ). IsText (without_return l) out) h.keeps is));
         writes = Appends-trans before w1 w2 h.so_far.text out h.so_far.writes written;
       }

@@ -1,14 +1,26 @@
 -- The positions found tier by tier, and the tables that they come from.
-use Rattle.gamesman.proofs.Lower.{◌≡◌, ℕ, zero, suc, ◌+◌, ◌-◌, inl, inr, Bool, List, [], ◌∷◌, ◌++◌, length, take, drop, Option, None, Some, Result, Ok, Err}
-use Rattle.gamesman.proofs.Lower.{refl, sym, ap, subst, ◌∙◌, arith, append-nil, take-append-drop, Contains, flat_map, Appends, Keeps, Appends-trans}
-use Rattle.gamesman.proofs.Lower.{Appends-kept, flat_map-append, Position, Rules, contains_none, contains_cases, TableData, AreAllHeld, AppendsPart, part_after}
-use Rattle.gamesman.proofs.Lower.{Found, IsFound, AreFound, AreChosen, LineForm, Report, Lines, PositionSearch, Fault, NoSuchGame, NoSuchPosition, NoSuchPositionInLine}
-use Rattle.gamesman.proofs.Lower.{NoSuchTier, NoSuchIndex, NotLegal, NotCanonical, OutOfMemory, NotBuilt, AnotherGames, InputFailed, OutputFailed, OutputClosed}
-use Rattle.gamesman.proofs.Lower.{TooMuchInput, EngineNotRead, NotAnEngine, GameSpec, IsOutputFault, IsCutOff, IsMemoryFault, board_row, IsTextOf, IsFoundAt}
-use Rattle.gamesman.proofs.Lower.{AreTiersFor, IsFoundSoFar, IsLeft, AreLinesOf, AreFoundWith, ◌⊎◌, map, ap₂, map-append, length-map, All-append}
-use Rattle.gamesman.proofs.Lower.{Choice, First, Sought, IsFirst, IsMatch, all_positions, positions_in, position_of, found_row, first_append}
-use Rattle.gamesman.proofs.Lower.{found_line, Rows, Json, Boards, IsToldByTier, IsTierTold}
-use Rattle.std.proofs.Common.{length-append}
+use Rattle.gamesman.proofs.Lower.{◌≡◌, ℕ, suc, ◌+◌, inl, inr, Bool, List, [], ◌∷◌, ◌++◌, length, take, drop, Option, None, Some, Result, Ok, Err, refl, sym, ap, subst, ◌∙◌, arith, append-nil, take-append-drop, Contains, flat_map, Appends, Keeps, Appends-trans, Appends-kept, Position, Rules, TableData, AppendsPart, part_after, Found, IsFound, AreChosen, PositionSearch, Fault, NoSuchGame, NoSuchPosition, NoSuchPositionInLine, NoSuchTier, NoSuchIndex, NotLegal, NotCanonical, OutOfMemory, NotBuilt, AnotherGames, InputFailed, OutputFailed, OutputClosed, TooMuchInput, EngineNotRead, NotAnEngine, GameSpec, IsCutOff, IsMemoryFault, board_row, AreLinesOf}
+use Rattle.std.proofs.Common.{zero, ◌-◌, ◌⊎◌, map, ap₂, length-append}
+use Rattle.std.proofs.lemmas.Grind.{flat_map-append}
+use Rattle.gm_game.proofs.Lists.{contains_none, contains_cases}
+use Rattle.gm_play.specs.Reached.{AreAllHeld}
+use Rattle.gm_find.specs.Founds.{AreFound, found_position}
+use Rattle.gm_command.specs.declared.requests.LineForm.{LineForm}
+use Rattle.gm_command.specs.declared.requests.Report.{Report}
+use Rattle.gm_command.specs.declared.requests.Report.TheVariants.{Lines}
+use Rattle.gamesman.specs.Outputs.{IsOutputFault}
+use Rattle.gamesman.specs.Finds.{IsTextOf, IsFoundAt, AreTiersFor, IsFoundSoFar, IsLeft, AreFoundWith, IsToldByTier, IsTierTold}
+use Rattle.std.proofs.lemmas.List.{map-append, length-map}
+use Rattle.std.proofs.lemmas.List.Elements.{All-append}
+use Rattle.gm_find.specs.declared.sought.Choice.{Choice}
+use Rattle.gm_find.specs.declared.sought.Choice.TheVariants.{First}
+use Rattle.gm_find.specs.declared.sought.Sought.{Sought}
+use Rattle.gm_find.specs.Lists.{IsFirst}
+use Rattle.gm_find.specs.Finding.{IsMatch, all_positions, positions_in}
+use Rattle.gm_find.specs.Rows.{found_row}
+use Rattle.gm_find.proofs.ListLemmas.{first_append}
+use Rattle.gm_json.specs.Founds.{found_line}
+use Rattle.gm_command.specs.declared.requests.LineForm.TheVariants.{Rows, Json, Boards}
 
 -- ---- the tables
 -- a list of one tier
@@ -50,11 +62,11 @@ module _ (r : Rules) (q : Sought) (reached : Bool) (limit : ℕ) where
   found_more tiers tier xs ys h k =
       let P : Position → Type 0 = IsMatch r q reached in
       let one = all_positions r (tier ∷ []) in
-      let few = subst (λ (n : ℕ). IsFirst P (limit - n) one (map position_of ys)) (sym (length-map xs position_of)) k.positions in
-      let both = first_append P limit (all_positions r tiers) one (map position_of xs) (map position_of ys) h.positions few in
-      let named = subst (λ (ps : List Position). IsFirst P limit (all_positions r tiers ++ one) ps) (sym (map-append position_of xs ys)) both in
+      let few = subst (λ (n : ℕ). IsFirst P (limit - n) one (map found_position ys)) (sym (length-map xs found_position)) k.positions in
+      let both = first_append P limit (all_positions r tiers) one (map found_position xs) (map found_position ys) h.positions few in
+      let named = subst (λ (ps : List Position). IsFirst P limit (all_positions r tiers ++ one) ps) (sym (map-append found_position xs ys)) both in
       record {
-        positions = subst (λ (ps : List Position). IsFirst P limit ps (map position_of (xs ++ ys)))
+        positions = subst (λ (ps : List Position). IsFirst P limit ps (map found_position (xs ++ ys)))
             (sym (flat_map-append (positions_in r) tiers (tier ∷ []))) named;
         each = All-append (IsFound r) xs ys h.each k.each;
       }
@@ -64,9 +76,9 @@ module _ (r : Rules) (q : Sought) (reached : Bool) (limit : ℕ) where
       limit tiers xs
   found_full k tiers xs h full =
       let P : Position → Type 0 = IsMatch r q reached in
-      let ps = map position_of xs in
+      let ps = map found_position xs in
       let later = all_positions r (drop k tiers) in
-      let none = none_first P (limit - length ps) later (subst (λ (n : ℕ). limit - n ≡ 0) (sym (length-map xs position_of)) full) in
+      let none = none_first P (limit - length ps) later (subst (λ (n : ℕ). limit - n ≡ 0) (sym (length-map xs found_position)) full) in
       let both = first_append P limit (all_positions r (take k tiers)) later ps [] h.positions none in
       let all = sym (flat_map-append (positions_in r) (take k tiers) (drop k tiers)) ∙ ap (all_positions r) (take-append-drop k tiers) in
       record {

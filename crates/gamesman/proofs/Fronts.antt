@@ -1,8 +1,9 @@
 -- First parts of texts that are written.
-use Rattle.gamesman.proofs.Lower.{◌≡◌, ℕ, ◌+◌, ◌-◌, ◌≤◌, Bool, true, false, List, ◌++◌, length, take, drop, Option, Result, Ok, Err, sym, ap, subst, ◌∙◌, arith}
-use Rattle.gamesman.proofs.Lower.{take-append-drop, Appends, Keeps, Appends-trans, Appends-kept, AppendsPart, part_after, part_longer, Fault, IsPut, listed}
-use Rattle.gamesman.proofs.Lower.{listed_later, OnErr, take-add, take-take}
-use Rattle.std.proofs.Common.{length-take}
+use Rattle.gamesman.proofs.Lower.{◌≡◌, ℕ, ◌+◌, ◌≤◌, Bool, true, false, List, ◌++◌, length, take, drop, Option, Result, Ok, Err, sym, ap, subst, ◌∙◌, arith, take-append-drop, Appends, Keeps, Appends-trans, Appends-kept, AppendsPart, part_after, Fault, IsPut}
+use Rattle.std.proofs.Common.{◌-◌, OnErr, take-add, length-take}
+use Rattle.gm_play.proofs.Parts.{part_longer}
+use Rattle.gamesman.specs.Listing.{listed_names, listed_later}
+use Rattle.std.proofs.lemmas.List.{take-take}
 
 module _ (a b c : Option (List ℕ)) (done : ℕ) (xs : List ℕ) (within : done ≤ length xs) (before : Appends a b (take done xs)) where
   -- a write took some more bytes
@@ -28,9 +29,9 @@ put_after a b c xs ys (Ok status) before (done, put) = (done, Appends-trans a b 
 put_after a b c xs ys (Err fault) before (failed, part) = (failed, part_after a b c xs ys before part)
 
 -- a first part of the names that `list` prints is also one of the names that `list --all` prints
-pub part_listed : (all : Bool) (a b : Option (List ℕ)) → AppendsPart a b (listed false) → AppendsPart a b (listed all)
+pub part_listed : (all : Bool) (a b : Option (List ℕ)) → AppendsPart a b (listed_names false) → AppendsPart a b (listed_names all)
 part_listed false a b part = part
-part_listed true a b part = part_longer a b (listed false) listed_later part
+part_listed true a b part = part_longer a b (listed_names false) listed_later part
 
 -- a property after a failed write, from one after its last part
 pub err_after : {A E : Type 0} (result : Result A E) (P Q : Type 0) → (P → Q) → OnErr result P → OnErr result Q

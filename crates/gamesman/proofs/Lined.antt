@@ -1,5 +1,6 @@
 -- Lines of games that are appended to a page.
-use Rattle.gamesman.proofs.Lower.{◌≡◌, ℕ, List, [], ◌∷◌, ◌++◌, sym, ap, ◌∙◌, flat_map, flat_map-append, GameSpec, game_line}
+use Rattle.gamesman.proofs.Lower.{◌≡◌, ℕ, List, [], ◌∷◌, ◌++◌, sym, ap, ◌∙◌, flat_map, GameSpec, game_line}
+use Rattle.std.proofs.lemmas.Grind.{flat_map-append}
 use Rattle.std.proofs.lemmas.List.{append_assoc, append-nil}
 
 -- the lines of more games

@@ -1,5 +1,8 @@
 -- All tiers that a tier reaches are held, also those below one of them.
-use Rattle.gamesman.proofs.Lower.{ℕ, zero, suc, List, refl, Contains, Rules, TableData, IsOrderFrom, HoldsExactly, AreAllHeld, IsReachedFrom, AreClosed}
+use Rattle.gamesman.proofs.Lower.{ℕ, suc, List, refl, Contains, Rules, TableData, IsOrderFrom, HoldsExactly}
+use Rattle.std.proofs.Common.{zero}
+use Rattle.gm_play.specs.Reached.{AreAllHeld, AreClosed}
+use Rattle.gm_tiers.specs.Reach.{IsReachedFrom}
 use Rattle.gm_play.proofs.Held.{all_held}
 
 -- the tiers that are reached from one of them

@@ -1,7 +1,7 @@
 -- What is said on standard error.
-use Rattle.gamesman.proofs.Lower.{◌≡◌, ◌∙◌, ℕ, List, [], ◌∷◌, ◌++◌, Option, None, Some, Result, Ok, Err, IfSome, sym, ap, subst, append-nil, inl, inr, Appends}
-use Rattle.gamesman.proofs.Lower.{AppendsPart, OnOk, OnErr}
-use Rattle.std.specs.Prelude.{codes, option_map}
+use Rattle.gamesman.proofs.Lower.{◌≡◌, ◌∙◌, ℕ, List, [], ◌∷◌, ◌++◌, Option, None, Some, Result, Ok, Err, sym, ap, subst, append-nil, inl, inr, Appends, AppendsPart}
+use Rattle.std.proofs.Common.{IfSome, OnErr}
+use Rattle.std.specs.Prelude.{OnOk, codes, option_map}
 use Rattle.std.specs.Fmt.{WritesText, ◌++?◌}
 use Rattle.std.proofs.lemmas.Fmt.{contents_after_writes}
 use Rattle.gamesman.specs.LineRuns.{IsLineRun, IsOutputOf}

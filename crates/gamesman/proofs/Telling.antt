@@ -1,9 +1,10 @@
 -- The output of an answer about all of a game after a fault, and the tables for it.
-use Rattle.gamesman.proofs.Lower.{◌≡◌, ℕ, true, false, inl, inr, List, Option, None, Some, Result, Ok, Err, refl, sym, subst, ◌∙◌, Contains, Rules}
-use Rattle.gamesman.proofs.Lower.{PositionSearch, Fault, NoSuchGame, NoSuchPosition, NoSuchPositionInLine, NoSuchTier, NoSuchIndex, NotLegal, NotCanonical}
-use Rattle.gamesman.proofs.Lower.{OutOfMemory, NotBuilt, AnotherGames, InputFailed, OutputFailed, OutputClosed, TooMuchInput, EngineNotRead, NotAnEngine}
-use Rattle.gamesman.proofs.Lower.{IsCutOff, IsUnbuilt, IsMemoryFault, IsPut, GameSpec, IsFoundOf, IsFoundSoFar, IsLeft, AreFoundWith, IsUnsearched, first_of}
-use Rattle.gamesman.proofs.Lower.{nat_eq, eqb-true, eq-eqb, list_any, any_in, any_from, IsNoTier, IsNoPlace, IsUnknown, IsTold}
+use Rattle.gamesman.proofs.Lower.{◌≡◌, ℕ, true, false, inl, inr, List, Option, None, Some, Result, Ok, Err, refl, sym, subst, ◌∙◌, Contains, Rules, PositionSearch, Fault, NoSuchGame, NoSuchPosition, NoSuchPositionInLine, NoSuchTier, NoSuchIndex, NotLegal, NotCanonical, OutOfMemory, NotBuilt, AnotherGames, InputFailed, OutputFailed, OutputClosed, TooMuchInput, EngineNotRead, NotAnEngine, IsCutOff, IsUnbuilt, IsMemoryFault, IsPut, GameSpec, IsUnsearched, first_of}
+use Rattle.gamesman.specs.Finds.{IsFoundOf, IsFoundSoFar, IsLeft, AreFoundWith}
+use Rattle.std.proofs.Common.{nat_eq, eqb-true, eq-eqb}
+use Rattle.std.specs.List.{list_any}
+use Rattle.gm_game.proofs.Lists.{any_in, any_from}
+use Rattle.gamesman.specs.Told.{IsNoTier, IsNoPlace, IsUnknown, IsTold}
 use Rattle.gamesman.proofs.Cut.{kept_cut, cut_off, unbuilt_cut}
 
 module _ (IsText : List ℕ → Type 0) (o : Option (List ℕ)) where

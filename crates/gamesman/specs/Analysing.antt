@@ -1,7 +1,14 @@
 -- The output of `analyse`.
 use Rattle.std.specs.Prelude.{◌≡◌, ℕ, List, [], ◌∷◌, ◌++◌, codes, length, Option, None, Result}
-use Rattle.gamesman.specs.Lower.{compact_text, Rules, TableData, IsTable, IsTierOrder, Analysis, AreCounts, IsLongestWin, count_where, is_legal_at, has_record}
-use Rattle.gamesman.specs.Lower.{name_text, analysis_tree}
+use Rattle.serde_json.specs.Written.{compact_text}
+use Rattle.gm_game.specs.Rules.{Rules}
+use Rattle.gm_table.specs.Tables.{TableData, IsTable}
+use Rattle.gm_tiers.specs.Orders.{IsTierOrder}
+use Rattle.gm_analyse.specs.declared.analysis.Analysis.{Analysis}
+use Rattle.gm_analyse.specs.Listing.{AreRecordCounts}
+use Rattle.gm_analyse.specs.LongestWins.{IsLongestWin}
+use Rattle.gm_analyse.specs.Numbers.{count_where, is_legal_at, has_record}
+use Rattle.gm_analyse.specs.Tree.{name_text, analysis_tree}
 use Rattle.gamesman.specs.declared.fault.Fault.{Fault}
 use Rattle.gamesman.specs.Searches.{IsUnsearched}
 use Rattle.gamesman.specs.Told.{IsTold}
@@ -12,7 +19,7 @@ pub record IsAnalysisOf (r : Rules) (table : TableData) (a : Analysis) : Type 0 
   pub size : a.size ≡ length table.records
   pub legal : a.legal ≡ count_where (is_legal_at r table.tier) (length table.records)
   pub canonical : a.canonical ≡ count_where (has_record table.records) (length table.records)
-  pub counts : AreCounts table.records a.counts
+  pub counts : AreRecordCounts table.records a.counts
   pub longest_win : IsLongestWin table.records (length table.records) a.longest_win
 
 -- the line for a tier

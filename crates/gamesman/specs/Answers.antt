@@ -1,7 +1,21 @@
 -- The answer of each command.
 use Rattle.std.specs.Prelude.{◌≡◌, ℕ, max, List, [], Option, None, Some, Result, Ok, Err, IfErr}
-use Rattle.gamesman.specs.Lower.{Bor, Keeps, option_map, unknown_texts, Position, Rules, IsNoPosition, IsPlaceText, IsUnlocated, game_of_name, Question, PageRequest, Request}
-use Rattle.gamesman.specs.Lower.{GameCommand, TableCommand, IsPage}
+use Rattle.std.specs.Borrow.{Bor}
+use Rattle.std.specs.Io.KnownBytes.{Keeps}
+use Rattle.std.specs.Option.{option_map}
+use Rattle.gm_tierdb.specs.StoreTexts.{unknown_texts}
+use Rattle.gm_game.specs.declared.position.Position.{Position}
+use Rattle.gm_game.specs.Rules.{Rules}
+use Rattle.gm_play.specs.PlayTexts.{IsNoPosition}
+use Rattle.gm_play.specs.PlaceTexts.{IsPlaceText}
+use Rattle.gm_play.specs.Places.{IsUnlocated}
+use Rattle.gm_command.specs.Names.{game_of_name}
+use Rattle.gm_command.specs.declared.requests.Question.{Question}
+use Rattle.gm_command.specs.declared.requests.PageRequest.{PageRequest}
+use Rattle.gm_command.specs.declared.requests.Request.{Request}
+use Rattle.gm_command.specs.declared.requests.GameCommand.{GameCommand}
+use Rattle.gm_command.specs.declared.requests.TableCommand.{TableCommand}
+use Rattle.gm_page.specs.Pages.{IsPage}
 use Rattle.gm_command.specs.declared.requests.Request.TheVariants.{List as Names, Game, AllGames}
 use Rattle.gm_command.specs.declared.requests.GameCommand.TheVariants.{FromTables, Locate, Check}
 use Rattle.gm_command.specs.declared.requests.TableCommand.TheVariants.{Solve, Explore, Filter, Page, At, Find, Counts, Longest, Ask, Analyse, Play}
@@ -19,7 +33,7 @@ use Rattle.gamesman.specs.Solving.{IsSolvedBy}
 use Rattle.gamesman.specs.Checking.{IsCheckedBy}
 use Rattle.gamesman.specs.Analysing.{IsAnalysedBy}
 use Rattle.gamesman.specs.Plays.{IsPlayed}
-use Rattle.gamesman.specs.Listing.{listed}
+use Rattle.gamesman.specs.Listing.{listed_names}
 use Rattle.gamesman.specs.Told.{IsPut, IsTold}
 use Rattle.gamesman.specs.Engines.{IsEnginePaged, IsEveryGame}
 
@@ -94,7 +108,7 @@ IsAnsweredFor (Some g) command input before after result = IsAnswered g command 
 
 -- a request is answered
 abbrev pub IsDone : Request → Option (List ℕ) → Option (List ℕ) → Option (List ℕ) → Result ℕ Fault → Type 0
-IsDone (Names all) input before after result = IsPut (listed all) before after result
+IsDone (Names all) input before after result = IsPut (listed_names all) before after result
 IsDone (Game request) input before after result =
     IsAnsweredFor (option_map spec_of (game_of_name request.game.now)) request.command input before after result
 IsDone (AllGames engine) input before after result = IsEveryGame before after result

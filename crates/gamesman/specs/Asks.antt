@@ -1,8 +1,15 @@
 -- The output of the service that answers positions, when it ends.
 use Rattle.std.specs.Prelude.{◌≡◌, ℕ, ◌⊎◌, Bool, true, false, List, [], codes, Option, Result, Ok, Err}
-use Rattle.gamesman.specs.Lower.{Appends, Keeps, Position, Rules, IsTierOrder, AppendsPart, AskError, IsAnswer, IsServed, AskRequest}
+use Rattle.std.specs.Io.KnownBytes.{Appends, Keeps}
+use Rattle.gm_game.specs.declared.position.Position.{Position}
+use Rattle.gm_game.specs.Rules.{Rules}
+use Rattle.gm_tiers.specs.Orders.{IsTierOrder}
+use Rattle.gm_play.specs.Sessions.{AppendsPart}
+use Rattle.gm_json.specs.declared.ask_error.AskError.{AskError}
+use Rattle.gm_json.specs.Answers.{IsAnswer}
+use Rattle.gm_json.specs.Asking.{IsServed, IsServiceBroken}
+use Rattle.gm_command.specs.declared.requests.AskRequest.{AskRequest}
 use Rattle.gm_json.specs.declared.ask_error.AskError.TheVariants.{OutOfMemory as NoMemory, NotHeld, ReadFailed, WriteFailed, OutputClosed as Closed}
-use Rattle.gm_json.specs.Asking.{IsBroken}
 use Rattle.gamesman.specs.declared.fault.Fault.{Fault}
 use Rattle.gamesman.specs.declared.fault.Fault.TheVariants.{NoSuchPosition, OutOfMemory, InputFailed, OutputFailed, OutputClosed}
 use Rattle.gamesman.specs.Outputs.{IsOutputFault}
@@ -38,7 +45,7 @@ module _ (r : Rules) (shown : Position → List ℕ) (move_shown : Position → 
     pub tiers : List ℕ
     pub order : IsTierOrder r tiers
     pub ready : Appends before between (ready_text asked.ready)
-    pub broken : IsBroken (IsAnswer r shown move_shown asked.answer tiers) error input left between after
+    pub broken : IsServiceBroken (IsAnswer r shown move_shown asked.answer tiers) error input left between after
 
   -- the service answered all lines, or ended earlier: before it began, in its first line, or by an error
   abbrev pub IsAskedBy : (Fault → Type 0) → Option (List ℕ) → Option (List ℕ) → Option (List ℕ) → Result ℕ Fault → Type 0

@@ -1,10 +1,21 @@
 -- The output of `check` on the files of a game.
 use Rattle.std.specs.Prelude.{◌≡◌, ℕ, ◌⊎◌, List, [], ◌∷◌, ◌++◌, codes, Option, None, Some, IsTrue, Result, Ok, Err}
-use Rattle.gamesman.specs.Lower.{IsErrAnd, decimal, Keeps, Appends, Rules, TableData, AreTables, AreHeld, IsTierOrder, FileError, Refuses, IsTrueText}
-use Rattle.gamesman.specs.Lower.{IsUntrueText, StoreFailed, HoldsExactly, AppendsPart, StoreView}
+use Rattle.std.specs.Result.{IsErrAnd}
+use Rattle.std.specs.Fmt.{decimal}
+use Rattle.std.specs.Io.KnownBytes.{Keeps, Appends}
+use Rattle.gm_game.specs.Rules.{Rules}
+use Rattle.gm_table.specs.Tables.{TableData, AreTables, AreHeld}
+use Rattle.gm_tiers.specs.Orders.{IsTierOrder}
+use Rattle.gm_tierdb.specs.declared.file_error.FileError.{FileError}
+use Rattle.gm_tierdb.specs.Refusals.{Refuses}
+use Rattle.gm_build.specs.TrueTexts.{IsTrueText}
+use Rattle.gm_build.specs.Inspections.{IsUntrueText}
+use Rattle.gm_build.specs.declared.build_error.BuildError.TheVariants.{StoreFailed}
+use Rattle.gm_build.specs.Work.{HoldsExactly}
+use Rattle.gm_play.specs.Sessions.{AppendsPart}
+use Rattle.gm_tierdb.specs.StoreTexts.{StoreView}
 use Rattle.gm_table.specs.declared.checker.CheckError.TheVariants.{OutOfMemory as NoRoom, WrongSize, WrongRecord}
-use Rattle.gm_tierdb.specs.declared.file_error.FileError.TheVariants.{OutOfMemory, Truncated, BadMagic, WrongGame, WrongTier, WrongSize as OtherSize, BadRecord}
-use Rattle.gm_tierdb.specs.declared.file_error.FileError.TheVariants.{Trailing, BadDigest, OldVersion}
+use Rattle.gm_tierdb.specs.declared.file_error.FileError.TheVariants.{OutOfMemory, Truncated, BadMagic, WrongGame, WrongTier, WrongSize as OtherSize, BadRecord, Trailing, BadDigest, OldVersion}
 use Rattle.gm_build.specs.declared.inspect.Inspected.{Inspected}
 use Rattle.gm_build.specs.declared.inspect.Inspected.TheVariants.{Right as Found, Missing as Absent, NoFile as BadFile, NoTable as BadTable}
 use Rattle.gamesman.specs.declared.fault.Fault.{Fault}
@@ -44,17 +55,17 @@ finding_line tier finding = ((codes "tier " ++ decimal tier) ++ codes " ") ++ fi
 
 module _ (r : Rules) (entries : List TableData) (store : StoreView) (tier : ℕ) where
   -- the finding on these bytes, over the tables of the child tiers
-  abbrev pub IsFoundIn : List ℕ → Finding → Type 0
-  IsFoundIn bytes Right = IsTrueText r tier bytes
-  IsFoundIn bytes Missing = ⊥
-  IsFoundIn bytes NotChecked = ⊥
-  IsFoundIn bytes (NoFile why) = Refuses r tier bytes why × (IsTrueText r tier bytes → ⊥)
-  IsFoundIn bytes (NoTable why) = IsUntrueText r entries tier bytes why × (IsTrueText r tier bytes → ⊥)
+  abbrev pub IsFindingIn : List ℕ → Finding → Type 0
+  IsFindingIn bytes Right = IsTrueText r tier bytes
+  IsFindingIn bytes Missing = ⊥
+  IsFindingIn bytes NotChecked = ⊥
+  IsFindingIn bytes (NoFile why) = Refuses r tier bytes why × (IsTrueText r tier bytes → ⊥)
+  IsFindingIn bytes (NoTable why) = IsUntrueText r entries tier bytes why × (IsTrueText r tier bytes → ⊥)
 
   -- the finding on the bytes that were read, if there were any
-  abbrev pub IsFoundOf : Option (List ℕ) → Finding → Type 0
-  IsFoundOf None finding = finding ≡ Missing
-  IsFoundOf (Some bytes) finding = IsFoundIn bytes finding
+  abbrev pub IsFindingOf : Option (List ℕ) → Finding → Type 0
+  IsFindingOf None finding = finding ≡ Missing
+  IsFindingOf (Some bytes) finding = IsFindingIn bytes finding
 
   -- these are the tier's bytes, if the reads of the store are promised
   abbrev pub IsReadOf : Option (List ℕ) → Type 0
@@ -63,7 +74,7 @@ module _ (r : Rules) (entries : List TableData) (store : StoreView) (tier : ℕ)
   -- the finding on a tier's file, which is read exactly if the tables of all child tiers are held
   abbrev pub IsFinding : Finding → Type 0
   IsFinding finding =
-      ((finding ≡ NotChecked) × (AreHeld r entries tier → ⊥)) ⊎ (AreHeld r entries tier × ((read : Option (List ℕ)) × IsReadOf read × IsFoundOf read finding))
+      ((finding ≡ NotChecked) × (AreHeld r entries tier → ⊥)) ⊎ (AreHeld r entries tier × ((read : Option (List ℕ)) × IsReadOf read × IsFindingOf read finding))
 
 -- the finding for what an entry is found to be
 abbrev pub finding_for : {G : Type 0} → Inspected G → Finding
@@ -125,9 +136,9 @@ IsTierCut r entries store tier before after fault = (IsUnreadAt tier fault × Ke
     ⊎ (IsMemoryFault fault × Appends before after (finding_line tier finding))))
 
 -- the reason why a check ends before the remaining tiers: memory is refused, or the next tier's file can't be read
-abbrev pub IsUnread : List ℕ → Fault → Type 0
-IsUnread [] fault = IsMemoryFault fault
-IsUnread (tier ∷ tiers) fault = IsUnreadAt tier fault
+abbrev pub IsFileUnread : List ℕ → Fault → Type 0
+IsFileUnread [] fault = IsMemoryFault fault
+IsFileUnread (tier ∷ tiers) fault = IsUnreadAt tier fault
 
 -- a check ended early: the lines of the tiers before are written, or a first part of them if a write failed
 pub record IsCheckCut (r : Rules) (store : StoreView) (tiers : List ℕ) (before after : Option (List ℕ)) (fault : Fault) : Type 0 where
@@ -137,7 +148,7 @@ pub record IsCheckCut (r : Rules) (store : StoreView) (tiers : List ℕ) (before
   pub out : List ℕ
   pub status : ℕ
   pub lines : AreLines r store [] 0 done out status
-  pub written : (IsOutputFault fault × AppendsPart before after out) ⊎ (IsUnread left fault × Appends before after out)
+  pub written : (IsOutputFault fault × AppendsPart before after out) ⊎ (IsFileUnread left fault × Appends before after out)
 
 -- these tiers are checked in their order: a line for each is written, and the status shows whether all are right
 abbrev pub IsCheckOf : Rules → StoreView → List ℕ → Option (List ℕ) → Option (List ℕ) → Result ℕ Fault → Type 0

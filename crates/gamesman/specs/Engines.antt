@@ -1,10 +1,13 @@
 -- Pages with the engine.
 use Rattle.std.specs.Prelude.{◌≡◌, ◌⊎◌, ◌++◌, ℕ, true, false, List, [], ◌∷◌, Option, Result, Err, IfErr}
-use Rattle.gamesman.specs.Lower.{flat_map, IsNoPosition, AreDigits, IsPage, game_tree, with_viewer, script_line}
+use Rattle.std.specs.List.{flat_map}
+use Rattle.gm_play.specs.PlayTexts.{IsNoPosition}
+use Rattle.gm_page.specs.Engines.{AreDigits}
+use Rattle.gm_page.specs.Pages.{IsPage, game_tree, with_viewer}
+use Rattle.gm_page.specs.Scripts.{script_line}
 use Rattle.gamesman.specs.declared.fault.Fault.{Fault}
 use Rattle.gamesman.specs.declared.fault.Fault.TheVariants.{NoSuchPosition, OutOfMemory, EngineNotRead, NotAnEngine}
-use Rattle.gamesman.specs.Games.{GameSpec, countdown_spec, takeaway_spec, wheel_spec, nine_spec, mutorere_spec, dao_spec, hare_spec, pong_spec, shisima_spec}
-use Rattle.gamesman.specs.Games.{tapatan_spec, dodgem_spec, chess_spec, tactix_spec}
+use Rattle.gamesman.specs.Games.{GameSpec, countdown_spec, takeaway_spec, wheel_spec, nine_spec, mutorere_spec, dao_spec, hare_spec, pong_spec, shisima_spec, tapatan_spec, dodgem_spec, chess_spec, tactix_spec}
 use Rattle.gamesman.specs.Outputs.{IsWritten}
 use Rattle.gamesman.specs.Refusals.{IsRefused}
 use Rattle.gamesman.specs.Told.{IsTold}

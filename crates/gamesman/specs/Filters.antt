@@ -1,7 +1,14 @@
 -- The answers to the positions of the input, one in each line.
 use Rattle.std.specs.Prelude.{◌≡◌, ℕ, ◌+◌, ◌-◌, ◌^◌, min, ◌⊎◌, List, [], ◌∷◌, ◌++◌, length, take, Option, Result, Ok, Err}
-use Rattle.gamesman.specs.Lower.{Appends, Consumes, Keeps, IsAtEnd, Position, Rules, IsReached, without_return, IsReadAs, AppendsPart, kept_bytes, lines_of}
-use Rattle.gamesman.specs.Lower.{AreEnded, Question}
+use Rattle.std.specs.Io.KnownBytes.{Appends, Consumes, Keeps, IsAtEnd}
+use Rattle.gm_game.specs.declared.position.Position.{Position}
+use Rattle.gm_game.specs.Rules.{Rules}
+use Rattle.gm_tiers.specs.Reach.{IsReached}
+use Rattle.gm_play.specs.Dialogue.{without_return}
+use Rattle.gm_play.specs.PlayTexts.{IsReadAs}
+use Rattle.gm_play.specs.Sessions.{AppendsPart}
+use Rattle.gm_json.specs.Asking.{kept_bytes, lines_of, AreEnded}
+use Rattle.gm_command.specs.declared.requests.Question.{Question}
 use Rattle.gamesman.specs.declared.fault.Fault.{Fault}
 use Rattle.gamesman.specs.declared.fault.Fault.TheVariants.{NoSuchPositionInLine, OutOfMemory, InputFailed, OutputFailed, OutputClosed}
 use Rattle.gamesman.specs.Refusals.{IsUnbuilt}
@@ -14,10 +21,10 @@ last_number = 2 ^ 64 - 1
 
 module _ (IsText : List ℕ → List ℕ → Type 0) where
   -- such texts of these lines, one after the other; the text of a line is that of its first `kept_bytes` bytes, without the carriage return at its end
-  abbrev pub AreTexts : List (List ℕ) → List ℕ → Type 0
-  AreTexts [] out = out ≡ []
-  AreTexts (line ∷ lines) out = (text : List ℕ) × (rest : List ℕ) × IsText (without_return (take kept_bytes line)) text × (out ≡ text ++ rest) ×
-      AreTexts lines rest
+  abbrev pub AreLineTexts : List (List ℕ) → List ℕ → Type 0
+  AreLineTexts [] out = out ≡ []
+  AreLineTexts (line ∷ lines) out = (text : List ℕ) × (rest : List ℕ) × IsText (without_return (take kept_bytes line)) text × (out ≡ text ++ rest) ×
+      AreLineTexts lines rest
 
   -- these lines ended in the part of the input that was read, and such a text of each was written; for the line that has begun nothing was written
   pub record AreAnswered (lines : List (List ℕ)) (begun : List ℕ) (input left before after : Option (List ℕ)) : Type 0 where
@@ -25,7 +32,7 @@ module _ (IsText : List ℕ → List ℕ → Type 0) where
     pub text : List ℕ
     pub reads : Consumes input left bytes
     pub parts : AreEnded bytes lines begun
-    pub answers : AreTexts lines text
+    pub answers : AreLineTexts lines text
     pub writes : Appends before after text
 
   -- this line came to its end, and such a text of each line before it was written
@@ -35,7 +42,7 @@ module _ (IsText : List ℕ → List ℕ → Type 0) where
     pub text : List ℕ
     pub reads : Consumes input left bytes
     pub parts : lines_of bytes ≡ lines ++ line ∷ []
-    pub answers : AreTexts lines text
+    pub answers : AreLineTexts lines text
     pub writes : Appends before after text
 
   -- the input was read to its end, and such a text of each of its lines was written
@@ -45,12 +52,12 @@ module _ (IsText : List ℕ → List ℕ → Type 0) where
     pub text : List ℕ
     pub reads : Consumes input left bytes
     pub end : IsAtEnd left
-    pub answers : AreTexts (lines_of bytes) text
+    pub answers : AreLineTexts (lines_of bytes) text
     pub writes : Appends before after text
 
   -- each line that came to its end was answered, and the input or the memory failed
-  abbrev pub IsStopped : Option (List ℕ) → Option (List ℕ) → Option (List ℕ) → Type 0
-  IsStopped input before after = (lines : List (List ℕ)) × (begun : List ℕ) × (left : Option (List ℕ)) × AreAnswered lines begun input left before after
+  abbrev pub IsFilterStopped : Option (List ℕ) → Option (List ℕ) → Option (List ℕ) → Type 0
+  IsFilterStopped input before after = (lines : List (List ℕ)) × (begun : List ℕ) × (left : Option (List ℕ)) × AreAnswered lines begun input left before after
 
   -- a first part of the text of one line was written
   abbrev pub IsCutLine : Option (List ℕ) → Option (List ℕ) → Option (List ℕ) → Type 0
@@ -66,8 +73,8 @@ module _ (IsText : List ℕ → List ℕ → Type 0) where
     -- the progress before this fault
     abbrev pub IsLeftOff : Option (List ℕ) → Option (List ℕ) → Option (List ℕ) → Fault → Type 0
     IsLeftOff input before after (NoSuchPositionInLine n) = IsNoLine n input before after
-    IsLeftOff input before after (OutOfMemory error) = IsStopped input before after
-    IsLeftOff input before after InputFailed = IsStopped input before after
+    IsLeftOff input before after (OutOfMemory error) = IsFilterStopped input before after
+    IsLeftOff input before after InputFailed = IsFilterStopped input before after
     IsLeftOff input before after OutputFailed = IsCutLine input before after
     IsLeftOff input before after OutputClosed = IsCutLine input before after
     IsLeftOff input before after _ = ⊥

@@ -1,7 +1,23 @@
 -- The output of `find`.
 use Rattle.std.specs.Prelude.{◌≡◌, ◌++◌, ℕ, ◌⊎◌, List, [], ◌∷◌, codes, length, take, Option, None, Some, Result, Ok, Err, IfErr}
-use Rattle.gamesman.specs.Lower.{Keeps, Appends, flat_map, Rules, IsTierOrder, AppendsPart, Found, Choice, First, Random, AreFound, AreChosen, found_row}
-use Rattle.gamesman.specs.Lower.{found_line, Entry, AreEntries, sheet_of, LineForm, Rows, Json, Boards, Report, Lines, Sheet, PositionSearch, drawn}
+use Rattle.std.specs.Io.KnownBytes.{Keeps, Appends}
+use Rattle.std.specs.List.{flat_map}
+use Rattle.gm_game.specs.Rules.{Rules}
+use Rattle.gm_tiers.specs.Orders.{IsTierOrder}
+use Rattle.gm_play.specs.Sessions.{AppendsPart}
+use Rattle.gm_find.specs.declared.found.Found.{Found}
+use Rattle.gm_find.specs.declared.sought.Choice.{Choice}
+use Rattle.gm_find.specs.declared.sought.Choice.TheVariants.{First, Random}
+use Rattle.gm_find.specs.Founds.{AreFound, AreChosen}
+use Rattle.gm_find.specs.Rows.{found_row}
+use Rattle.gm_json.specs.Founds.{found_line}
+use Rattle.gm_page.specs.Sheets.{Entry, AreEntries, sheet_of}
+use Rattle.gm_command.specs.declared.requests.LineForm.{LineForm}
+use Rattle.gm_command.specs.declared.requests.LineForm.TheVariants.{Rows, Json, Boards}
+use Rattle.gm_command.specs.declared.requests.Report.{Report}
+use Rattle.gm_command.specs.declared.requests.Report.TheVariants.{Lines, Sheet}
+use Rattle.gm_command.specs.declared.requests.PositionSearch.{PositionSearch}
+use Rattle.gm_draw.specs.Pictures.{drawn}
 use Rattle.gamesman.specs.declared.fault.Fault.{Fault}
 use Rattle.gamesman.specs.declared.fault.Fault.TheVariants.{OutOfMemory, OutputFailed, OutputClosed}
 use Rattle.gamesman.specs.Games.{GameSpec}

@@ -1,12 +1,7 @@
 -- The games by their names: each with its rules, its texts and its drawings.
 use Rattle.std.specs.Prelude.{true, false}
 use Rattle.gm_command.specs.declared.names.GameName.{GameName}
-use Rattle.gm_command.specs.declared.names.GameName.TheVariants.{Countdown, Wheel, TacTix1, TacTix2, TacTix3, TacTix4, TacTix5, TacTix1Misere, TacTix2Misere}
-use Rattle.gm_command.specs.declared.names.GameName.TheVariants.{TacTix3Misere, TacTix4Misere, TacTix5Misere, TicTacToe, ThreeMens, Achi, MuTorere, Dao, Hare}
-use Rattle.gm_command.specs.declared.names.GameName.TheVariants.{PongHauKi, Shisima, Takeaway, Tapatan, Dodgem, Krk, Kqk, FoxHounds}
-use Rattle.gm_command.specs.declared.names.GameName.TheVariants.{TicTacToeMisere, Notakto, Hex3}
-use Rattle.gm_command.specs.declared.names.GameName.TheVariants.{Hexapawn, Picaria, Toads}
-use Rattle.gm_command.specs.declared.names.GameName.TheVariants.{Domineering4, Kayles}
+use Rattle.gm_command.specs.declared.names.GameName.TheVariants.{Countdown, Wheel, TacTix1, TacTix2, TacTix3, TacTix4, TacTix5, TacTix1Misere, TacTix2Misere, TacTix3Misere, TacTix4Misere, TacTix5Misere, TicTacToe, ThreeMens, Achi, MuTorere, Dao, Hare, PongHauKi, Shisima, Takeaway, Tapatan, Dodgem, Krk, Kqk, FoxHounds, TicTacToeMisere, Notakto, Hex3, Hexapawn, Picaria, Toads, Domineering4, Kayles}
 pub use Rattle.gm_draw.specs.GameSpecs.{GameSpec, game_spec}
 pub use Rattle.gm_dao.specs.DaoPicture.{dao_spec}
 pub use Rattle.gm_dodgem.specs.DodgemPicture.{dodgem_spec}

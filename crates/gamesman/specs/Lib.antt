@@ -14,8 +14,7 @@ pub mod Analysing
 pub mod Listing
 pub mod Plays
 pub mod Engines
-pub mod Needed
 pub mod Answers
 pub mod Reasons
 pub mod LineRuns
-pub mod Lower
+pub mod inner

@@ -2,7 +2,7 @@
 use Rattle.std.specs.Prelude.{◌≡◌, ◌⊎◌, ℕ, ◌≤◌, List, Option, Some, codes}
 use Rattle.gm_command.specs.Contents.{content_of}
 use Rattle.gm_command.specs.Readings.{AsksForHelp, IsBadLine, Say}
-use Rattle.gamesman.specs.Lower.{Request}
+use Rattle.gm_command.specs.declared.requests.Request.{Request}
 use Rattle.gamesman.specs.Answers.{IsRun}
 
 -- what is written to standard error for a bad line

@@ -1,6 +1,7 @@
 -- The output of a command when it ends.
 use Rattle.std.specs.Prelude.{◌≡◌, ℕ, List, ◌++◌, codes, Option, Result, Ok, Err}
-use Rattle.gamesman.specs.Lower.{Keeps, Appends, AppendsPart}
+use Rattle.std.specs.Io.KnownBytes.{Keeps, Appends}
+use Rattle.gm_play.specs.Sessions.{AppendsPart}
 use Rattle.gamesman.specs.declared.fault.Fault.{Fault}
 use Rattle.gamesman.specs.declared.fault.Fault.TheVariants.{OutputFailed, OutputClosed}
 
@@ -22,5 +23,5 @@ IsWritten IsText before after (Ok status) = (status ≡ 0) × ((text : List ℕ)
 IsWritten IsText before after (Err fault) = IsCutOff IsText before after fault
 
 -- a line: such a text and its end
-abbrev pub IsLine : (List ℕ → Type 0) → List ℕ → Type 0
-IsLine IsText line = (text : List ℕ) × IsText text × (line ≡ text ++ codes "\n")
+abbrev pub IsTextLine : (List ℕ → Type 0) → List ℕ → Type 0
+IsTextLine IsText line = (text : List ℕ) × IsText text × (line ≡ text ++ codes "\n")

@@ -1,7 +1,21 @@
 -- The input that a session of play has read and its output, when it ends.
 use Rattle.std.specs.Prelude.{◌≡◌, ℕ, ◌⊎◌, Bool, true, false, List, [], ◌++◌, codes, Option, None, Some, Result, Ok, Err, if◌then◌else◌}
-use Rattle.gamesman.specs.Lower.{Bor, bytes_eq, Appends, Keeps, Position, Rules, Side, You, Computer, IsWonIn, IsEven, SessionError, Advice, IsKnown, unseen}
-use Rattle.gamesman.specs.Lower.{EndsWon, EndsUnlost, WritesOne, IsReadAs, IsNoPosition, IsSession, IsBroken, AppendsPart, sight, PlayRequest, PictureSpec}
+use Rattle.std.specs.Borrow.{Bor}
+use Rattle.std.specs.Str.{bytes_eq}
+use Rattle.std.specs.Io.KnownBytes.{Appends, Keeps}
+use Rattle.gm_game.specs.declared.position.Position.{Position}
+use Rattle.gm_game.specs.Rules.{Rules}
+use Rattle.gm_play.specs.declared.sides.Side.{Side}
+use Rattle.gm_play.specs.declared.sides.Side.TheVariants.{You, Computer}
+use Rattle.gm_play.specs.Sides.{IsWonIn, IsEven}
+use Rattle.gm_play.specs.declared.session_error.SessionError.{SessionError}
+use Rattle.gm_play.specs.Dialogue.{Advice, IsRightAdvice, unseen}
+use Rattle.gm_play.specs.LastLines.{EndsWon, EndsUnlost, WritesOne}
+use Rattle.gm_play.specs.PlayTexts.{IsReadAs, IsNoPosition}
+use Rattle.gm_play.specs.Sessions.{IsSession, IsBroken, AppendsPart}
+use Rattle.gm_page.specs.Sights.{sight}
+use Rattle.gm_command.specs.declared.requests.PlayRequest.{PlayRequest}
+use Rattle.gm_draw.specs.Pictures.{PictureSpec}
 use Rattle.gm_play.specs.declared.view.Question.{Question}
 use Rattle.gm_play.specs.declared.session_error.SessionError.TheVariants.{ReadFailed, WriteFailed, TooMuchInput as TooMuch, OutputClosed as Closed}
 use Rattle.gamesman.specs.declared.fault.Fault.{Fault}
@@ -48,28 +62,28 @@ module _ (r : Rules) (shown : Position → List ℕ) (move_shown : Position → 
   module _ (asked : PlayRequest) (start : Position) where
     -- the opening is written and then a session held, by every look-up of true values and best moves, of which there is at least one. If the computer can
     -- win, it wins in the end unless the person leaves. If the start is even, it doesn't lose
-    pub record IsHeld (input before after : Option (List ℕ)) : Type 0 where
+    pub record IsSessionHeld (input before after : Option (List ℕ)) : Type 0 where
       pub left : Option (List ℕ)
       pub between : Option (List ℕ)
       pub opened : Appends before between (opening asked.drawn (picture.mover start) asked.first)
-      pub session : (k : Advice) → IsKnown r start.tier k
+      pub session : (k : Advice) → IsRightAdvice r start.tier k
           → IsSession r shown move_shown k (seen_by asked.drawn) start asked.first input left between after
       pub won : (n : ℕ) → IsWonIn r start asked.first n → WritesOne EndsWon between after
       pub even : IsEven r start → WritesOne EndsUnlost between after
-      pub known : (k : Advice) × IsKnown r start.tier k
+      pub known : (k : Advice) × IsRightAdvice r start.tier k
 
     -- the session ended by this error after the opening
     pub record IsCutShort (error : SessionError) (input before after : Option (List ℕ)) : Type 0 where
       pub left : Option (List ℕ)
       pub between : Option (List ℕ)
       pub opened : Appends before between (opening asked.drawn (picture.mover start) asked.first)
-      pub broken : (k : Advice) → IsKnown r start.tier k
+      pub broken : (k : Advice) → IsRightAdvice r start.tier k
           → IsBroken r shown move_shown k (seen_by asked.drawn) start asked.first error input left between after
-      pub known : (k : Advice) × IsKnown r start.tier k
+      pub known : (k : Advice) × IsRightAdvice r start.tier k
 
     -- a session is held, or ends by a fault: in its opening, or later by an error
     abbrev pub IsSitting : Option (List ℕ) → Option (List ℕ) → Option (List ℕ) → Result ℕ Fault → Type 0
-    IsSitting input before after (Ok status) = (status ≡ 0) × IsHeld input before after
+    IsSitting input before after (Ok status) = (status ≡ 0) × IsSessionHeld input before after
     IsSitting input before after (Err fault) =
         (IsOutputFault fault × AppendsPart before after (opening asked.drawn (picture.mover start) asked.first))
         ⊎ ((error : SessionError) × IsSessionFault error fault × IsCutShort error input before after)

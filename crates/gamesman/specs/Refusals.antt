@@ -1,6 +1,12 @@
 -- Why a command is refused.
 use Rattle.std.specs.Prelude.{ℕ, Bool, true, List}
-use Rattle.gamesman.specs.Lower.{Position, Rules, IsReachedFrom, BuildError, StoreFailed, IsBuildError, IsReadAs, IsNoPosition}
+use Rattle.gm_game.specs.declared.position.Position.{Position}
+use Rattle.gm_game.specs.Rules.{Rules}
+use Rattle.gm_tiers.specs.Reach.{IsReachedFrom}
+use Rattle.gm_build.specs.declared.build_error.BuildError.{BuildError}
+use Rattle.gm_build.specs.declared.build_error.BuildError.TheVariants.{StoreFailed}
+use Rattle.gm_build.specs.Outcomes.{IsBuildError}
+use Rattle.gm_play.specs.PlayTexts.{IsReadAs, IsNoPosition}
 use Rattle.gamesman.specs.declared.fault.Fault.{Fault}
 use Rattle.gamesman.specs.declared.fault.Fault.TheVariants.{NoSuchPosition, OutOfMemory, NotBuilt, AnotherGames, OutputFailed, OutputClosed}
 

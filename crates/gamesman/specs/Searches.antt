@@ -1,6 +1,14 @@
 -- The answers of the commands that read all tables of a game, or one place in them.
 use Rattle.std.specs.Prelude.{ℕ, ◌⊎◌, Bool, List, Option, None, Some, Result}
-use Rattle.gamesman.specs.Lower.{Position, Rules, IsReached, IsTierOrder, IsAt, IsPositionText, IsCountsText, IsLongestText, CountsRequest}
+use Rattle.gm_game.specs.declared.position.Position.{Position}
+use Rattle.gm_game.specs.Rules.{Rules}
+use Rattle.gm_tiers.specs.Reach.{IsReached}
+use Rattle.gm_tiers.specs.Orders.{IsTierOrder}
+use Rattle.gm_play.specs.Places.{IsAt}
+use Rattle.gm_play.specs.PlaceTexts.{IsPositionText}
+use Rattle.gm_analyse.specs.Bars.{IsCountsText}
+use Rattle.gm_analyse.specs.Longest.{IsLongestText}
+use Rattle.gm_command.specs.declared.requests.CountsRequest.{CountsRequest}
 use Rattle.gamesman.specs.declared.fault.Fault.{Fault}
 use Rattle.gamesman.specs.Refusals.{IsUnbuilt}
 use Rattle.gamesman.specs.Told.{IsNoPlace, IsUnknown, IsTold}

@@ -1,6 +1,10 @@
 -- The output of `solve`.
 use Rattle.std.specs.Prelude.{◌≡◌, ℕ, List, ◌++◌, codes, Option, None, Result}
-use Rattle.gamesman.specs.Lower.{decimal, Rules, IsTierOrder, IsSomeWork, Work}
+use Rattle.std.specs.Fmt.{decimal}
+use Rattle.gm_game.specs.Rules.{Rules}
+use Rattle.gm_tiers.specs.Orders.{IsTierOrder}
+use Rattle.gm_build.specs.Work.{IsSomeWork}
+use Rattle.gm_build.specs.declared.work.Work.{Work}
 use Rattle.gamesman.specs.declared.fault.Fault.{Fault}
 use Rattle.gamesman.specs.Told.{IsTold}
 use Rattle.gamesman.specs.Searches.{IsUnsearched}

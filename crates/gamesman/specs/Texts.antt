@@ -1,18 +1,25 @@
 -- The texts about a position: the answers to questions about it.
 use Rattle.std.specs.Prelude.{ℕ, Bool, true, false, List}
-use Rattle.gamesman.specs.Lower.{Position, Rules, IsAnswerText, AreMoveRows, IsLineText, IsWhyText, IsLineJson, IsMovesJson, IsShowText, IsDiagram}
-use Rattle.gamesman.specs.Lower.{Question, Value, Moves, Why, Line, Show, Diagram}
+use Rattle.gm_game.specs.declared.position.Position.{Position}
+use Rattle.gm_game.specs.Rules.{Rules}
+use Rattle.gm_play.specs.PlayTexts.{IsAnswerText, AreMoveRows, IsLineText}
+use Rattle.gm_play.specs.Why.{IsWhyText}
+use Rattle.gm_json.specs.Lines.{IsLineJson}
+use Rattle.gm_json.specs.Moves.{IsMovesJson}
+use Rattle.gm_page.specs.ShowTexts.{IsShowText, IsDiagram}
+use Rattle.gm_command.specs.declared.requests.Question.{Question}
+use Rattle.gm_command.specs.declared.requests.Question.TheVariants.{Value, Moves, Why, Line, Show, Diagram}
 use Rattle.gamesman.specs.Games.{GameSpec}
-use Rattle.gamesman.specs.Outputs.{IsLine}
+use Rattle.gamesman.specs.Outputs.{IsTextLine}
 
 module _ (r : Rules) (shown : Position → List ℕ) (move_shown : Position → ℕ → List ℕ) (position : List ℕ) where
   -- the line that `query` writes: the text of the true value of the position with this text
   abbrev pub IsQueryLine : List ℕ → Type 0
-  IsQueryLine = IsLine (IsAnswerText r shown move_shown position)
+  IsQueryLine = IsTextLine (IsAnswerText r shown move_shown position)
 
   -- its moves: as a line of JSON, or as rows
   abbrev pub IsMovesText : Bool → Bool → List ℕ → Type 0
-  IsMovesText distinct true = IsLine (IsMovesJson r shown move_shown distinct position)
+  IsMovesText distinct true = IsTextLine (IsMovesJson r shown move_shown distinct position)
   IsMovesText distinct false = AreMoveRows r shown move_shown distinct position
 
 -- the answer to a question about the position with this text

@@ -1,6 +1,10 @@
 -- The output of a command that is not about one position, and the reason for a refusal.
 use Rattle.std.specs.Prelude.{◌≡◌, ℕ, ◌⊎◌, List, Option, Result, Ok, Err, IfErr}
-use Rattle.gamesman.specs.Lower.{Appends, Rules, IsReached, IsRefusedAt, AppendsPart}
+use Rattle.std.specs.Io.KnownBytes.{Appends}
+use Rattle.gm_game.specs.Rules.{Rules}
+use Rattle.gm_tiers.specs.Reach.{IsReached}
+use Rattle.gm_play.specs.Places.{IsRefusedAt}
+use Rattle.gm_play.specs.Sessions.{AppendsPart}
 use Rattle.gm_play.specs.declared.places.PlaceError.TheVariants.{NoSuchTier as NoTier, NoSuchIndex as NoIndex, NotLegal as Illegal, NotCanonical as Uncanonical}
 use Rattle.gamesman.specs.declared.fault.Fault.{Fault}
 use Rattle.gamesman.specs.declared.fault.Fault.TheVariants.{NoSuchTier, NoSuchIndex, NotLegal, NotCanonical, OutOfMemory}

@@ -1,6 +1,7 @@
 //! The counts of a game, tier by tier.
 ghost use Rattle.std.specs.Prelude.{◌≡◌, ◌++◌, ℕ, List, IfOk, OnOk, string_bytes};
-ghost use Rattle.gamesman.specs.Lower.{IsHeld, HoldsExactly};
+ghost use Rattle.gm_table.specs.Tables.{IsHeld};
+ghost use Rattle.gm_build.specs.Work.{HoldsExactly};
 ghost use Rattle.gamesman.specs.Analysing.{IsAnalysisLine, AreAnalysisLines};
 
 use gm_analyse::analysis::analyse as count;

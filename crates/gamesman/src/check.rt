@@ -1,6 +1,12 @@
 //! The check of a folder, tier by tier.
 ghost use Rattle.std.specs.Prelude.{◌≡◌, ◌≤◌, ◌<◌, ℕ, List, [], IsTrue, IfOk, OnOk, IfErr};
-ghost use Rattle.gamesman.specs.Lower.{AreSame, store_view, unknown_texts, Contains, Appends, AreTables, HoldsExactly, IsReadError, IsTierOrder};
+ghost use Rattle.gm_tierdb.specs.StoreTexts.{AreSame, store_view, unknown_texts};
+ghost use Rattle.std.specs.List.{Contains};
+ghost use Rattle.std.specs.Io.KnownBytes.{Appends};
+ghost use Rattle.gm_table.specs.Tables.{AreTables};
+ghost use Rattle.gm_build.specs.Work.{HoldsExactly};
+ghost use Rattle.gm_build.specs.Outcomes.{IsReadError};
+ghost use Rattle.gm_tiers.specs.Orders.{IsTierOrder};
 ghost use Rattle.gamesman.specs.Refusals.{IsUnbuilt};
 ghost use Rattle.gamesman.specs.Checking.{finding_for, table_found, finding_line, IsFinding, IsTableFor, right_with, IsUnreadAt, IsTierCut, IsCheckOf, IsCheckedBy};
 

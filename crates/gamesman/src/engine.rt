@@ -1,6 +1,6 @@
 //! The engine, for a browser that solves the games itself, and the page of all games with it.
 ghost use Rattle.std.specs.Prelude.{◌≡◌, [], IfOk, IfErr, OnOk};
-ghost use Rattle.gamesman.specs.Lower.{AreDigits};
+ghost use Rattle.gm_page.specs.Engines.{AreDigits};
 ghost use Rattle.gamesman.specs.Engines.{IsEngineFault, IsEveryGame, games_page};
 
 use crate::every_game::push_games;

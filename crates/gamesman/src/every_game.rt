@@ -1,6 +1,6 @@
 //! The lines of the page of all games: those that the engine solves, those with the most to see first.
 ghost use Rattle.std.specs.Prelude.{◌≡◌, ◌++◌, OnOk};
-ghost use Rattle.gamesman.specs.Lower.{flat_map};
+ghost use Rattle.std.specs.List.{flat_map};
 ghost use Rattle.gamesman.specs.Engines.{game_line, line_games, board_games, tactix_games, number_games, engine_games};
 
 use gm_dao::dao::Dao;

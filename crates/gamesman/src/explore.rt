@@ -1,8 +1,8 @@
 //! The answers to questions about a position: the values of its moves, and best play from it.
 ghost use Rattle.std.specs.Prelude.{◌≡◌, ◌++◌, codes, IfOk};
-ghost use Rattle.gamesman.specs.Lower.{IsMovesJson};
+ghost use Rattle.gm_json.specs.Moves.{IsMovesJson};
 ghost use Rattle.gamesman.specs.Games.{game_spec};
-ghost use Rattle.gamesman.specs.Outputs.{IsLine};
+ghost use Rattle.gamesman.specs.Outputs.{IsTextLine};
 ghost use Rattle.gamesman.specs.Texts.{IsQueryLine, IsMovesText, IsTextFor};
 
 use gm_command::requests::Question;
@@ -59,7 +59,7 @@ fn moves_line<G: Shown>(
     known: &Known<'_, G>,
     distinct: bool,
 ) -> Result<Vec<u8>, AllocError>
-    ensures { IfOk result (λ v. IsLine (IsMovesJson G.Game.rules G.shown G.move_shown distinct (G.shown known.now.position)) v.items) }
+    ensures { IfOk result (λ v. IsTextLine (IsMovesJson G.Game.rules G.shown G.move_shown distinct (G.shown known.now.position)) v.items) }
 {
     let mut line = moves_json(alloc, known, distinct)?;
     line.extend_from_slice(b"\n")?;

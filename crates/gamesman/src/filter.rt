@@ -1,6 +1,8 @@
 //! Questions about the positions of the input, one in each line.
 ghost use Rattle.std.specs.Prelude.{List, ℕ, IfErr, OnOk};
-ghost use Rattle.gamesman.specs.Lower.{Appends, IsTierOrder, HoldsExactly};
+ghost use Rattle.std.specs.Io.KnownBytes.{Appends};
+ghost use Rattle.gm_tiers.specs.Orders.{IsTierOrder};
+ghost use Rattle.gm_build.specs.Work.{HoldsExactly};
 ghost use Rattle.gm_play.specs.Dialogue.{without_return as without_return_spec};
 ghost use Rattle.gamesman.specs.Games.{game_spec};
 ghost use Rattle.gamesman.specs.Texts.{IsTextFor};

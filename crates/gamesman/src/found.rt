@@ -1,6 +1,13 @@
 //! Printing the positions that a search finds.
 ghost use Rattle.std.specs.Prelude.{◌≡◌, ◌⊎◌, ◌++◌, ℕ, List, [], ◌∷◌, IfOk, OnOk, IfErr, is_some};
-ghost use Rattle.gamesman.specs.Lower.{All, flat_map, IsOrderFrom, HoldsExactly, AreAllHeld, AreChosen, IsFound, Found, First, Lines};
+ghost use Rattle.std.specs.List.{All, flat_map};
+ghost use Rattle.gm_tiers.specs.Orders.{IsOrderFrom};
+ghost use Rattle.gm_build.specs.Work.{HoldsExactly};
+ghost use Rattle.gm_play.specs.Reached.{AreAllHeld};
+ghost use Rattle.gm_find.specs.Founds.{AreChosen, IsFound};
+ghost use Rattle.gm_find.specs.declared.found.Found.{Found};
+ghost use Rattle.gm_find.specs.declared.sought.Choice.TheVariants.{First};
+ghost use Rattle.gm_command.specs.declared.requests.Report.TheVariants.{Lines};
 ghost use Rattle.gamesman.specs.Games.{game_spec};
 ghost use Rattle.gamesman.specs.Outputs.{IsOutputFault};
 ghost use Rattle.gamesman.specs.Told.{IsMemoryFault};

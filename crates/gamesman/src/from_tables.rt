@@ -1,8 +1,9 @@
 //! The commands that are answered from tables: the tables are built once, and then one function writes the answer.
-ghost use Rattle.gamesman.specs.Lower.{IsOrderFrom, HoldsExactly, IsSomeWork};
+ghost use Rattle.gm_tiers.specs.Orders.{IsOrderFrom};
+ghost use Rattle.gm_build.specs.Work.{HoldsExactly, IsSomeWork};
 ghost use Rattle.std.specs.Prelude.{◌≡◌, true};
 ghost use Rattle.gamesman.specs.Games.{game_spec};
-ghost use Rattle.gamesman.specs.Needed.{IsNeeded};
+ghost use Rattle.gamesman.specs.inner.Needed.{IsNeeded};
 ghost use Rattle.gamesman.specs.Answers.{IsAnsweredFromTables};
 
 use crate::analyse::analysis_lines;

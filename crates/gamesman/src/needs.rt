@@ -1,10 +1,10 @@
 //! What a command needs before tables are built.
 ghost use Rattle.std.specs.Prelude.{◌≡◌, ◌⊎◌, ℕ, List, [], Option, Err, IfOk, OnOk, IfErr};
-ghost use Rattle.gamesman.specs.Lower.{IsReached};
+ghost use Rattle.gm_tiers.specs.Reach.{IsReached};
 ghost use Rattle.gamesman.specs.Games.{game_spec};
 ghost use Rattle.gamesman.specs.Told.{IsNoPlace, IsUnknown};
 ghost use Rattle.gamesman.specs.Searches.{first_of, IsUnnamed};
-ghost use Rattle.gamesman.specs.Needed.{IsAbout, IsAboutNone, IsAtPlace, IsNeeded, AreDigitsOf, IsEngineFaultOf};
+ghost use Rattle.gamesman.specs.inner.Needed.{IsAbout, IsAboutNone, IsAtPlace, IsNeeded, AreDigitsOf, IsEngineFaultOf};
 ghost use Rattle.gamesman.specs.Answers.{IsAnsweredFromTables};
 
 use crate::engine::read_engine;

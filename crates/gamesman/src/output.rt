@@ -1,6 +1,7 @@
 //! Writing to standard output.
 ghost use Rattle.std.specs.Prelude.{◌≡◌, ◌≤◌, ◌++◌, codes, length, Err, IfOk, IfErr, OnErr, OnOk};
-ghost use Rattle.gamesman.specs.Lower.{Appends, AppendsPart};
+ghost use Rattle.std.specs.Io.KnownBytes.{Appends};
+ghost use Rattle.gm_play.specs.Sessions.{AppendsPart};
 ghost use Rattle.gamesman.specs.Outputs.{IsOutputFault};
 ghost use Rattle.gamesman.specs.Told.{IsPut};
 

@@ -1,7 +1,10 @@
 //! A session of play, from the start of a game or from a position.
 ghost use Rattle.std.specs.Prelude.{◌≡◌, ◌++◌, ℕ, codes, IfErr, OnErr, OnOk};
-ghost use Rattle.gamesman.specs.Lower.{Appends, IsWonIn, IsEven, Advice, IsKnown, EndsWon, EndsUnlost, WritesOne, IsSession};
-ghost use Rattle.gamesman.specs.Lower.{IsBroken, AppendsPart};
+ghost use Rattle.std.specs.Io.KnownBytes.{Appends};
+ghost use Rattle.gm_play.specs.Sides.{IsWonIn, IsEven};
+ghost use Rattle.gm_play.specs.Dialogue.{Advice, IsRightAdvice};
+ghost use Rattle.gm_play.specs.LastLines.{EndsWon, EndsUnlost, WritesOne};
+ghost use Rattle.gm_play.specs.Sessions.{IsSession, IsBroken, AppendsPart};
 ghost use Rattle.gamesman.specs.Outputs.{IsOutputFault};
 ghost use Rattle.gamesman.specs.Plays.{first_text as first_text_spec, whose_text as whose_text_spec, sides_text, opening, seen_by, IsSitting};
 
@@ -91,16 +94,16 @@ fn sit<G: Pictured, I: Read, O: Write>(
     input: &mut I,
     output: &mut O,
 ) -> Result<(), SessionError>
-    ensures ok { (k : Advice) → IsKnown G.Game.rules known.now.position.tier k
+    ensures ok { (k : Advice) → IsRightAdvice G.Game.rules known.now.position.tier k
         → OnOk result (IsSession G.Game.rules G.shown G.move_shown k (seen_by G.Game.rules G.shown G.move_shown G.picture drawn)
         known.now.position first (I.remaining input.old) (I.remaining input.new) (O.contents output.old) (O.contents output.new)) }
-    ensures err { (k : Advice) → IsKnown G.Game.rules known.now.position.tier k
+    ensures err { (k : Advice) → IsRightAdvice G.Game.rules known.now.position.tier k
         → IfErr result (λ e. IsBroken G.Game.rules G.shown G.move_shown k (seen_by G.Game.rules G.shown G.move_shown G.picture drawn)
         known.now.position first e (I.remaining input.old) (I.remaining input.new) (O.contents output.old) (O.contents output.new)) }
     ensures won { (n : ℕ) → IsWonIn G.Game.rules known.now.position first n
         → OnOk result (WritesOne EndsWon (O.contents output.old) (O.contents output.new)) }
     ensures even { IsEven G.Game.rules known.now.position → OnOk result (WritesOne EndsUnlost (O.contents output.old) (O.contents output.new)) }
-    ensures known { (k : Advice) × IsKnown G.Game.rules known.now.position.tier k }
+    ensures known { (k : Advice) × IsRightAdvice G.Game.rules known.now.position.tier k }
 {
     if drawn {
         session_with::<G, Boards, I, O>(known, first, input, output)

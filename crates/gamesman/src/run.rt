@@ -1,8 +1,8 @@
 //! Running a line of words, from the program's name to the exit status.
 ghost use Rattle.std.specs.Prelude.{◌≡◌, map, IfOk, IfSome};
-ghost use Rattle.gamesman.specs.Lower.{AppendsPart};
+ghost use Rattle.gm_play.specs.Sessions.{AppendsPart};
 ghost use Rattle.gamesman.specs.Told.{IsPut};
-ghost use Rattle.gamesman.specs.Listing.{listed};
+ghost use Rattle.gamesman.specs.Listing.{listed_names};
 ghost use Rattle.gamesman.specs.Answers.{IsDone, IsRun};
 ghost use Rattle.gamesman.specs.LineRuns.{IsLineRun, bad_line};
 ghost use Rattle.gamesman.specs.Reasons.{line_for};
@@ -45,7 +45,7 @@ pub struct Manner {
 const LINE: usize = 192;
 
 fn list<O: Write>(all: bool, output: &mut O) -> Result<u8, Fault>
-    ensures { IsPut (listed all) (O.contents output.old) (O.contents output.new) result }
+    ensures { IsPut (listed_names all) (O.contents output.old) (O.contents output.new) result }
 {
     put(output, LISTED.as_bytes())?;
     if all {

@@ -1,6 +1,11 @@
 //! The texts about all tables of a game, and the service that answers positions.
 ghost use Rattle.std.specs.Prelude.{◌≡◌, None, IfOk, OnOk, OnErr, IfErr, is_some};
-ghost use Rattle.gamesman.specs.Lower.{Appends, IsTierOrder, HoldsExactly, AppendsPart, IsCountsText, IsLongestText};
+ghost use Rattle.std.specs.Io.KnownBytes.{Appends};
+ghost use Rattle.gm_tiers.specs.Orders.{IsTierOrder};
+ghost use Rattle.gm_build.specs.Work.{HoldsExactly};
+ghost use Rattle.gm_play.specs.Sessions.{AppendsPart};
+ghost use Rattle.gm_analyse.specs.Bars.{IsCountsText};
+ghost use Rattle.gm_analyse.specs.Longest.{IsLongestText};
 ghost use Rattle.gamesman.specs.Outputs.{IsOutputFault};
 ghost use Rattle.gamesman.specs.Asks.{ready_text, IsAskedBy};
 ghost use Rattle.gamesman.specs.Searches.{IsUnsearched};

@@ -1,6 +1,9 @@
 //! The tables of a game, in a folder or in memory.
 ghost use Rattle.std.specs.Prelude.{◌≡◌, ◌<◌, ℕ, IfOk, IfErr, IfSome};
-ghost use Rattle.gamesman.specs.Lower.{Contains, Rules, IsOrderFrom, HoldsExactly, IsSomeWork};
+ghost use Rattle.std.specs.List.{Contains};
+ghost use Rattle.gm_game.specs.Rules.{Rules};
+ghost use Rattle.gm_tiers.specs.Orders.{IsOrderFrom};
+ghost use Rattle.gm_build.specs.Work.{HoldsExactly, IsSomeWork};
 ghost use Rattle.gamesman.specs.Shelves.{failed_in};
 ghost use Rattle.gamesman.specs.Refusals.{IsUnbuilt, reason_of};
 

@@ -1,7 +1,12 @@
 -- Numbers of indexes with one index more.
-use Rattle.gm_analyse.proofs.Lower.{◌≡◌, ℕ, zero, suc, ◌≤◌, ◌+◌, ◌==◌, Bool, true, false, if◌then◌else◌, List, get_or, refl, sym, ap, ◌∙◌, subst, arith, inl}
-use Rattle.gm_analyse.proofs.Lower.{inr, Option, None, Some, cases_eq, same_Some, Position, Solved, Value, Rules, IsRecord, record_at, count_where, rank}
-use Rattle.gm_analyse.proofs.Lower.{remoteness_in, is_solved, number_in, eq-eqb, ne_eqb, is_level}
+use Rattle.gm_analyse.proofs.Lower.{◌≡◌, ℕ, suc, ◌≤◌, ◌+◌, ◌==◌, Bool, true, false, List, get_or, refl, sym, ap, ◌∙◌, subst, arith, inl, inr, Option, None, Some, Position, Solved, Value, Rules, count_where, number_in}
+use Rattle.std.proofs.Common.{zero, if◌then◌else◌, eq-eqb, ne_eqb}
+use Rattle.std.proofs.lemmas.Bool.{cases_eq}
+use Rattle.std.proofs.lemmas.Option.{same_Some}
+use Rattle.gm_game.specs.Records.{IsRecord}
+use Rattle.gm_table.specs.Tables.{record_at}
+use Rattle.gm_analyse.specs.Numbers.{value_rank, remoteness_in, is_solved}
+use Rattle.gm_table.specs.Levels.{is_level}
 
 count_more : (test : ℕ → Bool) (n : ℕ) → count_where test (n + 1) ≡ (if test n then count_where test n + 1 else count_where test n)
 count_more test n = let e : n + 1 ≡ suc n = omega arith in rw e refl
@@ -18,7 +23,7 @@ count_le test (suc n) = one_at_most (test n) (count_where test n) n (count_le te
 pub within_limit : (r : Rules) (limit : ℕ) (Is : Position → Solved → Type 0) (p : Position) (v : Value) (o : Option Solved) (m : ℕ) → IsRecord r limit Is p
     o → Some m ≡ remoteness_in v o → m ≤ limit
 within_limit r limit Is p v None m h e = absurd (cc)
-within_limit r limit Is p v (Some s) m h e = go (rank s.value == rank v) e
+within_limit r limit Is p v (Some s) m h e = go (value_rank s.value == value_rank v) e
   where
     go : (b : Bool) → Some m ≡ (if b then Some s.remoteness else None) → m ≤ limit
     go true q = let a = same_Some m s.remoteness q in let b = h.2 in omega arith

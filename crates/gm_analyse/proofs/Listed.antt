@@ -1,7 +1,11 @@
 -- Counts of the positions of tiers, with one value and remoteness or one position more.
-use Rattle.gm_analyse.proofs.Lower.{◌≡◌, ℕ, ◌+◌, inl, inr, Bool, List, [], ◌∷◌, ◌++◌, length, get_or, Result, Ok, Err, sym, ap, ◌∙◌, subst, cases_eq, Position}
-use Rattle.gm_analyse.proofs.Lower.{Value, Rules, HasValue_once, Among, Count, all_positions, IsCounted, IsNumber, AreCounts, AreNumbers, OnOk, length-append}
-use Rattle.gm_analyse.proofs.Lower.{AreBefore, those_once, those_push, those_skip}
+use Rattle.gm_analyse.proofs.Lower.{◌≡◌, ℕ, ◌+◌, inl, inr, Bool, List, [], ◌∷◌, ◌++◌, length, get_or, sym, ap, ◌∙◌, subst, Position, Value, Rules, Among, Count, all_positions, AreNumbers, AreCountsBefore}
+use Rattle.std.proofs.Common.{Result, Ok, Err, OnOk}
+use Rattle.std.proofs.lemmas.Bool.{cases_eq}
+use Rattle.gm_game.proofs.Basic.{HasValue_once}
+use Rattle.gm_analyse.specs.Totals.{IsCounted, IsNumber, AreCounts}
+use Rattle.std.proofs.lemmas.List.{length-append}
+use Rattle.gm_find.proofs.ListLemmas.{those_once, those_push, those_skip}
 use Rattle.gm_analyse.proofs.CountLists as lists
 
 module _ (r : Rules) (among : Among) (reached : Bool) (ps : List Position) where
@@ -12,7 +16,7 @@ module _ (r : Rules) (among : Among) (reached : Bool) (ps : List Position) where
   num_once v k a b (xs, t, e) (ys, u, f) = sym e ∙ ap length (those_once (IsCounted r among reached v k) ps xs ys t u) ∙ f
 
 -- all values are done
-pub all_counts : (r : Rules) (among : Among) (reached : Bool) (tiers : List ℕ) (cs : List Count) → AreBefore (Num r among reached (all_positions r tiers)) 4 0 cs
+pub all_counts : (r : Rules) (among : Among) (reached : Bool) (tiers : List ℕ) (cs : List Count) → AreCountsBefore (Num r among reached (all_positions r tiers)) 4 0 cs
     → AreCounts r among reached tiers cs
 all_counts r among reached tiers cs h = record {
   ordered = h.ordered;

@@ -1,6 +1,6 @@
 -- The counts of a table.
-use Rattle.gm_analyse.proofs.Lower.{◌≡◌, ℕ, List, length, sym, ◌∙◌, Option, Solved, Value, Count, number_in, AreBefore}
-use Rattle.gm_analyse.specs.Listing.{AreCounts}
+use Rattle.gm_analyse.proofs.Lower.{◌≡◌, ℕ, List, length, sym, ◌∙◌, Option, Solved, Value, Count, number_in, AreCountsBefore}
+use Rattle.gm_analyse.specs.Listing.{AreRecordCounts}
 use Rattle.gm_analyse.proofs.CountLists as lists
 
 module _ (records : List (Option Solved)) where
@@ -11,5 +11,5 @@ module _ (records : List (Option Solved)) where
   num_once v k a b e f = e ∙ sym f
 
   -- all values are done
-  pub all_counts : (cs : List Count) → AreBefore Num 4 0 cs → AreCounts records cs
+  pub all_counts : (cs : List Count) → AreCountsBefore Num 4 0 cs → AreRecordCounts records cs
   all_counts cs h = record { ordered = h.ordered; exact = lists.all_counts Num num_once cs h }

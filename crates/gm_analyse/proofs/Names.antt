@@ -1,7 +1,14 @@
 -- The text of a padded name.
-use Rattle.gm_analyse.proofs.Lower.{◌≡◌, ℕ, suc, ◌+◌, inl, inr, ◌==◌, Bool, true, false, List, [], ◌∷◌, length, take, Result, Ok, Err, refl, ap, arith, None}
-use Rattle.gm_analyse.proofs.Lower.{Some, position, unwrap_or, IsUtf8, name_text, ◌&&◌, nat_lt, cond, not, position_or_len, IsOk, MatchResult, IsAscii}
-use Rattle.gm_analyse.proofs.Lower.{and_parts, cases_Bool, ltb-true, ltb-false, prefix_len-le-length, IsAscii-nil, IsAscii-cons, is_padded_text, IsPaddedText}
+use Rattle.gm_analyse.proofs.Lower.{◌≡◌, ℕ, suc, ◌+◌, inl, inr, ◌==◌, Bool, true, false, List, [], ◌∷◌, length, take, refl, ap, arith, None, Some, name_text}
+use Rattle.std.proofs.Common.{Result, Ok, Err, ◌&&◌, nat_lt, cond, not}
+use Rattle.std.specs.List.{position, position_or_len}
+use Rattle.std.specs.Option.{unwrap_or}
+use Rattle.std.specs.Str.{IsUtf8, IsAscii}
+use Rattle.std.specs.Result.{IsOk, MatchResult}
+use Rattle.std.proofs.lemmas.Bool.{and_parts, cases_Bool, ltb-true, ltb-false}
+use Rattle.std.proofs.lemmas.List.Sums.{prefix_len-le-length}
+use Rattle.std.proofs.lemmas.Str.Ascii.{IsAscii-nil, IsAscii-cons}
+use Rattle.gm_game.specs.Texts.{is_padded_text, IsPaddedText}
 use Rattle.std.proofs.lemmas.Str.{IsUtf8-from_ascii}
 
 padded_more : (b : ℕ) (bs : List ℕ) → (b == 0) ≡ false → is_padded_text (b ∷ bs) ≡ true → (nat_lt b 128 && is_padded_text bs) ≡ true

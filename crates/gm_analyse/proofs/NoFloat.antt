@@ -1,6 +1,11 @@
 -- The trees of an analysis and of a count have no float.
-use Rattle.gm_analyse.proofs.Lower.{◌≡◌, ℕ, false, List, [], ◌∷◌, map, Option, None, Some, refl, Data, items_of, Count, count_tree, analysis_tree, has_float}
-use Rattle.gm_analyse.proofs.Lower.{items_have_float, Analysis, row_tree, longest_tree}
+use Rattle.gm_analyse.proofs.Lower.{◌≡◌, ℕ, false, List, [], ◌∷◌, map, Option, None, Some, refl, Count, count_tree}
+use Rattle.serde_json.specs.Data.{Data}
+use Rattle.serde_json.specs.View.{items_of}
+use Rattle.gm_analyse.specs.Tree.{analysis_tree, longest_tree}
+use Rattle.serde_json.specs.Written.{has_float, items_have_float}
+use Rattle.gm_analyse.specs.declared.analysis.Analysis.{Analysis}
+use Rattle.gm_analyse.specs.Bars.{row_tree}
 
 counts_no_float : (cs : List Count) → items_have_float (items_of (map count_tree cs)) ≡ false
 counts_no_float [] = refl

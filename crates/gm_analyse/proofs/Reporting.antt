@@ -1,8 +1,16 @@
 -- Rows of counts, with one tier or one count more; the greatest remoteness that is counted.
-use Rattle.gm_analyse.proofs.Lower.{◌≡◌, ℕ, ◌<◌, ◌≤◌, ◌↔◌, Bool, true, List, [], ◌∷◌, length, get_or, Option, None, Some, IfSome, inl, inr, refl, sym, ap}
-use Rattle.gm_analyse.proofs.Lower.{subst, ◌∙◌, arith, Contains, cases_lt, get_or_past, REMOTENESS, Position, Solved, Value, IsRecord, Rules, IsTrueValue}
-use Rattle.gm_analyse.proofs.Lower.{contains_none, contains_cases, Among, Canonical, IsLastAbove, IsCounted, IsRecordAmong, AreNumbers, IsSome, contains_first}
-use Rattle.gm_analyse.proofs.Lower.{contains_later, TableData, IsHeld, AreThose, Legal, IsGreatest}
+use Rattle.gm_analyse.proofs.Lower.{◌≡◌, ℕ, ◌≤◌, Bool, true, List, [], ◌∷◌, length, get_or, Option, None, Some, inl, inr, refl, sym, ap, subst, ◌∙◌, arith, REMOTENESS, Position, Solved, Value, Rules, contains_none, Among, IsLastAbove, AreNumbers}
+use Rattle.std.proofs.Common.{◌<◌, ◌↔◌, IfSome, IsSome}
+use Rattle.std.specs.List.{Contains}
+use Rattle.std.proofs.lemmas.Bool.{cases_lt}
+use Rattle.std.proofs.lemmas.List.{get_or_past}
+use Rattle.gm_game.specs.Records.{IsRecord}
+use Rattle.gm_game.specs.Values.{IsTrueValue}
+use Rattle.gm_game.proofs.Lists.{contains_cases, contains_first, contains_later}
+use Rattle.gm_analyse.specs.declared.among.Among.TheVariants.{Canonical, Legal}
+use Rattle.gm_analyse.specs.Totals.{IsCounted, IsRecordAmong, IsGreatest}
+use Rattle.gm_table.specs.Tables.{TableData, IsHeld}
+use Rattle.gm_find.specs.Lists.{AreThose}
 
 -- the record of a canonical position
 pub canonical_among : (r : Rules) (p : Position) (o : Option Solved) → IsRecord r REMOTENESS (IsTrueValue r) p o → IsRecordAmong r Canonical p o

@@ -1,6 +1,12 @@
 -- Counts as lines of text: with bars, as CSV, or as JSON.
 use Rattle.std.specs.Prelude.{◌≡◌, ℕ, ◌+◌, max, Bool, true, false, List, [], ◌++◌, codes, take, Option, None, Some, ◌-◌, ◌*◌, ◌/◌, min, fold}
-use Rattle.gm_analyse.specs.Lower.{decimal, flat_map, Data, string, object, member, no_members, compact_text, Rules, value_word, value_text_of}
+use Rattle.std.specs.Fmt.{decimal}
+use Rattle.std.specs.List.{flat_map}
+use Rattle.serde_json.specs.Data.{Data, string, object, member, no_members}
+use Rattle.serde_json.specs.Written.{compact_text}
+use Rattle.gm_game.specs.Rules.{Rules}
+use Rattle.gm_play.specs.PlayTexts.{value_word}
+use Rattle.gm_game.specs.Texts.{value_text_of}
 use Rattle.gm_analyse.specs.declared.among.Among.{Among}
 use Rattle.gm_analyse.specs.declared.bars.Form.{Form}
 use Rattle.gm_analyse.specs.declared.bars.Form.TheVariants.{Bars, Csv, Json}
@@ -10,8 +16,8 @@ use Rattle.gm_analyse.specs.ByTier.{AreRows}
 use Rattle.gm_analyse.specs.Tree.{whole}
 
 -- the greatest of the numbers
-abbrev pub most : List TierCount → ℕ
-most xs = fold (λ m (x : TierCount). max x.count.number m) 0 xs
+abbrev pub greatest_number : List TierCount → ℕ
+greatest_number xs = fold (λ m (x : TierCount). max x.count.number m) 0 xs
 
 -- the longest bar
 abbrev pub whole_bar : List ℕ
@@ -60,7 +66,7 @@ json_row x = compact_text (row_tree x.tier x.count) ++ codes "\n"
 
 -- the rows in a form
 abbrev pub rows_text : Form → Bool → List TierCount → List ℕ
-rows_text Bars by_tier rows = flat_map (bar_row (most rows)) rows
+rows_text Bars by_tier rows = flat_map (bar_row (greatest_number rows)) rows
 rows_text Csv by_tier rows = csv_head by_tier ++ flat_map csv_row rows
 rows_text Json by_tier rows = flat_map json_row rows
 

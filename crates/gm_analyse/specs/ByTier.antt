@@ -1,6 +1,6 @@
 -- Counts over all tiers together, or tier by tier.
 use Rattle.std.specs.Prelude.{◌≡◌, ℕ, Bool, true, false, List, [], ◌∷◌, ◌++◌, map, Option, None, Some}
-use Rattle.gm_analyse.specs.Lower.{Rules}
+use Rattle.gm_game.specs.Rules.{Rules}
 use Rattle.gm_analyse.specs.declared.among.Among.{Among}
 use Rattle.gm_analyse.specs.declared.counts.Count.{Count}
 use Rattle.gm_analyse.specs.declared.by_tier.TierCount.{TierCount}

@@ -6,4 +6,3 @@ pub mod LongestWins
 pub mod Tree
 pub mod ByTier
 pub mod Longest
-pub mod Lower

@@ -1,6 +1,12 @@
 -- The longest wins and the longest losses of some tiers.
 use Rattle.std.specs.Prelude.{◌≡◌, ℕ, ◌<◌, Bool, false, List, [], ◌++◌, Option, None, Some, slice_index_or}
-use Rattle.gm_analyse.specs.Lower.{Position, Value, Lose, Win, Rules, all_positions, Sought, First}
+use Rattle.gm_game.specs.declared.position.Position.{Position}
+use Rattle.gm_game.specs.declared.position.Value.{Value}
+use Rattle.gm_game.specs.declared.position.Value.TheVariants.{Lose, Win}
+use Rattle.gm_game.specs.Rules.{Rules}
+use Rattle.gm_find.specs.Finding.{all_positions}
+use Rattle.gm_find.specs.declared.sought.Sought.{Sought}
+use Rattle.gm_find.specs.declared.sought.Choice.TheVariants.{First}
 use Rattle.gm_find.specs.Rows.{IsFoundText}
 use Rattle.gm_analyse.specs.declared.among.Among.TheVariants.{Canonical}
 use Rattle.gm_analyse.specs.Totals.{IsGreatest}

@@ -1,6 +1,8 @@
 -- The longest win of a table.
 use Rattle.std.specs.Prelude.{◌≡◌, ℕ, ◌<◌, ◌≤◌, List, Option, None, Some, if◌then◌else◌, nat_le}
-use Rattle.gm_analyse.specs.Lower.{Solved, Win, record_at}
+use Rattle.gm_game.specs.declared.position.Solved.{Solved}
+use Rattle.gm_game.specs.declared.position.Value.TheVariants.{Win}
+use Rattle.gm_table.specs.Tables.{record_at}
 use Rattle.gm_analyse.specs.Numbers.{remoteness_in}
 
 -- the index is below n and has a win of this remoteness

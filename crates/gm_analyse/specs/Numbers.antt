@@ -1,6 +1,10 @@
 -- How many indexes of a table pass a test.
 use Rattle.std.specs.Prelude.{ℕ, ◌+◌, ◌==◌, Bool, true, false, List, Option, None, Some, if◌then◌else◌, zero, suc}
-use Rattle.gm_analyse.specs.Lower.{Value, Lose, Win, Solved, Rules, record_at, Draw, Tie, at}
+use Rattle.gm_game.specs.declared.position.Value.{Value}
+use Rattle.gm_game.specs.declared.position.Value.TheVariants.{Lose, Win, Draw, Tie}
+use Rattle.gm_game.specs.declared.position.Solved.{Solved}
+use Rattle.gm_game.specs.Rules.{Rules, at}
+use Rattle.gm_table.specs.Tables.{record_at}
 use Rattle.gm_table.specs.Levels.{is_level}
 
 -- how many numbers below n pass the test
@@ -17,16 +21,16 @@ abbrev pub has_record : List (Option Solved) → ℕ → Bool
 has_record records index = elim (record_at records index) [ None ↦ false | Some s ↦ true ]
 
 -- the order of values
-abbrev pub rank : Value → ℕ
-rank Lose = 0
-rank Draw = 1
-rank Tie = 2
-rank Win = 3
+abbrev pub value_rank : Value → ℕ
+value_rank Lose = 0
+value_rank Draw = 1
+value_rank Tie = 2
+value_rank Win = 3
 
 -- the remoteness of a record, if it has this value
 abbrev pub remoteness_in : Value → Option Solved → Option ℕ
 remoteness_in value None = None
-remoteness_in value (Some s) = if rank s.value == rank value then Some s.remoteness else None
+remoteness_in value (Some s) = if value_rank s.value == value_rank value then Some s.remoteness else None
 
 -- the index has a record of this value and remoteness
 abbrev pub is_solved : List (Option Solved) → Value → ℕ → ℕ → Bool

@@ -1,11 +1,19 @@
 -- How many positions of some tiers have each value and remoteness.
 use Rattle.std.specs.Prelude.{◌≡◌, ℕ, ◌<◌, ◌≤◌, ◌↔◌, List, Bool, true, IsTrue, Option, None, Some, length, slice_index_or}
-use Rattle.gm_analyse.specs.Lower.{Contains, AllPairs, Position, Value, Solved, REMOTENESS, Rules, all_positions, IsReachedByPlay, IsCanonical, HasValue}
-use Rattle.gm_analyse.specs.Lower.{IsTrueValue, AreThose}
+use Rattle.std.specs.List.{Contains, AllPairs}
+use Rattle.gm_game.specs.declared.position.Position.{Position}
+use Rattle.gm_game.specs.declared.position.Value.{Value}
+use Rattle.gm_game.specs.declared.position.Solved.{Solved}
+use Rattle.gm_game.specs.declared.limits.TheConstants.{REMOTENESS}
+use Rattle.gm_game.specs.Rules.{Rules, IsCanonical}
+use Rattle.gm_find.specs.Finding.{all_positions}
+use Rattle.gm_find.specs.Reaching.{IsReachedByPlay}
+use Rattle.gm_game.specs.Values.{HasValue, IsTrueValue}
+use Rattle.gm_find.specs.Lists.{AreThose}
 use Rattle.gm_analyse.specs.declared.among.Among.{Among}
 use Rattle.gm_analyse.specs.declared.among.Among.TheVariants.{Canonical, Legal}
 use Rattle.gm_analyse.specs.declared.counts.Count.{Count}
-use Rattle.gm_analyse.specs.Listing.{IsBefore}
+use Rattle.gm_analyse.specs.Listing.{IsCountBefore}
 
 -- the positions that are counted: the canonical ones, or all legal ones
 abbrev pub IsAmong : Rules → Among → Position → Type 0
@@ -28,7 +36,7 @@ IsCount r among reached ps c = IsNumber r among reached ps c.value c.remoteness 
 
 -- the counts of each value and remoteness that some of the positions of these tiers have, in the order Lose, Draw, Tie, Win, then by remoteness
 pub record AreCounts (r : Rules) (among : Among) (reached : Bool) (tiers : List ℕ) (counts : List Count) : Type 0 where
-  pub ordered : AllPairs IsBefore counts
+  pub ordered : AllPairs IsCountBefore counts
   pub exact : (c : Count) → Contains counts c ↔ IsCount r among reached (all_positions r tiers) c
 
 -- for each remoteness, how many of these positions are counted with this value: none past the end of the list

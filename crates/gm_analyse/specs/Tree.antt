@@ -1,6 +1,9 @@
 -- An analysis as a JSON tree.
 use Rattle.std.specs.Prelude.{ℕ, ◌==◌, List, map, codes, Option, None, Some}
-use Rattle.gm_analyse.specs.Lower.{Data, string, object, member, no_members, value_word, before_first, null, number, unsigned, array, item, no_items, items_of}
+use Rattle.serde_json.specs.Data.{Data, string, object, member, no_members, null, number, unsigned, array, item, no_items}
+use Rattle.gm_play.specs.PlayTexts.{value_word}
+use Rattle.std.specs.List.{before_first}
+use Rattle.serde_json.specs.View.{items_of}
 use Rattle.gm_analyse.specs.declared.counts.Count.{Count}
 use Rattle.gm_analyse.specs.declared.analysis.Analysis.{Analysis}
 

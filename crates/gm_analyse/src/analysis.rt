@@ -1,7 +1,7 @@
 //! What is counted of a table.
 ghost use Rattle.std.specs.Prelude.{◌≡◌, ℕ, length, IfOk};
 ghost use Rattle.gm_analyse.specs.Numbers.{count_where, is_legal_at, has_record};
-ghost use Rattle.gm_analyse.specs.Listing.{AreCounts};
+ghost use Rattle.gm_analyse.specs.Listing.{AreRecordCounts};
 ghost use Rattle.gm_analyse.specs.LongestWins.{IsLongestWin};
 
 use crate::counts::{Counts, counts_of};
@@ -32,7 +32,7 @@ pub fn analyse<G: Game>(alloc: Global, table: &Table<G>) -> Result<Analysis, All
     ensures size { IfOk result (λ a. a.size ≡ length table.now.records) }
     ensures legal { IfOk result (λ a. a.legal ≡ count_where (is_legal_at G.rules table.now.tier) (length table.now.records)) }
     ensures canonical { IfOk result (λ a. a.canonical ≡ count_where (has_record table.now.records) (length table.now.records)) }
-    ensures counts { IfOk result (λ a. AreCounts table.now.records a.counts) }
+    ensures counts { IfOk result (λ a. AreRecordCounts table.now.records a.counts) }
     ensures longest_win { IfOk result (λ a. IsLongestWin table.now.records (length table.now.records) a.longest_win) }
 {
     Ok(Analysis {

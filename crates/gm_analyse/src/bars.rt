@@ -1,8 +1,8 @@
 //! Counts as lines of text: with bars, as CSV, or as JSON.
 ghost use Rattle.std.specs.Prelude.{◌≡◌, ◌≤◌, ◌<◌, ◌++◌, take, IfOk, OnOk, is_some};
-ghost use Rattle.gm_analyse.specs.Lower.{decimal, flat_map};
-ghost use Rattle.gm_analyse.specs.Bars.{most as most_spec, bar_length as bar_length_spec, whole_bar, count_row, tier_field, bar_row, csv_head as csv_head_spec};
-ghost use Rattle.gm_analyse.specs.Bars.{csv_row, rows_text as rows_text_spec, IsCountsText};
+ghost use Rattle.std.specs.Fmt.{decimal};
+ghost use Rattle.std.specs.List.{flat_map};
+ghost use Rattle.gm_analyse.specs.Bars.{greatest_number as most_spec, bar_length as bar_length_spec, whole_bar, count_row, tier_field, bar_row, csv_head as csv_head_spec, csv_row, rows_text as rows_text_spec, IsCountsText};
 
 use crate::among::Among;
 use crate::by_tier::{TierCount, tier_counts};

@@ -1,7 +1,7 @@
 //! How many positions have each value and remoteness.
 ghost use Rattle.std.specs.Prelude.{◌≡◌, ◌++◌, ◌+◌, ◌<◌, ◌≤◌, ℕ, length, slice_index_or, vec_len, IfOk, OnOk};
 ghost use Rattle.gm_analyse.specs.Numbers.{remoteness_in as remoteness_in_spec, number_in};
-ghost use Rattle.gm_analyse.specs.Listing.{AreCounts, counted};
+ghost use Rattle.gm_analyse.specs.Listing.{AreRecordCounts, counted};
 
 use crate::numbers::count;
 use gm_game::game::Game;
@@ -45,7 +45,7 @@ impl Counts {
 
 /// Counts the records of a table by value and remoteness.
 pub(crate) fn counts_of<G: Game>(alloc: Global, table: &Table<G>) -> Result<Counts, AllocError>
-    ensures { IfOk result (AreCounts table.now.records) }
+    ensures { IfOk result (AreRecordCounts table.now.records) }
 {
     let mut counts = Vec::new(alloc);
     for value in [Value::Lose, Value::Draw, Value::Tie, Value::Win] {

@@ -1,6 +1,10 @@
 //! The text of an analysis in JSON.
 ghost use Rattle.std.specs.Prelude.{◌≡◌, ◌==◌, ◌<◌, ◌++◌, ◌∷◌, [], ℕ, length, map, IfOk, OnOk, IfSome, string_bytes};
-ghost use Rattle.gm_analyse.specs.Lower.{compact_text, object, view, position, members_view, IsPaddedText};
+ghost use Rattle.serde_json.specs.Written.{compact_text};
+ghost use Rattle.serde_json.specs.Data.{object};
+ghost use Rattle.serde_json.specs.View.{view, members_view};
+ghost use Rattle.std.specs.List.{position};
+ghost use Rattle.gm_game.specs.Texts.{IsPaddedText};
 ghost use Rattle.gm_analyse.specs.Tree.{name_text, count_tree, counts_tree, longest_tree, analysis_tree};
 
 use crate::analysis::Analysis;

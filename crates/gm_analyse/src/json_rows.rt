@@ -1,6 +1,8 @@
 //! Counts as lines of JSON.
 ghost use Rattle.std.specs.Prelude.{◌≡◌, ◌++◌, codes, false, IfOk, OnOk};
-ghost use Rattle.gm_analyse.specs.Lower.{flat_map, view, compact_text, has_float};
+ghost use Rattle.std.specs.List.{flat_map};
+ghost use Rattle.serde_json.specs.View.{view};
+ghost use Rattle.serde_json.specs.Written.{compact_text, has_float};
 ghost use Rattle.gm_analyse.specs.Bars.{row_tree, json_row};
 
 use crate::by_tier::TierCount;

@@ -1,6 +1,7 @@
 //! The longest wins and the longest losses of some tiers, as rows of positions.
 ghost use Rattle.std.specs.Prelude.{◌≡◌, ◌≤◌, ◌+◌, length, IfOk, is_some};
-ghost use Rattle.gm_analyse.specs.Lower.{REMOTENESS, all_positions};
+ghost use Rattle.gm_game.specs.declared.limits.TheConstants.{REMOTENESS};
+ghost use Rattle.gm_find.specs.Finding.{all_positions};
 ghost use Rattle.gm_analyse.specs.declared.among.Among.TheVariants.{Canonical};
 ghost use Rattle.gm_analyse.specs.Totals.{IsGreatest};
 ghost use Rattle.gm_analyse.specs.Longest.{longest as longest_spec, IsLastAbove, IsLongestRows, IsLongestText};

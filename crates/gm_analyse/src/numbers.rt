@@ -1,6 +1,10 @@
 //! How many positions of a value there are, by remoteness.
 ghost use Rattle.std.specs.Prelude.{◌≡◌, ◌<◌, ◌≤◌, ◌+◌, ◌++◌, ◌∷◌, [], ◌↔◌, ℕ, List, true, max, vec_len, slice_index_or, IfOk, OnOk, IfSome, IsTrue, is_some};
-ghost use Rattle.gm_analyse.specs.Lower.{REMOTENESS, Position, all_positions, IsReachedByPlay, IsHeld, positions_in};
+ghost use Rattle.gm_game.specs.declared.limits.TheConstants.{REMOTENESS};
+ghost use Rattle.gm_game.specs.declared.position.Position.{Position};
+ghost use Rattle.gm_find.specs.Finding.{all_positions, positions_in};
+ghost use Rattle.gm_find.specs.Reaching.{IsReachedByPlay};
+ghost use Rattle.gm_table.specs.Tables.{IsHeld};
 ghost use Rattle.gm_analyse.specs.Totals.{AreNumbers, IsLevel, IsRecordAmong};
 
 use crate::among::Among;

@@ -1,8 +1,10 @@
 -- Blocks of a tier, one after another.
-use Rattle.gm_backward.proofs.Lower.{◌≡◌, ℕ, zero, suc, ◌+◌, inl, inr, List, [], ◌∷◌, ◌++◌, length, take, drop, slice_get, Some, subst, arith, ◌-◌, ◌≤◌, ◌∙◌}
-use Rattle.gm_backward.proofs.Lower.{ap, sym, replicate, length-append, length-replicate, take_all, Rules, at, AreHoles, Start, IsStart, AreStarts}
-use Rattle.gm_backward.proofs.Lower.{append_cases, slice_get_within}
-use Rattle.std.proofs.lemmas.List.{get_or-replicate}
+use Rattle.gm_backward.proofs.Lower.{◌≡◌, ℕ, zero, suc, ◌+◌, inl, inr, List, [], ◌∷◌, ◌++◌, length, drop, slice_get, Some, subst, arith, ◌-◌, ◌≤◌, ◌∙◌, ap, sym, replicate, length-append, Rules, at, Start, AreStarts, slice_get_within}
+use Rattle.std.proofs.Common.{take}
+use Rattle.std.proofs.lemmas.List.{length-replicate, take_all, get_or-replicate}
+use Rattle.gm_game.specs.Rules.{AreHoles}
+use Rattle.gm_counters.specs.inner.Begin.{IsStart}
+use Rattle.gm_table.proofs.Dealt.{append_cases}
 use Rattle.std.proofs.lemmas.Option.{get_or_from_slice_get}
 use Rattle.gm_counters.specs.declared.status.Start.TheVariants.{Hole}
 

@@ -1,11 +1,30 @@
 -- A delivery that would settle a position above the limit, and the last level within it.
-use Rattle.gm_backward.proofs.Lower.{◌≡◌, ℕ, ◌+◌, ◌-◌, ◌<◌, ◌≤◌, inl, inr, ⊎_elim, List, [], refl, sym, subst, ◌∙◌, arith, Option, None, Some, IsSome, Err}
-use Rattle.gm_backward.proofs.Lower.{get_or-set_same, Contains, cases_lt, false≢true, REMOTENESS, Position, Solved, Phase, WinLose, Ties, Place, Rules, at}
-use Rattle.gm_backward.proofs.Lower.{IsCanonical, IsInner, IsGame, HasValue, IsTrueValue, StandsAt, IsPlaceBefore, IsLastLevel, TableData, table_of, AreHeld}
-use Rattle.gm_backward.proofs.Lower.{AreTables, NoteData, ShardState, delivered_to, IsGood, TooFar, Delivers, IsTooFar, IsDeliverable, IsCovered, with_position}
-use Rattle.gm_backward.proofs.Lower.{IsAtLevel, IsSettled, AreReached, And, has_new, has_old, with_cases, reached_more, reached_true, none_from_last, IsNote}
-use Rattle.gm_backward.proofs.Lower.{phase_of, Settled, IsInRange, with_pair, In, StatusIs, Refused, NotThisLevel, NotMine, NotAParent, IsPairHere}
-use Rattle.gm_backward.proofs.Lower.{IsSettledNow, settled_same, value_stands, stands_remoteness, known_value}
+use Rattle.gm_backward.proofs.Lower.{◌≡◌, ℕ, ◌+◌, ◌-◌, ◌<◌, ◌≤◌, inl, inr, List, [], refl, sym, subst, ◌∙◌, arith, Option, Some, Contains, cases_lt, REMOTENESS, Position, Solved, Phase, WinLose, Ties, Place, Rules, at, IsGame, AreHeld, NoteData, ShardState, IsGood, IsTooFar}
+use Rattle.std.proofs.Common.{⊎_elim, None, IsSome, Err, get_or-set_same}
+use Rattle.std.proofs.lemmas.Bool.{false≢true}
+use Rattle.gm_game.specs.Rules.{IsCanonical, IsInner}
+use Rattle.gm_game.specs.Values.{HasValue, IsTrueValue}
+use Rattle.gm_game.specs.Places.{StandsAt, IsPlaceBefore, IsLastLevel, IsAtLevel}
+use Rattle.gm_table.specs.Tables.{TableData, table_of, AreTables}
+use Rattle.gm_counters.specs.State.{delivered_to, IsInRange, with_pair}
+use Rattle.gm_counters.specs.declared.status.Refused.TheVariants.{TooFar, NotThisLevel, NotMine, NotAParent}
+use Rattle.gm_counters.specs.Delivery.{Delivers, IsPairHere, IsSettledNow}
+use Rattle.gm_locks.specs.Spots.{IsDeliverable}
+use Rattle.gm_backward.specs.inner.Covered.{IsCovered}
+use Rattle.gm_game.specs.Children.{with_position}
+use Rattle.gm_game.specs.Settling.{IsSettled, AreReached, And}
+use Rattle.gm_game.proofs.SetLemmas.{has_new, has_old, with_cases}
+use Rattle.gm_game.proofs.Delivered.{reached_more}
+use Rattle.gm_game.proofs.Reached.{reached_true}
+use Rattle.gm_game.proofs.Frontier.{none_from_last}
+use Rattle.gm_frontier.specs.Notes.{IsNote, phase_of}
+use Rattle.gm_counters.specs.declared.status.Status.TheVariants.{Settled}
+use Rattle.gm_counters.specs.Status.{In, StatusIs}
+use Rattle.gm_counters.specs.declared.status.Refused.{Refused}
+use Rattle.gm_counters.proofs.StatusLemmas.{settled_same}
+use Rattle.gm_counters.proofs.AddedLemmas.{value_stands}
+use Rattle.gm_locks.proofs.Places.{stands_remoteness}
+use Rattle.gm_table.proofs.ValueLemmas.{known_value}
 
 -- the children delivered to an inner position of a good shard, at its place
 reached_good : (r : Rules) (s : ShardState) → IsGood r s → (i : ℕ) → IsInRange s i → IsInner r (at s.tier i)

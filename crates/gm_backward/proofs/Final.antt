@@ -1,7 +1,13 @@
 -- What is known once the levels of both phases are passed.
-use Rattle.gm_backward.proofs.Lower.{◌≡◌, ℕ, ◌+◌, inl, inr, List, subst, arith, Option, REMOTENESS, Position, Solved, Phase, WinLose, Ties, Place, Rules, at}
-use Rattle.gm_backward.proofs.Lower.{IsGame, IsTrueValue, IsTrueTable, StandsAt, IsPlaceBefore, StandsBefore, IsLastLevel, TableData, AreHeld, AreTables}
-use Rattle.gm_backward.proofs.Lower.{IsPairInto, IsNumberBefore, IsDelivery, AreDeliveries, IsNear, near_of_pair, stands_no_draw, value_place, canonical_record}
+use Rattle.gm_backward.proofs.Lower.{◌≡◌, ℕ, ◌+◌, inl, inr, List, subst, arith, Option, REMOTENESS, Position, Solved, Phase, WinLose, Ties, Place, Rules, at, IsGame, IsTrueTable, StandsBefore, AreHeld, IsNumberBefore}
+use Rattle.gm_game.specs.Values.{IsTrueValue}
+use Rattle.gm_game.specs.Places.{StandsAt, IsPlaceBefore, IsLastLevel, IsNear}
+use Rattle.gm_table.specs.Tables.{TableData, AreTables}
+use Rattle.gm_frontier.specs.Counts.{IsPairInto}
+use Rattle.gm_table.specs.Solving.{IsDelivery, AreDeliveries}
+use Rattle.gm_frontier.proofs.PairLemmas.{near_of_pair}
+use Rattle.gm_locks.proofs.Places.{stands_no_draw, value_place}
+use Rattle.gm_table.proofs.ValueLemmas.{canonical_record}
 use Rattle.gm_backward.proofs.Far.{child_known}
 use Rattle.gm_immediate.proofs.Deliveries.{there_same}
 

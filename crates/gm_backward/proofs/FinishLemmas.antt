@@ -1,6 +1,9 @@
 -- What the coordinator makes up for at the end of a level.
-use Rattle.gm_backward.proofs.Lower.{◌≡◌, ℕ, ◌≤◌, List, sym, ap, subst, ◌∙◌, arith, REMOTENESS, Place, Rules, IsGame, NoteData, pairs_of, piece_of, TooFar}
-use Rattle.gm_backward.proofs.Lower.{Spot, IsLevelAt, piece_pairs, IsTooFar, LevelData, IsRefusedAt}
+use Rattle.gm_backward.proofs.Lower.{◌≡◌, ℕ, ◌≤◌, List, sym, ap, subst, ◌∙◌, arith, REMOTENESS, Place, Rules, IsGame, NoteData, pairs_of, piece_of, Spot, IsTooFar}
+use Rattle.gm_counters.specs.declared.status.Refused.TheVariants.{TooFar}
+use Rattle.gm_locks.specs.Rounds.{IsLevelAt}
+use Rattle.gm_locks.specs.Pieces.{piece_pairs, IsRefusedAt}
+use Rattle.gm_frontier.specs.Levels.{LevelData}
 use Rattle.gm_backward.proofs.Far.{refused_far}
 
 -- a pair of the place that was refused tells of a position one above the limit

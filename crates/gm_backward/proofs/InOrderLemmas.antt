@@ -1,8 +1,16 @@
 -- A shard to which the pairs of a level are delivered in their order, each once.
-use Rattle.gm_backward.proofs.Lower.{◌≡◌, ℕ, ◌+◌, ◌≤◌, List, length, slice_get, refl, sym, ap, subst, ◌∙◌, arith, Some, Ok, Contains, slice_get-get_or, Rules}
-use Rattle.gm_backward.proofs.Lower.{IsGame, NoteData, IsLevel, ShardState, delivered_to, IsGood, Delivers, place_of, IsWhole, Spot, spot_of, IsDeliverable}
-use Rattle.gm_backward.proofs.Lower.{pairs_into, place_of_spot, AreFirst, HasNoneHere, pairs_have, Delivery, IsSameSpot, of_level, next_here, first_none}
-use Rattle.gm_backward.proofs.Lower.{first_more, added_is, ok_added, whole_all}
+use Rattle.gm_backward.proofs.Lower.{◌≡◌, ℕ, ◌+◌, ◌≤◌, List, length, slice_get, refl, sym, ap, subst, ◌∙◌, arith, Some, Contains, slice_get-get_or, Rules, IsGame, NoteData, IsLevel, ShardState, IsGood, place_of, Spot, spot_of, pairs_into, AreFirst, HasNoneHere}
+use Rattle.std.proofs.Common.{Ok}
+use Rattle.gm_counters.specs.State.{delivered_to}
+use Rattle.gm_counters.specs.Delivery.{Delivers}
+use Rattle.gm_counters.specs.Steps.{IsWhole}
+use Rattle.gm_locks.specs.Spots.{IsDeliverable, IsSameSpot}
+use Rattle.gm_locks.specs.Rounds.{place_of_spot}
+use Rattle.gm_frontier.proofs.PairLemmas.{pairs_have}
+use Rattle.gm_counters.specs.declared.status.Delivery.{Delivery}
+use Rattle.gm_locks.proofs.RoundLemmas.{of_level, next_here, first_none, first_more}
+use Rattle.gm_locks.proofs.Gains.{added_is, ok_added}
+use Rattle.gm_locks.proofs.PieceLemmas.{whole_all}
 
 -- the same spot, field by field
 pub same_spot_from : (s t : ShardState) → spot_of t ≡ spot_of s → IsSameSpot s t

@@ -1,8 +1,13 @@
 -- A walk of the pairs of a level into a range, and shards to which none of the place is delivered.
-use Rattle.gm_backward.proofs.Lower.{◌≡◌, ℕ, zero, suc, ◌+◌, ◌-◌, ◌<◌, ◌≤◌, List, [], ◌∷◌, length, drop, replicate, slice_get, slice_index_or, ◌^◌, refl, sym}
-use Rattle.gm_backward.proofs.Lower.{ap, subst, ◌∙◌, arith, Some, Contains, length-drop, TIER_SIZE, Position, Phase, WinLose, Ties, Place, Rules, at, IsGame}
-use Rattle.gm_backward.proofs.Lower.{StandsBefore, NoteData, IsLevel, Cuts, tile_at, ShardState, first_state, IsGood, Spot, spot_of, pairs_into, place_of_spot}
-use Rattle.gm_backward.proofs.Lower.{HasNoneHere, positions_once, canonical_notes, notes_few, not_before_and_at, ties_after, next_level, first_ties}
+use Rattle.gm_backward.proofs.Lower.{◌≡◌, ℕ, zero, suc, ◌+◌, ◌-◌, ◌<◌, ◌≤◌, List, [], ◌∷◌, length, drop, replicate, slice_get, refl, sym, ap, subst, ◌∙◌, arith, Some, Contains, TIER_SIZE, Position, Phase, WinLose, Ties, Place, Rules, at, IsGame, StandsBefore, NoteData, IsLevel, Cuts, tile_at, ShardState, IsGood, Spot, spot_of, pairs_into, HasNoneHere}
+use Rattle.std.proofs.Common.{slice_index_or, ◌^◌}
+use Rattle.std.proofs.lemmas.List.{length-drop}
+use Rattle.gm_counters.specs.inner.Begin.{first_state}
+use Rattle.gm_locks.specs.Rounds.{place_of_spot}
+use Rattle.gm_frontier.proofs.PairLemmas.{positions_once, canonical_notes}
+use Rattle.gm_frontier.proofs.CountLemmas.{notes_few}
+use Rattle.gm_frontier.proofs.ForGame.{not_before_and_at, ties_after}
+use Rattle.gm_counters.specs.Steps.{at_next_level, first_ties}
 
 -- the pairs of a level into a spot's range
 module _ (r : Rules) (g : IsGame r) (spot : Spot) (notes : List NoteData) (level : IsLevel r (place_of_spot spot) notes) where
@@ -33,7 +38,7 @@ none_first r tier lo n i c m h stands = no_child (subst (λ (ds : List Position)
     no_child : Contains [] c → ⊥
     no_child (j, l, q) = absurd (omega arith)
 
-pub none_next : (r : Rules) (s : ShardState) → IsGood r s → HasNoneHere r (next_level s)
+pub none_next : (r : Rules) (s : ShardState) → IsGood r s → HasNoneHere r (at_next_level s)
 none_next r s good i c m h stands = not_before_and_at r s.phase (s.level + 1) c (good.pairs i c m h).1 stands
 
 pub none_ties : (r : Rules) (s : ShardState) → IsGood r s → s.phase ≡ WinLose → HasNoneHere r (first_ties s)

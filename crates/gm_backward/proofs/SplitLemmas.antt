@@ -1,9 +1,14 @@
 -- The pairs of a piece by the tiles that have their parents.
-use Rattle.gm_backward.proofs.Lower.{◌≡◌, ℕ, zero, suc, ◌<◌, ◌≤◌, ◌&&◌, inl, inr, Bool, true, false, if◌then◌else◌, List, [], ◌∷◌, ◌++◌, map, filter, length}
-use Rattle.gm_backward.proofs.Lower.{set, slice_get, refl, sym, ap, subst, ◌∙◌, arith, Some, Vec, length-set, get_or-set_same, Global, cases_lt, cases_eq}
-use Rattle.gm_backward.proofs.Lower.{Contains, contains_first, slice_get_within, slice_get-get_or, Place, Rules, NoteData, pairs_of, piece_of, Spot}
-use Rattle.gm_backward.proofs.Lower.{piece_pairs, AreSplit, tile_at, nat_tests, in_pairs, is_within, pairs_with, pairs_of_note, cut_at, AreAscending}
-use Rattle.gm_backward.proofs.Lower.{pairs_within, Cuts}
+use Rattle.gm_backward.proofs.Lower.{◌≡◌, ℕ, zero, suc, ◌<◌, ◌≤◌, inl, inr, List, [], ◌∷◌, ◌++◌, length, slice_get, refl, sym, ap, subst, ◌∙◌, arith, Some, Vec, Global, cases_lt, Contains, slice_get_within, slice_get-get_or, Place, Rules, NoteData, pairs_of, piece_of, Spot, tile_at, cut_at, Cuts}
+use Rattle.std.proofs.Common.{◌&&◌, Bool, true, false, if◌then◌else◌, map, filter, set, length-set, get_or-set_same}
+use Rattle.std.proofs.lemmas.Bool.{cases_eq}
+use Rattle.gm_game.proofs.Lists.{contains_first}
+use Rattle.gm_locks.specs.Pieces.{piece_pairs}
+use Rattle.gm_backward.specs.inner.Split.{AreSplit, pairs_within}
+use Rattle.std.proofs.lemmas.Bool.Decides.{nat_tests}
+use Rattle.gm_frontier.proofs.PairLemmas.{in_pairs}
+use Rattle.gm_frontier.specs.Pairs.{is_within, pairs_with, pairs_of_note}
+use Rattle.gm_backward.specs.inner.Cuts.{AreAscendingCuts}
 use Rattle.std.proofs.lemmas.List.Elements.{Contains-append_right, filter-append, filter_agree}
 
 -- a filter of a filter, and of a mapped list
@@ -25,25 +30,25 @@ filter_mapped f p [] = refl
 filter_mapped f p (x ∷ xs) = map_step f x (filter p (map f xs)) (filter (λ y. p (f y)) xs) (filter_mapped f p xs) (p (f x))
 
 -- the cuts ascend from tile to tile
-pub step_up : (size : ℕ) (cuts : Cuts) → AreAscending size cuts → (k : ℕ) → cut_at size cuts k ≤ cut_at size cuts (suc k)
+pub step_up : (size : ℕ) (cuts : Cuts) → AreAscendingCuts size cuts → (k : ℕ) → cut_at size cuts k ≤ cut_at size cuts (suc k)
 step_up size cuts up zero = omega arith
 step_up size cuts up (suc zero) = up.low
 step_up size cuts up (suc (suc zero)) = up.high
 step_up size cuts up (suc (suc (suc zero))) = up.end
 step_up size cuts up (suc (suc (suc (suc k)))) = omega arith
 
-cuts_up : (size : ℕ) (cuts : Cuts) → AreAscending size cuts → (k j : ℕ) → k ≤ j → cut_at size cuts k ≤ cut_at size cuts j
+cuts_up : (size : ℕ) (cuts : Cuts) → AreAscendingCuts size cuts → (k j : ℕ) → k ≤ j → cut_at size cuts k ≤ cut_at size cuts j
 cuts_up size cuts up k zero l = (let e : k ≡ 0 = omega arith in subst (λ (m : ℕ). cut_at size cuts m ≤ 0) (sym e) (omega arith))
 cuts_up size cuts up k (suc j) l = elim (cases_lt j k) [
   | inl less ↦ (let e : suc j ≡ k = omega arith in subst (λ (m : ℕ). cut_at size cuts k ≤ cut_at size cuts m) (sym e) (omega arith))
   | inr more ↦ (let before = cuts_up size cuts up k j more in let last = step_up size cuts up j in omega arith)
 ]
 
-pub cut_within : (size : ℕ) (cuts : Cuts) → AreAscending size cuts → (k : ℕ) → k < 4 → cut_at size cuts (suc k) ≤ size
+pub cut_within : (size : ℕ) (cuts : Cuts) → AreAscendingCuts size cuts → (k : ℕ) → k < 4 → cut_at size cuts (suc k) ≤ size
 cut_within size cuts up k l = cuts_up size cuts up (suc k) 4 (omega arith)
 
 -- so an index is in one tile only
-one_tile : (size : ℕ) (cuts : Cuts) → AreAscending size cuts → (j k i : ℕ) → cut_at size cuts j ≤ i → i < cut_at size cuts (suc j)
+one_tile : (size : ℕ) (cuts : Cuts) → AreAscendingCuts size cuts → (j k i : ℕ) → cut_at size cuts j ≤ i → i < cut_at size cuts (suc j)
     → cut_at size cuts k ≤ i → i < cut_at size cuts (suc k) → k ≡ j
 one_tile size cuts up j k i low high from to = elim (cases_lt k j) [
   | inl less ↦ (let before = cuts_up size cuts up (suc k) j (omega arith) in absurd (omega arith))
@@ -105,7 +110,7 @@ set_past (suc i) zero (w ∷ vs) v o = refl
 set_past (suc i) (suc j) (w ∷ vs) v o = set_past i j vs v (λ e. o (ap suc e))
 
 pub split_more : (size : ℕ) (cuts : Cuts) (j : ℕ) (old new : List (Vec (NoteData × ℕ) Global)) (was list : Vec (NoteData × ℕ) Global) (x : NoteData × ℕ)
-    → AreAscending size cuts → cut_at size cuts j ≤ x.1 → x.1 < cut_at size cuts (suc j)
+    → AreAscendingCuts size cuts → cut_at size cuts j ≤ x.1 → x.1 < cut_at size cuts (suc j)
     → slice_get old j ≡ Some was → list.items ≡ was.items ++ x ∷ [] → new ≡ set old j list
     → (pairs : List (NoteData × ℕ)) → AreSplit size cuts pairs old → AreSplit size cuts (pairs ++ x ∷ []) new
 split_more size cuts j old new was list x up low high at more is pairs h = record {
@@ -126,7 +131,7 @@ split_more size cuts j old new was list x up low high at more is pairs h = recor
 
 -- the list of a tile has the pairs of the piece into it
 pub list_is : (r : Rules) (place : Place) (cuts : Cuts) (n piece k size : ℕ) (notes ns : List NoteData) (lists : List (Vec (NoteData × ℕ) Global))
-    (list : Vec (NoteData × ℕ) Global) (spot : Spot) → AreAscending (r.tier_size place.tier) cuts → k < 4
+    (list : Vec (NoteData × ℕ) Global) (spot : Spot) → AreAscendingCuts (r.tier_size place.tier) cuts → k < 4
     → AreSplit (r.tier_size place.tier) cuts (pairs_of r place.tier 0 (r.tier_size place.tier) (piece_of piece n ns)) lists → slice_get lists k ≡ Some list
     → spot ≡ tile_at r place cuts k → notes ≡ ns → size ≡ n → list.items ≡ piece_pairs r spot notes size piece
 list_is r place cuts n piece k size notes ns lists list spot up few split at tile same cut =

@@ -1,16 +1,24 @@
 -- Four tiles of a tier: every index is in one, and what is known of each is known of the tier.
-use Rattle.gm_backward.proofs.Lower.{◌≡◌, ℕ, zero, suc, ◌+◌, ◌<◌, ◌≤◌, inl, inr, List, [], ◌++◌, length, replicate, Option, Some, slice_get, sym, ap, ap₂}
-use Rattle.gm_backward.proofs.Lower.{subst, ◌∙◌, refl, arith, cases_lt, length-replicate, REMOTENESS, Position, Phase, Ties, WinLose, Place, Solved, Rules}
-use Rattle.gm_backward.proofs.Lower.{IsTrueTable, StandsBefore, IsPairInto, IsNumberBefore, ShardState, pairs_in, first_state, IsGood, place_of, ArePart, Spot}
-use Rattle.gm_backward.proofs.Lower.{spot_of, choose, HasNoneHere, IsCovered, tile_at, AreShardsAt, append_assoc, place_at, number_before, Four, cut_at}
-use Rattle.gm_backward.proofs.Lower.{AreCuts, Cuts, AreGood, HaveNoneHere, IsEnded, AreRecordsOf}
-use Rattle.std.proofs.lemmas.List.{length-append}
+use Rattle.gm_backward.proofs.Lower.{◌≡◌, ℕ, zero, suc, ◌+◌, ◌<◌, ◌≤◌, inl, inr, List, [], ◌++◌, length, replicate, Option, Some, slice_get, sym, ap, subst, ◌∙◌, refl, arith, cases_lt, REMOTENESS, Position, Phase, Ties, WinLose, Place, Solved, Rules, IsTrueTable, StandsBefore, IsNumberBefore, ShardState, IsGood, place_of, Spot, spot_of, HasNoneHere, tile_at, cut_at, Cuts, AreRecordsOf}
+use Rattle.std.proofs.Common.{ap₂}
+use Rattle.std.proofs.lemmas.List.{length-replicate, append_assoc, length-append}
+use Rattle.gm_frontier.specs.Counts.{IsPairInto}
+use Rattle.gm_counters.specs.State.{pairs_in}
+use Rattle.gm_counters.specs.inner.Begin.{first_state}
+use Rattle.gm_table.specs.Solving.{ArePart}
+use Rattle.gm_locks.specs.Spots.{for_shard}
+use Rattle.gm_backward.specs.inner.Covered.{IsCovered}
+use Rattle.gm_backward.specs.inner.Tiling.{AreShardsAt, AreGood, HaveNoneHere, IsShardFinished}
+use Rattle.gm_frontier.specs.Levels.{place_at}
+use Rattle.gm_counters.proofs.CloseLemmas.{number_before}
+use Rattle.gm_locks.specs.declared.four.Four.{Four}
+use Rattle.gm_backward.specs.inner.Cuts.{AreCuts}
 use Rattle.gm_immediate.proofs.Deliveries.{there_sum}
 use Rattle.gm_immediate.proofs.Parts.{part_more, part_whole}
 
 -- the spot of tile k
 pub choose_tile : (r : Rules) (place : Place) (cuts : Cuts) (a b c d : Spot) → a ≡ tile_at r place cuts 0 → b ≡ tile_at r place cuts 1
-    → c ≡ tile_at r place cuts 2 → d ≡ tile_at r place cuts 3 → (k : ℕ) → k < 4 → choose k a b c d ≡ tile_at r place cuts k
+    → c ≡ tile_at r place cuts 2 → d ≡ tile_at r place cuts 3 → (k : ℕ) → k < 4 → for_shard k a b c d ≡ tile_at r place cuts k
 choose_tile r place cuts a b c d ea eb ec ed zero l = ea
 choose_tile r place cuts a b c d ea eb ec ed (suc zero) l = eb
 choose_tile r place cuts a b c d ea eb ec ed (suc (suc zero)) l = ec
@@ -162,7 +170,7 @@ four_halves r place cuts which shards are low high all l h e =
 
 -- a tile of a tier at whose place nothing is left to settle
 pub ended_at : (r : Rules) (place : Place) (cuts : Cuts) (k : ℕ) (s : ShardState) → spot_of s ≡ tile_at r place cuts k
-    → (last : Place) → last ≡ place → place.phase ≡ Ties → IsEnded s last
+    → (last : Place) → last ≡ place → place.phase ≡ Ties → IsShardFinished s last
 ended_at r place cuts k s is last at ties = record {
   last_is = at ∙ sym (spot_place r place cuts k s is);
   ties = ap (λ (x : Spot). x.phase) is ∙ ties;

@@ -1,8 +1,12 @@
 //! A tier solved without threads.
 ghost use Rattle.std.specs.Prelude.{◌≡◌, ◌≤◌, IfOk, IfErr, OnOk};
-ghost use Rattle.gm_backward.specs.Lower.{WinLose, AreHeld, IsTable, IsTooFar, AreDeliveries, place_at, place_of};
+ghost use Rattle.gm_game.specs.declared.position.Phase.TheVariants.{WinLose};
+ghost use Rattle.gm_table.specs.Tables.{AreHeld, IsTable};
+ghost use Rattle.gm_table.specs.Solving.{IsTooFar, AreDeliveries};
+ghost use Rattle.gm_frontier.specs.Levels.{place_at};
+ghost use Rattle.gm_counters.specs.Steps.{place_of};
 ghost use Rattle.gm_backward.specs.Solving.{IsError};
-ghost use Rattle.gm_backward.specs.Tiling.{IsLaterPlace};
+ghost use Rattle.gm_backward.specs.inner.Tiling.{IsLaterPlace};
 
 use crate::cuts::Cuts;
 use crate::error::SolveError;

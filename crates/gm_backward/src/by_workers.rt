@@ -1,8 +1,12 @@
 //! A tier solved level by level, by workers.
 ghost use Rattle.std.specs.Prelude.{◌≡◌, ◌≤◌, IfOk, IfErr, OnOk};
-ghost use Rattle.gm_backward.specs.Lower.{WinLose, AreDeliveries, AreHeld, IsTable, IsTooFar, place_at, place_of};
+ghost use Rattle.gm_game.specs.declared.position.Phase.TheVariants.{WinLose};
+ghost use Rattle.gm_table.specs.Solving.{AreDeliveries, IsTooFar};
+ghost use Rattle.gm_table.specs.Tables.{AreHeld, IsTable};
+ghost use Rattle.gm_frontier.specs.Levels.{place_at};
+ghost use Rattle.gm_counters.specs.Steps.{place_of};
 ghost use Rattle.gm_backward.specs.Solving.{IsError};
-ghost use Rattle.gm_backward.specs.Tiling.{IsLaterPlace};
+ghost use Rattle.gm_backward.specs.inner.Tiling.{IsLaterPlace};
 
 use crate::context::SolveContext;
 use crate::cuts::Cuts;

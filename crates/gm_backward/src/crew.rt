@@ -1,7 +1,10 @@
 //! The workers of one level.
 ghost use Rattle.std.specs.Prelude.{◌≡◌, ℕ, ◌+◌, ◌-◌, ◌^◌, ◌<◌, length, min, OnOk, IfOk, vec_len};
-ghost use Rattle.gm_backward.specs.Lower.{div_ceil, choose, total_of, piece_pairs};
-ghost use Rattle.gm_backward.specs.Tiling.{tile_at};
+ghost use Rattle.std.specs.Int.{div_ceil};
+ghost use Rattle.gm_locks.specs.Spots.{for_shard};
+ghost use Rattle.gm_locks.specs.Amounts.{total_of};
+ghost use Rattle.gm_locks.specs.Pieces.{piece_pairs};
+ghost use Rattle.gm_backward.specs.inner.Tiling.{tile_at};
 
 use crate::context::SolveContext;
 use crate::gate::Gate;
@@ -67,7 +70,7 @@ struct Crew<
     board: &'a PieceBoard<G, A, B, C, D>,
     job: &'a LevelJob<'b, G>,
     slots: &'a [Mutex<WorkerSlot<A, B, C, D>>],
-    ghost tiles_are: { (k : ℕ) → k < 4 → choose k A.spot B.spot C.spot D.spot ≡ tile_at G.rules job.now.level.now.place job.now.cuts k },
+    ghost tiles_are: { (k : ℕ) → k < 4 → for_shard k A.spot B.spot C.spot D.spot ≡ tile_at G.rules job.now.level.now.place job.now.cuts k },
     ghost notes_are: { A.notes ≡ job.now.level.now.notes },
     ghost size_is: { A.size ≡ job.now.notes },
 }
@@ -98,7 +101,7 @@ impl<
     )
         requires shard { shard < 4 }
         requires piece { piece < div_ceil (length A.notes) A.size }
-        requires pairs { pairs.now ≡ piece_pairs G.rules (choose shard A.spot B.spot C.spot D.spot) A.notes A.size piece }
+        requires pairs { pairs.now ≡ piece_pairs G.rules (for_shard shard A.spot B.spot C.spot D.spot) A.notes A.size piece }
         ensures { shares.new.parts ≡ shares.old.parts }
     {
         let place = self.job.level.place();
@@ -213,7 +216,7 @@ pub(crate) fn run_crew<
     workers: usize,
     rest: &mut Shares<A, B, C, D>,
 ) -> Result<u64, AllocError>
-    requires tiles { (k : ℕ) → k < 4 → choose k A.spot B.spot C.spot D.spot ≡ tile_at G.rules job.now.level.now.place job.now.cuts k }
+    requires tiles { (k : ℕ) → k < 4 → for_shard k A.spot B.spot C.spot D.spot ≡ tile_at G.rules job.now.level.now.place job.now.cuts k }
     requires notes { A.notes ≡ job.now.level.now.notes }
     requires size { A.size ≡ job.now.notes }
     requires workers { workers < rest.old.parts }

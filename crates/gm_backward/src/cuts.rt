@@ -1,7 +1,7 @@
 //! Where a tier is cut into four tiles.
 ghost use Rattle.std.specs.Prelude.{◌≡◌, ℕ, suc, ◌<◌, ◌≤◌, length};
-ghost use Rattle.gm_backward.specs.Lower.{TIER_SIZE};
-ghost use Rattle.gm_backward.specs.Cuts.{cut_at, AreCuts};
+ghost use Rattle.gm_game.specs.declared.limits.TheConstants.{TIER_SIZE};
+ghost use Rattle.gm_backward.specs.inner.Cuts.{cut_at, AreCuts};
 
 use gm_counters::status::Start;
 use gm_game::game::Game;

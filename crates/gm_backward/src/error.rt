@@ -1,6 +1,6 @@
 //! Why a tier is not solved.
 ghost use Rattle.std.specs.Prelude.{◌≡◌};
-ghost use Rattle.gm_backward.specs.Solving.{number_of};
+ghost use Rattle.gm_backward.specs.Solving.{solve_error_number};
 
 use std::alloc::AllocError;
 use thiserror::Error;
@@ -18,7 +18,7 @@ pub enum SolveError {
 impl SolveError {
     /// Returns the number of the error.
     pub fn number(&self) -> u8
-        ensures { result ≡ number_of self.now }
+        ensures { result ≡ solve_error_number self.now }
     {
         match self {
             SolveError::OutOfMemory => 1,

@@ -1,7 +1,7 @@
 //! The records of a tier after its last level.
 ghost use Rattle.std.specs.Prelude.{◌≡◌, ◌++◌, List, Option, IfOk};
 ghost use Rattle.gm_game.specs.declared.position.Solved.{Solved as SolvedData};
-ghost use Rattle.gm_backward.specs.Tiling.{IsEnded, AreAllOf, AreRecordsOf};
+ghost use Rattle.gm_backward.specs.inner.Tiling.{IsShardFinished, AreAllOf, AreRecordsOf};
 
 use gm_counters::ordered::OrderedShard;
 use gm_frontier::last::Last;
@@ -17,7 +17,7 @@ fn finish_one<G: Game>(
     shard: OrderedShard<G>,
     last: &Last<G>,
 ) -> Result<Packed, AllocError>
-    requires { IsEnded shard last.now }
+    requires { IsShardFinished shard last.now }
     ensures { IfOk result (AreAllOf G.rules shard) }
 {
     let mut records = Packed::with_capacity(alloc, room as usize)?;
@@ -34,18 +34,18 @@ pub(crate) fn finish_two<G: Game + Send + Sync, R: Threads + Sync>(
     high: OrderedShard<G>,
     last: &Last<G>,
 ) -> Result<Packed, AllocError>
-    requires low { IsEnded low last.now }
-    requires high { IsEnded high last.now }
+    requires low { IsShardFinished low last.now }
+    requires high { IsShardFinished high last.now }
     ensures { IfOk result (AreRecordsOf G.rules low high) }
 {
     let (first, second) = join(
         rt,
         move || -> Result<Packed, AllocError>
-            requires { IsEnded low last.now }
+            requires { IsShardFinished low last.now }
             ensures { IfOk result (AreAllOf G.rules low) }
         { finish_one(alloc, room, low, last) },
         move || -> Result<Packed, AllocError>
-            requires { IsEnded high last.now }
+            requires { IsShardFinished high last.now }
             ensures { IfOk result (AreAllOf G.rules high) }
         { finish_one(alloc, room, high, last) },
     );

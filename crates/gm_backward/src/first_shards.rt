@@ -1,8 +1,11 @@
 //! The shards of a tier before its first level, one for each of its four tiles.
 ghost use Rattle.std.specs.Prelude.{◌≡◌, ◌+◌, ◌<◌, length, IfOk};
-ghost use Rattle.gm_backward.specs.Lower.{WinLose, place_at, AreStarts, place_of};
-ghost use Rattle.gm_backward.specs.Cuts.{AreCuts};
-ghost use Rattle.gm_backward.specs.Tiling.{IsTile, AreTwo};
+ghost use Rattle.gm_game.specs.declared.position.Phase.TheVariants.{WinLose};
+ghost use Rattle.gm_frontier.specs.Levels.{place_at};
+ghost use Rattle.gm_counters.specs.inner.Begin.{AreStarts};
+ghost use Rattle.gm_counters.specs.Steps.{place_of};
+ghost use Rattle.gm_backward.specs.inner.Cuts.{AreCuts};
+ghost use Rattle.gm_backward.specs.inner.Tiling.{IsTile, AreTwo};
 
 use crate::cuts::Cuts;
 use crate::tiles::Tiles;

@@ -1,7 +1,9 @@
 //! The pairs of a level, delivered to a shard in their order. None comes twice, so neither the children delivered to a position nor the places of its children
 //! are kept.
 ghost use Rattle.std.specs.Prelude.{◌≡◌, ◌<◌, ◌≤◌, IfOk, IfErr, OnOk};
-ghost use Rattle.gm_backward.specs.Lower.{place_of, IsWhole, spot_of, pairs_into, HasNoneHere, AreFirst};
+ghost use Rattle.gm_counters.specs.Steps.{place_of, IsWhole};
+ghost use Rattle.gm_locks.specs.Spots.{spot_of};
+ghost use Rattle.gm_locks.specs.Rounds.{pairs_into, HasNoneHere, AreFirst};
 ghost use Rattle.gm_backward.specs.Solving.{IsError};
 
 use crate::error::SolveError;

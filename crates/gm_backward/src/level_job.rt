@@ -1,6 +1,6 @@
 //! A level that workers share in pieces.
 ghost use Rattle.std.specs.Prelude.{◌≡◌, ◌<◌, ◌≤◌};
-ghost use Rattle.gm_backward.specs.Cuts.{AreCuts};
+ghost use Rattle.gm_backward.specs.inner.Cuts.{AreCuts};
 
 use crate::cuts::Cuts;
 use crate::error::SolveError;

@@ -1,8 +1,13 @@
 //! One level by workers: they deliver, and then the coordinator delivers the missing pairs.
 ghost use Rattle.std.specs.Prelude.{◌≡◌, ℕ, ◌+◌, ◌<◌, ◌≤◌, true, false, length, slice_index_or, IfOk, IfErr, OnOk};
-ghost use Rattle.gm_backward.specs.Lower.{div_ceil, place_at, IsWhole, spot_of, choose, IsLevelAt, IsReadyFor};
+ghost use Rattle.std.specs.Int.{div_ceil};
+ghost use Rattle.gm_frontier.specs.Levels.{place_at};
+ghost use Rattle.gm_counters.specs.Steps.{IsWhole};
+ghost use Rattle.gm_locks.specs.Spots.{spot_of, for_shard};
+ghost use Rattle.gm_locks.specs.Rounds.{IsLevelAt};
+ghost use Rattle.gm_locks.specs.Pieces.{IsReadyFor};
 ghost use Rattle.gm_backward.specs.Solving.{IsError};
-ghost use Rattle.gm_backward.specs.Tiling.{AreShardsAt, HaveNoneHere, AreWhole, tile_at, next_place};
+ghost use Rattle.gm_backward.specs.inner.Tiling.{AreShardsAt, HaveNoneHere, AreWhole, tile_at, next_place};
 
 use crate::context::SolveContext;
 use crate::crew::run_crew;

@@ -1,8 +1,14 @@
 //! The levels of both phases of a tier.
 ghost use Rattle.std.specs.Prelude.{◌≡◌, ◌≤◌, IfSome, IfNone, IfOk, IfErr};
-ghost use Rattle.gm_backward.specs.Lower.{Ties, IsNumberBefore, AreTiles, IsTooFar, IsTrueTable, AreDeliveries, AreHeld, IsTable, place_of};
+ghost use Rattle.gm_game.specs.declared.position.Phase.TheVariants.{Ties};
+ghost use Rattle.gm_frontier.specs.Counts.{IsNumberBefore};
+ghost use Rattle.gm_frontier.specs.Levels.{AreTiles};
+ghost use Rattle.gm_table.specs.Solving.{IsTooFar, AreDeliveries};
+ghost use Rattle.gm_game.specs.Records.{IsTrueTable};
+ghost use Rattle.gm_table.specs.Tables.{AreHeld, IsTable};
+ghost use Rattle.gm_counters.specs.Steps.{place_of};
 ghost use Rattle.gm_backward.specs.Solving.{IsError};
-ghost use Rattle.gm_backward.specs.Tiling.{IsFreshRun};
+ghost use Rattle.gm_backward.specs.inner.Tiling.{IsFreshRun};
 
 use crate::error::SolveError;
 use crate::tiles::Tiles;

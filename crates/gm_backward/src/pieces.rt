@@ -1,8 +1,9 @@
 //! The pairs of a piece of a level, by the tiles that have their parents.
 ghost use Rattle.std.specs.Prelude.{◌≡◌, ℕ, ◌<◌, ◌++◌, ◌∷◌, List, [], OnOk};
-ghost use Rattle.gm_backward.specs.Lower.{NoteData, pairs_of, piece_of};
-ghost use Rattle.gm_backward.specs.Cuts.{AreAscending};
-ghost use Rattle.gm_backward.specs.Split.{AreSplit};
+ghost use Rattle.gm_frontier.specs.Notes.{NoteData};
+ghost use Rattle.gm_frontier.specs.Pairs.{pairs_of, piece_of};
+ghost use Rattle.gm_backward.specs.inner.Cuts.{AreAscendingCuts};
+ghost use Rattle.gm_backward.specs.inner.Split.{AreSplit};
 ghost use Rattle.gm_backward.specs.declared.cuts.Cuts.{Cuts as CutsData};
 
 use crate::cuts::Cuts;
@@ -40,7 +41,7 @@ fn put<G: Game>(
     note: Note<G>,
     parent: u64,
 ) -> Result<(), AllocError>
-    ensures { OnOk result ((size : ℕ) (pairs : List (NoteData × ℕ)) → AreAscending size cuts.now → parent < size
+    ensures { OnOk result ((size : ℕ) (pairs : List (NoteData × ℕ)) → AreAscendingCuts size cuts.now → parent < size
         → AreSplit size cuts.now pairs lists.old → AreSplit size cuts.now (pairs ++ (note, parent) ∷ []) lists.new) }
 {
     lists[cuts.tile_of(parent)].push((note, parent))?;

@@ -1,6 +1,6 @@
 //! How a tier is shared among workers.
 ghost use Rattle.std.specs.Prelude.{◌≡◌, ◌<◌, ◌≤◌, ◌↔◌, true, false, IsSome, IfSome};
-ghost use Rattle.gm_backward.specs.Plans.{IsWithin};
+ghost use Rattle.gm_backward.specs.inner.Plans.{ArePlanNumbers};
 
 /// The most workers of a plan.
 pub const WORKERS: usize = 16;
@@ -21,14 +21,14 @@ pub struct Plan {
     shards: usize,
     piece: usize,
     fastest: bool,
-    ghost within: { IsWithin workers shards piece },
+    ghost within: { ArePlanNumbers workers shards piece },
 }
 
 impl Plan {
     /// Returns the plan of these numbers; `None` exactly outside the limits, which are 1 to `WORKERS`, 1 to `SHARDS` and 1 to `PIECE`. By this plan workers
     /// solve every tier, with the gate round each delivery and the source asked for each piece.
     pub fn new(workers: usize, shards: usize, piece: usize) -> Option<Self>
-        ensures exact { IsSome result ↔ IsWithin workers shards piece }
+        ensures exact { IsSome result ↔ ArePlanNumbers workers shards piece }
         ensures workers { IfSome result (λ plan. plan.workers ≡ workers) }
         ensures shards { IfSome result (λ plan. plan.shards ≡ shards) }
         ensures piece { IfSome result (λ plan. plan.piece ≡ piece) }
@@ -40,7 +40,7 @@ impl Plan {
     /// Returns the plan of these numbers by which a build is fastest; `None` exactly if `new` returns `None`. A tier that every move leaves is solved in one
     /// pass, any other by workers.
     pub fn fastest(workers: usize, shards: usize, piece: usize) -> Option<Self>
-        ensures exact { IsSome result ↔ IsWithin workers shards piece }
+        ensures exact { IsSome result ↔ ArePlanNumbers workers shards piece }
         ensures workers { IfSome result (λ plan. plan.workers ≡ workers) }
         ensures shards { IfSome result (λ plan. plan.shards ≡ shards) }
         ensures piece { IfSome result (λ plan. plan.piece ≡ piece) }
@@ -51,7 +51,7 @@ impl Plan {
 
     // Returns the plan of these numbers if they are within the limits.
     fn of(workers: usize, shards: usize, piece: usize, fastest: bool) -> Option<Self>
-        ensures exact { IsSome result ↔ IsWithin workers shards piece }
+        ensures exact { IsSome result ↔ ArePlanNumbers workers shards piece }
         ensures workers { IfSome result (λ plan. plan.workers ≡ workers) }
         ensures shards { IfSome result (λ plan. plan.shards ≡ shards) }
         ensures piece { IfSome result (λ plan. plan.piece ≡ piece) }

@@ -1,7 +1,9 @@
 //! The start values of the indexes of a tier, found block by block by at most as many threads as workers or processors.
 ghost use Rattle.std.specs.Prelude.{◌≡◌, ◌≤◌, length, IfOk};
-ghost use Rattle.gm_backward.specs.Lower.{AreStarts, block_in, TIER_SIZE};
-ghost use Rattle.gm_backward.specs.Blocks.{IsPart, ArePartsOf};
+ghost use Rattle.gm_counters.specs.inner.Begin.{AreStarts};
+ghost use Rattle.gm_table.specs.inner.Dealing.{block_in};
+ghost use Rattle.gm_game.specs.declared.limits.TheConstants.{TIER_SIZE};
+ghost use Rattle.gm_backward.specs.inner.Blocks.{IsPart, ArePartsOf};
 
 use crate::starts::starts;
 use gm_counters::status::Start;

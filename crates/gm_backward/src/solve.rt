@@ -1,6 +1,7 @@
 //! One tier, by the method that its plan chooses.
 ghost use Rattle.std.specs.Prelude.{◌≡◌, ◌≤◌, IfOk, IfErr, OnOk};
-ghost use Rattle.gm_backward.specs.Lower.{AreHeld, IsTable, IsTooFar, AreDeliveries};
+ghost use Rattle.gm_table.specs.Tables.{AreHeld, IsTable};
+ghost use Rattle.gm_table.specs.Solving.{IsTooFar, AreDeliveries};
 ghost use Rattle.gm_backward.specs.Solving.{IsError};
 
 use crate::context::SolveContext;

@@ -1,6 +1,6 @@
 //! The start values of the indexes of a tier.
 ghost use Rattle.std.specs.Prelude.{◌≡◌, ◌-◌, ◌≤◌, length, IfOk};
-ghost use Rattle.gm_backward.specs.Lower.{AreStarts};
+ghost use Rattle.gm_counters.specs.inner.Begin.{AreStarts};
 
 use gm_counters::begin::start_of_canonical;
 use gm_counters::status::Start;

@@ -1,9 +1,16 @@
 //! The tiles of a tier, each with a shard.
 ghost use Rattle.std.specs.Prelude.{◌≡◌, ◌+◌, ◌≤◌, IfOk, IfErr};
-ghost use Rattle.gm_backward.specs.Lower.{REMOTENESS, WinLose, IsTrueTable, place_at, place_of, AreHeld, Ties, IsNumberBefore, CanTurn, IsLastLevel};
-ghost use Rattle.gm_backward.specs.Cuts.{AreCuts};
+ghost use Rattle.gm_game.specs.declared.limits.TheConstants.{REMOTENESS};
+ghost use Rattle.gm_game.specs.declared.position.Phase.TheVariants.{WinLose, Ties};
+ghost use Rattle.gm_game.specs.Records.{IsTrueTable};
+ghost use Rattle.gm_frontier.specs.Levels.{place_at};
+ghost use Rattle.gm_counters.specs.Steps.{place_of, CanTurn};
+ghost use Rattle.gm_table.specs.Tables.{AreHeld};
+ghost use Rattle.gm_frontier.specs.Counts.{IsNumberBefore};
+ghost use Rattle.gm_game.specs.Places.{IsLastLevel};
+ghost use Rattle.gm_backward.specs.inner.Cuts.{AreCuts};
 ghost use Rattle.gm_backward.specs.Solving.{IsError};
-ghost use Rattle.gm_backward.specs.Tiling.{AreShardsAt, HaveNoneHere, AreGood, AreWhole, IsEnded, AreRecordsOf, next_place};
+ghost use Rattle.gm_backward.specs.inner.Tiling.{AreShardsAt, HaveNoneHere, AreGood, AreWhole, IsShardFinished, AreRecordsOf, next_place};
 
 use crate::context::SolveContext;
 use crate::cuts::Cuts;
@@ -84,10 +91,10 @@ impl<G: Game> Tiles<G> {
     pub(crate) fn show_ended(&self, last: &Last<G>)
         requires last { last.now ≡ place_of self.now.shards.a }
         requires ties { self.now.shards.a.phase ≡ Ties }
-        ensures a { IsEnded self.now.shards.a last.now }
-        ensures b { IsEnded self.now.shards.b last.now }
-        ensures c { IsEnded self.now.shards.c last.now }
-        ensures d { IsEnded self.now.shards.d last.now }
+        ensures a { IsShardFinished self.now.shards.a last.now }
+        ensures b { IsShardFinished self.now.shards.b last.now }
+        ensures c { IsShardFinished self.now.shards.c last.now }
+        ensures d { IsShardFinished self.now.shards.d last.now }
     {}
 
     /// Shows that the present level is within the limit, if something of its phase is left: the shards are good and the tables are true.
@@ -200,11 +207,11 @@ impl<G: Game + Send + Sync> Tiles<G> {
         let (low, high) = join(
             rt,
             move || -> Result<Packed, AllocError>
-                requires { IsEnded a last.now × IsEnded b last.now }
+                requires { IsShardFinished a last.now × IsShardFinished b last.now }
                 ensures { IfOk result (AreRecordsOf G.rules a b) }
             { finish_two(rt, alloc, size, a, b, last) },
             move || -> Result<Packed, AllocError>
-                requires { IsEnded c last.now × IsEnded d last.now }
+                requires { IsShardFinished c last.now × IsShardFinished d last.now }
                 ensures { IfOk result (AreRecordsOf G.rules c d) }
             { finish_two(rt, alloc, size, c, d, last) },
         );

@@ -1,12 +1,14 @@
 -- An arrangement's index by the ranks of two masks, and its masks by two ranks.
-use Rattle.gm_board.proofs.Lower.{◌≡◌, ℕ, ◌+◌, ◌-◌, ◌/◌, ◌%◌, ◌<◌, ◌≤◌, Bool, List, length, sym, ap, ap₂, ◌∙◌, subst, arith, mod-lt, div-lt_iff_lt-mul}
-use Rattle.gm_board.proofs.Lower.{binomial, members, rank, unrank, tests_of, mask_of, mask_rank, tests_mask, tests_unrank, mask_below, mask_rank_at, their_bits}
-use Rattle.gm_board.proofs.Lower.{merge, mine_bits_merge, pos_of_lt_mul, HasPieces, cells_of, their_tests, unrank_members}
-use Rattle.std.proofs.Common.{◌*◌}
+use Rattle.gm_board.proofs.Lower.{◌≡◌, ℕ, ◌+◌, ◌-◌, ◌/◌, ◌%◌, ◌<◌, ◌≤◌, Bool, List, length, sym, ap, ap₂, ◌∙◌, subst, arith, binomial, members, rank, tests_of, mask_of, mask_rank, tests_mask, mask_below, mask_rank_at, their_bits, HasPieces, cells_of}
+use Rattle.std.proofs.Common.{mod-lt, div-lt_iff_lt-mul, ◌*◌}
+use Rattle.gm_board.specs.Ranks.{unrank}
+use Rattle.gm_board.specs.laws.Masks.{tests_unrank}
+use Rattle.gm_board.specs.Arrangements.{merge, arrangement_index, arrangement, arrangements}
+use Rattle.gm_board.specs.laws.Arrangements.{mine_bits_merge, pos_of_lt_mul}
+use Rattle.gm_board.specs.Pieces.{their_tests, mine_mask, their_mask, spread_mask}
+use Rattle.gm_board.specs.laws.Ranks.{unrank_members}
 use Rattle.gm_board.specs.laws.Pieces.{free_count, mine_bits_cells, their_count}
 use Rattle.gm_board.specs.Masks.{mask_unrank}
-use Rattle.gm_board.specs.Arrangements.{arrangement_index, arrangement, arrangements}
-use Rattle.gm_board.specs.Pieces.{mine_mask, their_mask, spread_mask}
 
 rank_of_tests : (bs : List Bool) → length bs ≤ 32 → mask_rank (mask_of bs) ≡ rank bs
 rank_of_tests bs l = mask_rank_at (length bs) (mask_of bs) l (mask_below bs) ∙ ap rank (tests_mask bs)

@@ -1,8 +1,9 @@
 -- The lowest cell of a mask, and the mask without it.
-use Rattle.gm_board.proofs.Lower.{◌≡◌, ℕ, zero, suc, ◌+◌, ◌-◌, ◌/◌, ◌%◌, ◌^◌, ◌<◌, ◌≤◌, refl, sym, ap, ap₂, ◌∙◌, arith, inl, inr, pow_pos, bit_and, bit_at}
-use Rattle.gm_board.proofs.Lower.{trailing_zeros, w32, two-pow-succ, cases_lt, shr_split, mod-pow-add, mod_below, bit_at-trailing_zeros, bit_at_above}
-use Rattle.gm_board.proofs.Lower.{bit_at_and, bit_at_cat_low, bit_at_cat_high}
-use Rattle.std.proofs.Common.{◌*◌}
+use Rattle.gm_board.proofs.Lower.{◌≡◌, ℕ, zero, suc, ◌+◌, ◌-◌, ◌/◌, ◌%◌, ◌^◌, ◌<◌, ◌≤◌, refl, sym, ap, ap₂, ◌∙◌, arith, inl, inr, bit_and, bit_at, trailing_zeros, w32, cases_lt, shr_split, mod_below, bit_at_cat_low, bit_at_cat_high}
+use Rattle.std.proofs.Common.{pow_pos, ◌*◌}
+use Rattle.std.proofs.Math.Nat.{two-pow-succ}
+use Rattle.std.proofs.lemmas.Nat.{mod-pow-add}
+use Rattle.std.proofs.lemmas.Nat.Bits.{bit_at-trailing_zeros, bit_at_above, bit_at_and}
 
 -- the rest has the cells of the mask from `next` on
 pub record IsRest (mask next rest : ℕ) : Type 0 where

@@ -1,11 +1,11 @@
 -- The subset with the next rank: its lowest run of members goes up by a cell at its end, and its other members to the bottom.
-use Rattle.gm_board.proofs.Lower.{◌≡◌, ℕ, zero, suc, ◌+◌, ◌-◌, ◌/◌, ◌%◌, ◌^◌, ◌<◌, ◌≤◌, Bool, true, false, eqb, List, [], ◌∷◌, ◌++◌, length, refl, sym, ap, ap₂}
-use Rattle.gm_board.proofs.Lower.{◌∙◌, subst, arith, pow-suc, inl, inr, count_ones, bit_at, trailing_zeros, trailing_ones, cases_lt, shr-shr, shr_le, one_shl}
-use Rattle.gm_board.proofs.Lower.{bit_at-trailing_zeros, bit_at-trailing_ones, bit_at_above, pow_mono, binomial, binomial_zero, binomial_past, pascal, members}
-use Rattle.gm_board.proofs.Lower.{rank, has_cell, tests_of, mask_of, mask_unrank, tests_none, tests_more, tests_length, mask_below, mask_tests_small}
-use Rattle.gm_board.proofs.Lower.{tests_mask, members_small, mask_unrank_below, mask_unrank_ones, mask_rank_unrank, mask_unrank_rank}
-use Rattle.std.proofs.Common.{◌*◌, w32}
-use Rattle.std.proofs.lemmas.Nat.{pow_pos}
+use Rattle.gm_board.proofs.Lower.{◌≡◌, ℕ, zero, suc, ◌+◌, ◌-◌, ◌/◌, ◌%◌, ◌^◌, ◌<◌, ◌≤◌, Bool, true, false, eqb, List, [], ◌∷◌, ◌++◌, length, refl, sym, ap, ap₂, ◌∙◌, subst, arith, inl, inr, count_ones, bit_at, trailing_zeros, cases_lt, one_shl, pow_mono, binomial, binomial_zero, pascal, members, rank, has_cell, tests_of, mask_of, mask_unrank, tests_none, tests_more, tests_length, mask_below, tests_mask, members_small, mask_unrank_rank}
+use Rattle.std.proofs.Common.{pow-suc, ◌*◌, w32}
+use Rattle.std.specs.Int.{trailing_ones}
+use Rattle.std.proofs.lemmas.Nat.{shr-shr, shr_le, pow_pos}
+use Rattle.std.proofs.lemmas.Nat.Bits.{bit_at-trailing_zeros, bit_at-trailing_ones, bit_at_above}
+use Rattle.gm_board.specs.laws.Binomials.{binomial_past}
+use Rattle.gm_board.specs.laws.Masks.{mask_tests_small, mask_unrank_below, mask_unrank_ones, mask_rank_unrank}
 use Rattle.gm_board.specs.Masks.{mask_rank}
 
 -- n members, and n cells that are none, above others

@@ -1,12 +1,16 @@
 -- The steps of packing the opponent's pieces on the cells without the mover's, and of spreading them again.
-use Rattle.gm_board.proofs.Lower.{◌≡◌, ℕ, suc, ◌+◌, ◌-◌, ◌/◌, ◌%◌, ◌^◌, ◌<◌, ◌≤◌, Bool, true, false, List, [], ◌∷◌, length, refl, sym, ap, ap₂, ◌∙◌, subst}
-use Rattle.gm_board.proofs.Lower.{arith, add-one, lt_of_le_of_lt, bit_and, count_ones, bit_at, trailing_zeros, w32, two-pow-succ, mod-eq_of_lt, pow_mono}
-use Rattle.gm_board.proofs.Lower.{shr-shr, shr_split, div-mul-add, bit_at-lt, Cell, members, members_le, has_cell, tests_of, mask_of, tests_none, tests_more}
-use Rattle.gm_board.proofs.Lower.{tests_length, mask_cons, mask_below, weight_bit, members_small, members_skips, members_add, no_bit, their_bits, their_cell}
-use Rattle.gm_board.proofs.Lower.{merge, cell_by, cells_of, their_tests, mul-add, add-mul, div-eq_of_lt, steady, cell_below, cell_one, cell_none}
-use Rattle.std.proofs.Common.{◌*◌}
+use Rattle.gm_board.proofs.Lower.{◌≡◌, ℕ, suc, ◌+◌, ◌-◌, ◌/◌, ◌%◌, ◌^◌, ◌<◌, ◌≤◌, Bool, true, false, List, [], ◌∷◌, length, refl, sym, ap, ap₂, ◌∙◌, subst, arith, bit_and, count_ones, bit_at, trailing_zeros, w32, pow_mono, shr_split, members, members_le, has_cell, tests_of, mask_of, tests_none, tests_more, tests_length, mask_below, members_small, their_bits, cells_of}
+use Rattle.std.proofs.Common.{add-one, lt_of_le_of_lt, ◌*◌}
+use Rattle.std.proofs.Math.Nat.{two-pow-succ, mod-eq_of_lt, mul-add, add-mul, div-eq_of_lt}
+use Rattle.std.proofs.lemmas.Nat.{shr-shr, div-mul-add}
+use Rattle.std.proofs.lemmas.Nat.Bits.{bit_at-lt}
+use Rattle.gm_board.specs.declared.cell.Cell.{Cell}
+use Rattle.gm_board.specs.laws.Masks.{mask_cons, weight_bit, members_skips, members_add, steady}
+use Rattle.gm_board.specs.laws.MaskChanges.{no_bit}
+use Rattle.gm_board.specs.Arrangements.{their_cell, merge}
+use Rattle.gm_board.specs.Pieces.{cell_by, their_tests, spread_mask}
+use Rattle.gm_board.specs.laws.NextCells.{cell_below, cell_one, cell_none}
 use Rattle.gm_board.specs.laws.Pieces.{cells_none, cells_more, free_length, apart_below}
-use Rattle.gm_board.specs.Pieces.{spread_mask}
 use Rattle.gm_board.proofs.LowestCells.{IsRest, rest_whole, lowest, nothing_left}
 
 -- twice as much of the higher digits

@@ -1,6 +1,8 @@
 -- The constant rows of Pascal's triangle.
-use Rattle.gm_board.proofs.Lower.{◌≡◌, ℕ, zero, suc, ◌+◌, ◌<◌, Bool, true, ◌&&◌, List, [], ◌∷◌, length, get_or, eqb, eqb-true, refl, ap, ◌∙◌, subst, arith}
-use Rattle.gm_board.proofs.Lower.{list_all, and_left, and_right, binomial, binomial_zero, binomial_none, pascal}
+use Rattle.gm_board.proofs.Lower.{◌≡◌, ℕ, zero, suc, ◌+◌, ◌<◌, Bool, true, ◌&&◌, List, [], ◌∷◌, length, get_or, eqb, refl, ap, ◌∙◌, subst, arith, binomial, binomial_zero, binomial_none, pascal}
+use Rattle.std.proofs.Common.{eqb-true}
+use Rattle.std.specs.List.{list_all}
+use Rattle.gm_board.specs.laws.Lists.{and_left, and_right}
 
 -- whether ys has the sums of the neighbours in p ∷ xs
 abbrev pub are_sums : ℕ → List ℕ → List ℕ → Bool

@@ -1,9 +1,10 @@
 -- The steps of making a number of digits, and of taking it apart again.
-use Rattle.gm_board.proofs.Lower.{◌≡◌, ℕ, zero, suc, ◌+◌, ◌/◌, ◌%◌, ◌^◌, ◌<◌, ◌≤◌, List, [], ◌∷◌, ◌++◌, length, get_or, set, take, drop, sym, ap, ap₂, ◌∙◌}
-use Rattle.gm_board.proofs.Lower.{subst, arith, mod-lt, mul-le-mul_left, length-set, length-take, get_or-take, get_or-set_same, get_or-set_other, inl, inr}
-use Rattle.gm_board.proofs.Lower.{div-lt_iff_lt-mul, cases_eq, div-add-mod', mul-mod_first, take_more, take_all, drop_more, drop-set, radix_size, digits_number}
-use Rattle.gm_board.proofs.Lower.{AreBelow, number_digits, number_below, digits_back}
-use Rattle.std.proofs.Common.{◌*◌}
+use Rattle.gm_board.proofs.Lower.{◌≡◌, ℕ, zero, suc, ◌+◌, ◌/◌, ◌%◌, ◌^◌, ◌<◌, ◌≤◌, List, [], ◌∷◌, ◌++◌, length, get_or, take, drop, sym, ap, ap₂, ◌∙◌, subst, arith, inl, inr, cases_eq}
+use Rattle.std.proofs.Common.{set, mod-lt, mul-le-mul_left, length-set, length-take, get_or-take, get_or-set_same, get_or-set_other, div-lt_iff_lt-mul, ◌*◌}
+use Rattle.std.proofs.lemmas.Nat.{div-add-mod', mul-mod_first}
+use Rattle.std.proofs.lemmas.List.{take_more, take_all, drop_more, drop-set}
+use Rattle.gm_board.specs.inner.Digits.{radix_size, digits_number, AreBelow, number_digits}
+use Rattle.gm_board.specs.laws.Digits.{number_below, digits_back}
 
 size_push : (rs : List ℕ) (r : ℕ) → radix_size (rs ++ r ∷ []) ≡ radix_size rs * r
 size_push [] r = omega arith

@@ -1,7 +1,9 @@
 -- The steps of ranking a mask, from its lowest cell up.
-use Rattle.gm_board.proofs.Lower.{◌≡◌, ℕ, suc, ◌+◌, ◌-◌, ◌/◌, ◌%◌, ◌^◌, ◌<◌, ◌≤◌, length, sym, ap, ap₂, ◌∙◌, arith, bit_and, count_ones, bit_at, trailing_zeros}
-use Rattle.gm_board.proofs.Lower.{w32, shr_split, mod_below, bit_at-zero, bit_at_cat_low, bit_at_cat_high, binomial, binomial_small, members, rank, rank_below}
-use Rattle.gm_board.proofs.Lower.{members_le, tests_of, tests_length, tests_same, mask_rank_at, members_ones, members_skips, rank_skips, members_add, rank_add}
+use Rattle.gm_board.proofs.Lower.{◌≡◌, ℕ, suc, ◌+◌, ◌-◌, ◌/◌, ◌%◌, ◌^◌, ◌<◌, ◌≤◌, length, sym, ap, ap₂, ◌∙◌, arith, bit_and, count_ones, bit_at, trailing_zeros, w32, shr_split, mod_below, bit_at_cat_low, bit_at_cat_high, binomial, members, rank, members_le, tests_of, tests_length, mask_rank_at}
+use Rattle.std.proofs.lemmas.Nat.Bits.{bit_at-zero}
+use Rattle.gm_board.specs.laws.Binomials.{binomial_small}
+use Rattle.gm_board.specs.laws.Ranks.{rank_below}
+use Rattle.gm_board.specs.laws.Masks.{tests_same, members_ones, members_skips, rank_skips, members_add, rank_add}
 use Rattle.std.proofs.Common.{◌*◌}
 use Rattle.gm_board.specs.Masks.{mask_rank}
 use Rattle.gm_board.proofs.LowestCells.{IsRest, lowest, nothing_left}

@@ -1,8 +1,9 @@
 -- Ranks of subsets of sixteen cells, by bytes.
-use Rattle.gm_board.proofs.Lower.{◌≡◌, ℕ, zero, suc, ◌+◌, ◌-◌, ◌/◌, ◌%◌, ◌^◌, ◌<◌, ◌≤◌, Bool, true, false, List, [], ◌∷◌, ◌++◌, map, length, get_or, eqb, refl}
-use Rattle.gm_board.proofs.Lower.{sym, ap, ap₂, ◌∙◌, arith, count_ones, bit_at, range_with_len, bit_at_cat_low, bit_at_cat_high, get_or-map-range_with_len}
-use Rattle.gm_board.proofs.Lower.{binomial, members, rank, members_le, mask_rank, tests_none, tests_more, tests_length, tests_same, mask_rank_at, members_small}
-use Rattle.gm_board.proofs.Lower.{ROWS, ONES, LOW, HIGH, UPPER}
+use Rattle.gm_board.proofs.Lower.{◌≡◌, ℕ, zero, suc, ◌+◌, ◌-◌, ◌/◌, ◌%◌, ◌^◌, ◌<◌, ◌≤◌, Bool, true, false, List, [], ◌∷◌, ◌++◌, map, length, get_or, eqb, refl, sym, ap, ap₂, ◌∙◌, arith, count_ones, bit_at, range_with_len, bit_at_cat_low, bit_at_cat_high, binomial, members, rank, members_le, mask_rank, tests_none, tests_more, tests_length, mask_rank_at, members_small}
+use Rattle.std.proofs.lemmas.List.FromFn.{get_or-map-range_with_len}
+use Rattle.gm_board.specs.laws.Masks.{tests_same}
+use Rattle.gm_board.specs.declared.pascal.TheConstants.{ROWS}
+use Rattle.gm_board.specs.declared.ranks.TheConstants.{ONES, LOW, HIGH, UPPER}
 use Rattle.std.proofs.Common.{◌*◌, append-nil, length-append}
 use Rattle.gm_board.specs.Masks.{tests_of}
 use Rattle.gm_board.proofs.PascalRows.{triangle_is}

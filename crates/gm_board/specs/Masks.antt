@@ -27,6 +27,6 @@ unfoldable pub mask_unrank : ℕ → ℕ → ℕ → ℕ
 mask_unrank n k r = mask_of (unrank n k r)
 
 -- the weight of a test in the mask
-abbrev pub weight : Bool → ℕ
-weight true = 1
-weight false = 0
+abbrev pub bit_weight : Bool → ℕ
+bit_weight true = 1
+bit_weight false = 0

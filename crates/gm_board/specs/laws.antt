@@ -22,4 +22,3 @@ pub mod SquareImages
 pub mod CellCounts
 pub mod Filters
 pub mod Lists
-pub mod Lower

@@ -1,6 +1,6 @@
 //! Numbers in mixed radix.
 ghost use Rattle.std.specs.Prelude.{◌≡◌, ◌<◌, ◌^◌};
-ghost use Rattle.gm_board.specs.Digits.{radix_size, digits_number, number_digits, AreBelow};
+ghost use Rattle.gm_board.specs.inner.Digits.{radix_size, digits_number, number_digits, AreBelow};
 
 /// Numbers of `K` digits, each below its own radix, the first digit most significant.
 #[derive(Clone, Copy, Debug, PartialEq, Eq)]

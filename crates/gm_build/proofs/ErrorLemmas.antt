@@ -1,7 +1,13 @@
 -- What an error of a tier says of the build.
-use Rattle.gm_build.proofs.Lower.{◌≡◌, ℕ, ◌+◌, inl, inr, Result, Err, refl, sym, subst, arith, IsErrOf, Rules, TIERS, IsReachedFrom, Texts}
-use Rattle.gm_build.proofs.Lower.{of_tier_error, IsBuildError, StopsAt, IsStopped, TierError, HasTooMany, AreMoreThan, IsTooLarge, IsTooFar, BuildError}
-use Rattle.gm_build.proofs.Lower.{OutOfMemory, TooFar, StoreFailed, TooManyTiers, TierTooLarge, failures_in, IsTierError}
+use Rattle.gm_build.proofs.Lower.{◌≡◌, ℕ, ◌+◌, inl, inr, Result, Err, refl, sym, subst, arith, Rules, TIERS, Texts, IsBuildError, IsStopped}
+use Rattle.std.specs.Result.{IsErrOf}
+use Rattle.gm_tiers.specs.Reach.{IsReachedFrom}
+use Rattle.gm_build.specs.Outcomes.{of_tier_error, StopsAt, failures_in, IsTierError}
+use Rattle.gm_tiers.specs.declared.tier_error.TierError.{TierError}
+use Rattle.gm_tiers.specs.Limits.{HasTooMany, AreMoreThan, IsTooLarge}
+use Rattle.gm_table.specs.Solving.{IsTooFar}
+use Rattle.gm_build.specs.declared.build_error.BuildError.{BuildError}
+use Rattle.gm_build.specs.declared.build_error.BuildError.TheVariants.{OutOfMemory, TooFar, StoreFailed, TooManyTiers, TierTooLarge}
 use Rattle.gm_tiers.specs.declared.tier_error.TierError.TheVariants.{OutOfMemory as NoMemory, TooManyTiers as TooMany, TierTooLarge as TooLarge}
 
 pub build_error : (r : Rules) (first tier : ℕ) (e : BuildError) → IsReachedFrom r first tier → IsTierError r tier e → IsBuildError r first e

@@ -1,7 +1,12 @@
 -- A tier of the order, those before it, and what a build that stops there leaves.
-use Rattle.gm_build.proofs.Lower.{◌≡◌, ℕ, ◌<◌, inl, inr, List, length, take, get_or, slice_get, Some, sym, subst, ◌∙◌, arith, length-take, Contains, take_more}
-use Rattle.gm_build.proofs.Lower.{Rules, TableData, IsOrderFrom, ComeChildrenFirst, Texts, AreSameBut, HaveTexts, KeepsOthers, HoldsExactly, StopsAt}
-use Rattle.gm_build.proofs.Lower.{get_or-take, slice_get-get_or, get_or_default_zero, AreHeld, IsBefore, MayHaveText}
+use Rattle.gm_build.proofs.Lower.{◌≡◌, ℕ, inl, inr, List, length, take, Some, sym, subst, ◌∙◌, arith, Contains, Rules, TableData, IsOrderFrom, Texts, AreSameBut, HaveTexts, KeepsOthers, HoldsExactly}
+use Rattle.std.proofs.Common.{◌<◌, get_or, slice_get, length-take}
+use Rattle.std.proofs.lemmas.List.{take_more, get_or-take}
+use Rattle.gm_tiers.specs.Orders.{ComeChildrenFirst, IsTierBefore}
+use Rattle.gm_build.specs.Outcomes.{StopsAt, MayHaveText}
+use Rattle.std.proofs.lemmas.Option.{slice_get-get_or}
+use Rattle.std.proofs.lemmas.Grind.{get_or_default_zero}
+use Rattle.gm_table.specs.Tables.{AreHeld}
 use Rattle.gm_build.proofs.StoreLemmas.{texts_kept, others_more}
 
 module _ (r : Rules) (first : ℕ) (tiers : List ℕ) (order : IsOrderFrom r first tiers) (k : ℕ) (inside : k < length tiers) where
@@ -12,7 +17,7 @@ module _ (r : Rules) (first : ℕ) (tiers : List ℕ) (order : IsOrderFrom r fir
       let j<k : j < k = omega (arith, length-take k tiers) in
       let j<n : j < length tiers = omega arith in
       let same : get_or tiers j 0 ≡ t = sym (get_or_default_zero tiers j t j<n) ∙ sym (get_or-take k tiers j t j<k) ∙ e in
-      let itself : IsBefore r t t = subst (λ (u : ℕ). IsBefore r u t) same (order.ordered j k 0 j<k inside) in
+      let itself : IsTierBefore r t t = subst (λ (u : ℕ). IsTierBefore r u t) same (order.ordered j k 0 j<k inside) in
       elim itself [ inl less ↦ (let none : ⊥ = omega arith in none) | inr b ↦ (let less = b.1 in let none : ⊥ = omega arith in none) ]
 
   -- it is there

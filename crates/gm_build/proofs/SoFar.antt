@@ -1,9 +1,16 @@
 -- What a build has done with the first tiers of the order.
-use Rattle.gm_build.proofs.Lower.{◌≡◌, ℕ, ◌+◌, ◌≤◌, ◌↔◌, List, [], ◌∷◌, ◌++◌, length, take, refl, subst, ◌∙◌, arith, length-append, Contains, MOVES, TIERS}
-use Rattle.gm_build.proofs.Lower.{TIER_SIZE, Rules, IsGame, contains_none, TableData, Texts, AreSameBut, HasText, HasOldText, HaveTexts, KeepsOthers, IsWorkOn}
-use Rattle.gm_build.proofs.Lower.{IsSomeWork, HoldsExactly, HoldsToo, IsStep, IsStepWork, no_work, with_tier, TierOutcome, Reused, Migrated, Solved}
-use Rattle.gm_build.proofs.Lower.{Work, take_all, Fits64}
-use Rattle.std.proofs.Common.{◌*◌}
+use Rattle.gm_build.proofs.Lower.{◌≡◌, ℕ, ◌+◌, ◌≤◌, ◌↔◌, List, [], ◌∷◌, ◌++◌, length, take, refl, subst, ◌∙◌, arith, Contains, TIERS, Rules, TableData, Texts, AreSameBut, HaveTexts, KeepsOthers, HoldsExactly, IsStepWork, with_tier, Solved}
+use Rattle.std.proofs.Common.{length-append, ◌*◌}
+use Rattle.gm_game.specs.declared.limits.TheConstants.{MOVES, TIER_SIZE}
+use Rattle.gm_game.specs.Laws.{IsGame}
+use Rattle.gm_game.proofs.Lists.{contains_none}
+use Rattle.gm_build.specs.TrueTexts.{HasText, HasOldText}
+use Rattle.gm_build.specs.Work.{IsWorkOn, IsSomeWork, HoldsToo}
+use Rattle.gm_build.specs.inner.Steps.{IsStep, no_work, Fits64}
+use Rattle.gm_build.specs.declared.tier.TierOutcome.{TierOutcome}
+use Rattle.gm_build.specs.declared.tier.TierOutcome.TheVariants.{Reused, Migrated}
+use Rattle.gm_build.specs.declared.work.Work.{Work}
+use Rattle.std.proofs.lemmas.List.{take_all}
 use Rattle.gm_build.proofs.StoreLemmas.{text_as_before, old_as_before, texts_more, others_more, holds_more}
 use Rattle.gm_build.proofs.WorkLemmas.{work_none, work_more, some_none, some_more, deliveries_few}
 

@@ -1,8 +1,17 @@
 -- What becomes of the texts and tables of the tiers before, when one tier more is built.
-use Rattle.gm_build.proofs.Lower.{◌≡◌, ◌≢◌, ◌==◌, ℕ, ◌⊎◌, ◌↔◌, inl, inr, true, false, if◌then◌else◌, List, [], ◌∷◌, ◌++◌, Some, IsSome, refl, ap, sym, subst}
-use Rattle.gm_build.proofs.Lower.{◌∙◌, eqb-true, eq-eqb, Contains, Contains-append_left, Contains-push, Contains-push_cases, Rules, TableData, Texts}
-use Rattle.gm_build.proofs.Lower.{AreSameBut, HasText, HasOldText, HaveTexts, KeepsOthers, IsInspected, HoldsExactly, HoldsToo, table_of, Inserts, IsHeld}
-use Rattle.gm_build.proofs.Lower.{IsTrueText, IsOldText, MayHaveText, AreSame, Found, Current, Old, Nothing, IsFound, IsFoundIn, Inspected, IsInspectedIn}
+use Rattle.gm_build.proofs.Lower.{◌≡◌, ℕ, ◌↔◌, inl, inr, List, [], ◌∷◌, ◌++◌, Some, refl, ap, sym, subst, ◌∙◌, Contains, Rules, TableData, Texts, AreSameBut, HaveTexts, KeepsOthers, HoldsExactly}
+use Rattle.std.proofs.Common.{◌≢◌, ◌==◌, ◌⊎◌, true, false, if◌then◌else◌, IsSome, eqb-true, eq-eqb}
+use Rattle.std.proofs.lemmas.List.Elements.{Contains-append_left, Contains-push, Contains-push_cases}
+use Rattle.gm_build.specs.TrueTexts.{HasText, HasOldText, IsTrueText, IsOldText}
+use Rattle.gm_build.specs.Inspections.{IsInspected, IsInspectedIn}
+use Rattle.gm_build.specs.Work.{HoldsToo}
+use Rattle.gm_table.specs.Tables.{table_of, Inserts, IsHeld}
+use Rattle.gm_build.specs.Outcomes.{MayHaveText}
+use Rattle.gm_tierdb.specs.StoreTexts.{AreSame}
+use Rattle.gm_build.specs.declared.found.Found.{Found}
+use Rattle.gm_build.specs.declared.found.Found.TheVariants.{Current, Old, Nothing}
+use Rattle.gm_build.specs.Findings.{IsFound, IsEntryFound}
+use Rattle.gm_build.specs.declared.inspect.Inspected.{Inspected}
 use Rattle.gm_build.specs.declared.inspect.Inspected.TheVariants.{Right, Missing, NoFile, NoTable}
 
 -- an entry that stays the same stays the text of the true table
@@ -34,7 +43,7 @@ has_old_text r texts tier bytes e = (
 )
 
 pub found_in : {G : Type 0} → (r : Rules) (texts : Texts) (tier : ℕ) (bytes : List ℕ) → texts tier ≡ Some bytes → (found : Found G)
-    → IsFound r tier bytes found → IsFoundIn r texts tier found
+    → IsFound r tier bytes found → IsEntryFound r texts tier found
 found_in r texts tier bytes e (Current table) is = ((has_text r texts tier bytes e).1 is.0, λ h. is.1 ((has_old_text r texts tier bytes e).0 h))
 found_in r texts tier bytes e (Old table) is = ((has_old_text r texts tier bytes e).1 is.0, λ h. is.1 ((has_text r texts tier bytes e).0 h))
 found_in r texts tier bytes e Nothing is = (λ h. is.0 ((has_text r texts tier bytes e).0 h), λ h. is.1 ((has_old_text r texts tier bytes e).0 h))

@@ -1,6 +1,11 @@
 -- What a line has that words and a line end were written into.
-use Rattle.gm_build.proofs.Lower.{◌≡◌, ℕ, ◌++◌, false, List, [], ◌∷◌, Option, None, Some, Result, Ok, Err, OnOk, IfSome, codes, ap, subst, ◌∙◌, is_err}
-use Rattle.gm_build.proofs.Lower.{WritesText, ◌++?◌, Appends, on_ok_weaker, contents_after_writes}
+use Rattle.gm_build.proofs.Lower.{◌≡◌, ℕ, ◌++◌, List, [], ◌∷◌, Some, Result, Err, ap, subst, ◌∙◌}
+use Rattle.std.proofs.Common.{false, Option, None, Ok, OnOk, IfSome, codes}
+use Rattle.std.specs.Result.{is_err}
+use Rattle.std.specs.Fmt.{WritesText, ◌++?◌}
+use Rattle.std.specs.Io.KnownBytes.{Appends}
+use Rattle.std.proofs.lemmas.Result.{on_ok_weaker}
+use Rattle.std.proofs.lemmas.Fmt.{contents_after_writes}
 
 module _ {W E F : Type 0} (took : W → List ℕ → W → Type 0) (contents : W → List ℕ)
     (appends : (w : W) (bs : List ℕ) (v : W) → took w bs v → contents v ≡ contents w ++ bs) (w v : W) (empty : contents w ≡ []) where

@@ -1,10 +1,22 @@
 -- How the numbers of a build grow, tier by tier.
-use Rattle.gm_build.proofs.Lower.{◌≡◌, ℕ, ◌+◌, ◌≤◌, ◌↔◌, inl, inr, List, [], ◌∷◌, ◌++◌, map, refl, ap, sym, subst, ◌∙◌, arith, Contains, Contains-append_left}
-use Rattle.gm_build.proofs.Lower.{Contains-push, Contains-push_cases, MOVES, TIER_SIZE, Position, Rules, IsGame, contains_none, AreDeliveries, IsWorkOn}
-use Rattle.gm_build.proofs.Lower.{IsSomeWork, IsDoneBy, IsStepWork, no_work, with_tier, TierOutcome, Reused, Migrated, Solved, Work, length-map, AreThere}
-use Rattle.gm_build.proofs.Lower.{contains_first, contains_cases, map_from, map_in, no_repeats_from, no_repeats_to, no_repeats_map, pairs_few, IsDelivery}
-use Rattle.gm_build.proofs.Lower.{there_sum, there_same, there_none, IsSolvedTier, IsSolvedDelivery}
-use Rattle.std.proofs.Common.{◌*◌}
+use Rattle.gm_build.proofs.Lower.{◌≡◌, ℕ, ◌+◌, ◌≤◌, ◌↔◌, inl, inr, List, [], ◌∷◌, ◌++◌, refl, ap, sym, subst, ◌∙◌, arith, Contains, Rules, IsStepWork, with_tier, Solved}
+use Rattle.std.proofs.Common.{map, ◌*◌}
+use Rattle.std.proofs.lemmas.List.Elements.{Contains-append_left, Contains-push, Contains-push_cases}
+use Rattle.gm_game.specs.declared.limits.TheConstants.{MOVES, TIER_SIZE}
+use Rattle.gm_game.specs.declared.position.Position.{Position}
+use Rattle.gm_game.specs.Laws.{IsGame}
+use Rattle.gm_game.proofs.Lists.{contains_none, contains_first, contains_cases, map_from, map_in}
+use Rattle.gm_table.specs.Solving.{AreDeliveries, IsDelivery}
+use Rattle.gm_build.specs.Work.{IsWorkOn, IsSomeWork, IsSolvedTier, IsSolvedDelivery}
+use Rattle.gm_build.specs.inner.Steps.{IsDoneBy, no_work}
+use Rattle.gm_build.specs.declared.tier.TierOutcome.{TierOutcome}
+use Rattle.gm_build.specs.declared.tier.TierOutcome.TheVariants.{Reused, Migrated}
+use Rattle.gm_build.specs.declared.work.Work.{Work}
+use Rattle.std.proofs.lemmas.List.{length-map}
+use Rattle.gm_game.specs.Numbers.{AreThere}
+use Rattle.gm_table.proofs.Distinct.{no_repeats_from, no_repeats_to, no_repeats_map}
+use Rattle.gm_frontier.proofs.CountLemmas.{pairs_few}
+use Rattle.gm_immediate.proofs.Deliveries.{there_sum, there_same, there_none}
 
 -- one tier
 there_one : (tier : ℕ) → AreThere 1 (λ (t : ℕ). tier ≡ t)

@@ -1,6 +1,7 @@
 -- Whether a tier's entry is the text of its true table.
 use Rattle.std.specs.Prelude.{◌≡◌, ℕ, List}
-use Rattle.gm_build.specs.Lower.{Rules, Texts}
+use Rattle.gm_game.specs.Rules.{Rules}
+use Rattle.gm_tierdb.specs.StoreTexts.{Texts}
 use Rattle.gm_build.specs.declared.found.Found.{Found}
 use Rattle.gm_build.specs.declared.found.Found.TheVariants.{Current, Old, Nothing}
 use Rattle.gm_build.specs.TrueTexts.{IsTrueText, IsOldText, HasText, HasOldText}
@@ -18,7 +19,7 @@ IsFound r tier bytes (Old table) = IsOldText r tier bytes × (IsTrueText r tier 
 IsFound r tier bytes Nothing = (IsTrueText r tier bytes → ⊥) × (IsOldText r tier bytes → ⊥)
 
 -- what the tier's entry is found to be
-abbrev pub IsFoundIn : {G : Type 0} → Rules → Texts → ℕ → Found G → Type 0
-IsFoundIn r texts tier (Current table) = HasText r texts tier × (HasOldText r texts tier → ⊥)
-IsFoundIn r texts tier (Old table) = HasOldText r texts tier × (HasText r texts tier → ⊥)
-IsFoundIn r texts tier Nothing = (HasText r texts tier → ⊥) × (HasOldText r texts tier → ⊥)
+abbrev pub IsEntryFound : {G : Type 0} → Rules → Texts → ℕ → Found G → Type 0
+IsEntryFound r texts tier (Current table) = HasText r texts tier × (HasOldText r texts tier → ⊥)
+IsEntryFound r texts tier (Old table) = HasOldText r texts tier × (HasText r texts tier → ⊥)
+IsEntryFound r texts tier Nothing = (HasText r texts tier → ⊥) × (HasOldText r texts tier → ⊥)

@@ -1,6 +1,10 @@
 -- What a tier's entry is found to be.
 use Rattle.std.specs.Prelude.{◌≡◌, ℕ, List, Option, None, Some}
-use Rattle.gm_build.specs.Lower.{Solved, Rules, TableData, IsTierText, Texts}
+use Rattle.gm_game.specs.declared.position.Solved.{Solved}
+use Rattle.gm_game.specs.Rules.{Rules}
+use Rattle.gm_table.specs.Tables.{TableData}
+use Rattle.gm_tierdb.specs.TierText.{IsTierText}
+use Rattle.gm_tierdb.specs.StoreTexts.{Texts}
 use Rattle.gm_table.specs.declared.checker.CheckError.{CheckError}
 use Rattle.gm_table.specs.Checks.{AreWrong}
 use Rattle.gm_tierdb.specs.declared.file_error.FileError.TheVariants.{OldVersion}

@@ -3,5 +3,4 @@ pub mod Findings
 pub mod Inspections
 pub mod Work
 pub mod Outcomes
-pub mod Steps
-pub mod Lower
+pub mod inner

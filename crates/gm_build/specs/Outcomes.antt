@@ -1,7 +1,9 @@
 -- How a build ends without its tables, and what the store has then.
 use Rattle.std.specs.Prelude.{◌≡◌, ℕ, ◌⊎◌, ◌+◌, List, take, slice_get, Some, Result, Ok, Err}
 use Rattle.gm_game.specs.declared.limits.TheConstants.{TIERS}
-use Rattle.gm_build.specs.Lower.{Rules, IsOrderFrom, Texts, AreSame}
+use Rattle.gm_game.specs.Rules.{Rules}
+use Rattle.gm_tiers.specs.Orders.{IsOrderFrom}
+use Rattle.gm_tierdb.specs.StoreTexts.{Texts, AreSame}
 use Rattle.gm_tiers.specs.declared.tier_error.TierError.{TierError}
 use Rattle.gm_tiers.specs.declared.tier_error.TierError.TheVariants.{OutOfMemory as NoRoom, TooManyTiers as TooMany, TierTooLarge as TooLarge}
 use Rattle.gm_backward.specs.declared.error.SolveError.{SolveError}
@@ -80,9 +82,9 @@ IsStopped r first old new TooManyTiers = AreSame old new
 IsStopped r first old new (TierTooLarge tier) = AreSame old new
 
 -- the numbers of the errors
-abbrev pub number_of : BuildError → ℕ
-number_of OutOfMemory = 1
-number_of (TooFar tier) = 2
-number_of (StoreFailed tier) = 3
-number_of TooManyTiers = 4
-number_of (TierTooLarge tier) = 5
+abbrev pub build_error_number : BuildError → ℕ
+build_error_number OutOfMemory = 1
+build_error_number (TooFar tier) = 2
+build_error_number (StoreFailed tier) = 3
+build_error_number TooManyTiers = 4
+build_error_number (TierTooLarge tier) = 5

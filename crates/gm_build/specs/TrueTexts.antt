@@ -1,6 +1,12 @@
 -- The texts of true tables in a store.
 use Rattle.std.specs.Prelude.{◌≡◌, ℕ, List, Option, Some}
-use Rattle.gm_build.specs.Lower.{Contains, REMOTENESS, Solved, Rules, IsTrueTable, IsTierText, IsTierText1, Texts}
+use Rattle.std.specs.List.{Contains}
+use Rattle.gm_game.specs.declared.limits.TheConstants.{REMOTENESS}
+use Rattle.gm_game.specs.declared.position.Solved.{Solved}
+use Rattle.gm_game.specs.Rules.{Rules}
+use Rattle.gm_game.specs.Records.{IsTrueTable}
+use Rattle.gm_tierdb.specs.TierText.{IsTierText, IsTierText1}
+use Rattle.gm_tierdb.specs.StoreTexts.{Texts}
 
 -- the bytes are the text of the tier's true table
 pub record IsTrueText (r : Rules) (tier : ℕ) (bytes : List ℕ) : Type 0 where

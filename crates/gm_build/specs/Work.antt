@@ -1,9 +1,10 @@
 -- What a build has done with some tiers.
 use Rattle.std.specs.Prelude.{◌≡◌, ℕ, ◌≤◌, ◌↔◌, ◌⊎◌, List}
-use Rattle.gm_build.specs.Lower.{Contains, Rules, TableData}
+use Rattle.std.specs.List.{Contains}
+use Rattle.gm_game.specs.Rules.{Rules}
+use Rattle.gm_table.specs.Tables.{TableData, IsHeld}
 use Rattle.gm_game.specs.declared.position.Position.{Position}
 use Rattle.gm_game.specs.Numbers.{AreThere}
-use Rattle.gm_table.specs.Tables.{IsHeld}
 use Rattle.gm_table.specs.Solving.{IsDelivery}
 use Rattle.gm_build.specs.declared.work.Work.{Work}
 

@@ -1,7 +1,8 @@
 //! What is done for the next tier while the text of a tier is made.
 ghost use Rattle.std.specs.Prelude.{◌≡◌, ◌≤◌, IsTrue, IfOk, IfSome};
-ghost use Rattle.gm_build.specs.Lower.{AreHeld, AreDeliveries};
-ghost use Rattle.gm_build.specs.Steps.{IsAhead};
+ghost use Rattle.gm_table.specs.Tables.{AreHeld};
+ghost use Rattle.gm_table.specs.Solving.{AreDeliveries};
+ghost use Rattle.gm_build.specs.inner.Steps.{IsAhead};
 ghost use Rattle.gm_build.specs.TrueTexts.{IsTrueText};
 
 use gm_backward::plan::Plan;

@@ -1,8 +1,7 @@
 //! The build of a game.
 ghost use Rattle.std.specs.Prelude.{◌≡◌, ◌+◌, ◌<◌, IsTrue, IfOk, IfErr};
 ghost use Rattle.gm_table.specs.Tables.{AreTables};
-ghost use Rattle.gm_build.specs.Lower.{IsOrderFrom};
-ghost use Rattle.gm_tiers.specs.Orders.{IsTierOrder};
+ghost use Rattle.gm_tiers.specs.Orders.{IsOrderFrom, IsTierOrder};
 ghost use Rattle.gm_build.specs.TrueTexts.{HasText, HasOldText, HaveTexts, KeepsOthers};
 ghost use Rattle.gm_build.specs.Work.{IsWorkOn, IsSomeWork, HoldsExactly};
 ghost use Rattle.gm_build.specs.Outcomes.{failures_in, IsBuildError, IsStopped};

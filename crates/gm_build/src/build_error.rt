@@ -1,6 +1,6 @@
 //! Why a game is not built.
 ghost use Rattle.std.specs.Prelude.{◌≡◌};
-ghost use Rattle.gm_build.specs.Outcomes.{number_of};
+ghost use Rattle.gm_build.specs.Outcomes.{build_error_number};
 
 use gm_backward::error::SolveError;
 use gm_tiers::tier_error::TierError;
@@ -29,7 +29,7 @@ pub enum BuildError {
 impl BuildError {
     /// Returns the number of the error.
     pub fn number(&self) -> u8
-        ensures { result ≡ number_of self.now }
+        ensures { result ≡ build_error_number self.now }
     {
         match self {
             BuildError::OutOfMemory => 1,

@@ -1,8 +1,10 @@
 //! The true table of a tier, by its entry in a store.
 ghost use Rattle.std.specs.Prelude.{◌≡◌, ◌+◌, ◌<◌, ◌≤◌, IsTrue, IfOk, IfErr, IfSome, MatchOption};
-ghost use Rattle.gm_build.specs.Lower.{IsTrueTable, AreHeld, AreSame};
+ghost use Rattle.gm_game.specs.Records.{IsTrueTable};
+ghost use Rattle.gm_table.specs.Tables.{AreHeld};
+ghost use Rattle.gm_tierdb.specs.StoreTexts.{AreSame};
 ghost use Rattle.gm_build.specs.TrueTexts.{IsOldText};
-ghost use Rattle.gm_build.specs.Findings.{IsOfTier, IsFound, IsFoundIn};
+ghost use Rattle.gm_build.specs.Findings.{IsOfTier, IsFound, IsEntryFound};
 ghost use Rattle.gm_build.specs.Outcomes.{failures_in, IsTierError};
 
 use crate::build_error::BuildError;
@@ -42,7 +44,7 @@ pub(crate) fn load_tier<G: Game + Send + Sync, R: Threads + Files + Sync, S: Sto
     requires small { G.rules.tier_size tier ≤ TIER_SIZE }
     requires few { S.failed store.old < u64.MAX }
     ensures tier { IfOk result (IsOfTier tier) }
-    ensures found { IsTrue S.READS → IfOk result (IsFoundIn G.rules (S.texts store.old) tier) }
+    ensures found { IsTrue S.READS → IfOk result (IsEntryFound G.rules (S.texts store.old) tier) }
     ensures same { IsTrue S.READS → AreSame (S.texts store.old) (S.texts store.new) }
     ensures error { IfErr result (IsTierError G.rules tier) }
     ensures count { S.failed store.new ≡ S.failed store.old + failures_in result }

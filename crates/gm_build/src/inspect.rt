@@ -1,7 +1,10 @@
 //! What a tier's entry in a store is found to be.
 ghost use Rattle.std.specs.Prelude.{◌≡◌, ◌+◌, ◌<◌, ◌≤◌, ◌↔◌, IsTrue, IsOk, IfOk, IfErr, option_map};
-ghost use Rattle.gm_build.specs.Lower.{AreHeld, AreWrong, IsTable, IsTrueTable, Texts, AreSame};
-ghost use Rattle.gm_tierdb.specs.Seals.{IsSealed};
+ghost use Rattle.gm_table.specs.Tables.{AreHeld, IsTable};
+ghost use Rattle.gm_table.specs.Checks.{AreWrong};
+ghost use Rattle.gm_game.specs.Records.{IsTrueTable};
+ghost use Rattle.gm_tierdb.specs.StoreTexts.{Texts, AreSame};
+ghost use Rattle.gm_tierdb.specs.inner.Seals.{IsSealed};
 ghost use Rattle.gm_build.specs.Inspections.{IsInspected, IsInspectedIn};
 ghost use Rattle.gm_build.specs.Outcomes.{failures_in, IsReadError};
 

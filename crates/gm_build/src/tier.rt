@@ -1,10 +1,11 @@
 //! One tier of a build.
 ghost use Rattle.std.specs.Prelude.{◌≡◌, ◌+◌, ◌<◌, ◌≤◌, IsTrue, IfOk, OnOk, OnErr, IfErr, IfSome};
-ghost use Rattle.gm_build.specs.Lower.{AreHeld, AreDeliveries};
+ghost use Rattle.gm_table.specs.Tables.{AreHeld};
+ghost use Rattle.gm_table.specs.Solving.{AreDeliveries};
 ghost use Rattle.gm_tierdb.specs.StoreTexts.{AreSameBut};
 ghost use Rattle.gm_build.specs.TrueTexts.{HasText, IsTrueText};
 ghost use Rattle.gm_build.specs.Work.{HoldsToo};
-ghost use Rattle.gm_build.specs.Steps.{IsAhead, IsStep, IsStepWork};
+ghost use Rattle.gm_build.specs.inner.Steps.{IsAhead, IsStep, IsStepWork};
 ghost use Rattle.gm_build.specs.Outcomes.{failures_in, IsTierError, MayHaveText};
 
 use crate::ahead::{Ahead, is_ahead, solved_of, text_in};

@@ -1,6 +1,6 @@
 //! The work of a build.
 ghost use Rattle.std.specs.Prelude.{◌≡◌};
-ghost use Rattle.gm_build.specs.Steps.{no_work, with_tier, Fits64};
+ghost use Rattle.gm_build.specs.inner.Steps.{no_work, with_tier, Fits64};
 
 use crate::tier::TierOutcome;
 

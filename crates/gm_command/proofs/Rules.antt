@@ -3,8 +3,7 @@ use Rattle.std.proofs.Common.{◌≡◌, ◌&&◌, not, ℕ, Bool, true, false, 
 use Rattle.std.specs.List.{list_all, list_any}
 use Rattle.clap.specs.Words.{Rule, Shape}
 use Rattle.clap.specs.Walk.{is_early_multiple, is_multiple}
-use Rattle.clap.specs.Simple.{filled, filled_from, help_rule, index_after, with_index, is_ready_leaf, is_simple_leaf, built_leaf, inherited}
-use Rattle.clap.specs.Simple.{marked_built, with_leaf_noted}
+use Rattle.clap.specs.Simple.{filled, filled_from, help_rule, index_after, with_index, is_ready_leaf, is_simple_leaf, built_leaf, inherited, marked_built, with_leaf_noted}
 use Rattle.clap.specs.Faults.{has_free_rules}
 use Rattle.gm_command.specs.Lines.{Kind, Word, Line, place, place_unless, place_optional, flag, text, number, tier}
 use Rattle.gm_command.specs.Parsers.{program, rule_of_kind, rule_of_word, shape_of_line}

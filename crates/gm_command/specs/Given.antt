@@ -19,9 +19,9 @@ abbrev pub no_limit : ℕ
 no_limit = 18446744073709551615
 
 -- a number is written without a sign and without leading zeros
-abbrev pub is_plain : List ℕ → Bool
-is_plain [] = false
-is_plain (c ∷ cs) = if c == 48 then length cs == 0 else nat_le 48 c && nat_le c 57
+abbrev pub is_plain_number : List ℕ → Bool
+is_plain_number [] = false
+is_plain_number (c ∷ cs) = if c == 48 then length cs == 0 else nat_le 48 c && nat_le c 57
 
 -- the number below this limit that a text is, in decimal digits
 abbrev pub number_below : ℕ → List ℕ → Option ℕ
@@ -47,8 +47,8 @@ abbrev pub has : List Row → List ℕ → Bool
 has rows name = option_map_or (λ text. bytes_eq text (codes "true")) (one_of name rows) false
 
 -- the number of the option with this name
-abbrev pub number_in : List Row → List ℕ → Option ℕ
-number_in rows name = option_and_then (number_below (2 ^ 32)) (one_of name rows)
+abbrev pub option_number : List Row → List ℕ → Option ℕ
+option_number rows name = option_and_then (number_below (2 ^ 32)) (one_of name rows)
 
 -- the number of the tier of the option with this name
 abbrev pub tier_in : List Row → List ℕ → Option ℕ
@@ -56,4 +56,4 @@ tier_in rows name = option_and_then (number_below (2 ^ 64)) (one_of name rows)
 
 -- the number of the option with this name, or else this one
 abbrev pub number_or : List Row → List ℕ → ℕ → ℕ
-number_or rows name default = unwrap_or (number_in rows name) default
+number_or rows name default = unwrap_or (option_number rows name) default

@@ -45,8 +45,8 @@ abbrev pub line : CommandName → List ℕ → List Word → Line
 line command name words = record { command = command; name = name; alias = None; words = words }
 
 -- a command about one game
-abbrev pub game_line : GameCommandName → List ℕ → List Word → Line
-game_line command name words = line (Game command) name words
+abbrev pub game_command_line : GameCommandName → List ℕ → List Word → Line
+game_command_line command name words = line (Game command) name words
 
 -- an option with a number of which none is too great
 abbrev pub any_number : List ℕ → ℕ → Word
@@ -84,61 +84,64 @@ abbrev pub list_line : Line
 list_line = line ListOfGames (codes "list") (word (codes "all") flag ∷ [])
 
 abbrev pub solve_line : Line
-solve_line = game_line game_command.Solve (codes "solve") (game ∷ word (codes "FOLDER") place ∷ word (codes "workers") (number (pos 1) (pos 16) (Some (codes "4")))
+solve_line = game_command_line game_command.Solve (codes "solve") (game ∷ word (codes "FOLDER") place ∷ word (codes "workers") (number (pos 1) (pos 16) (Some (codes "4")))
     ∷ word (codes "shards") (number (pos 1) (pos 4) (Some (codes "4"))) ∷ word (codes "piece") (number (pos 1) (pos 4096) (Some (codes "64")))
     ∷ word (codes "progress") flag ∷ quiet ∷ [])
 
 abbrev pub query_line : Line
-query_line = game_line game_command.Query (codes "query") (game ∷ position ∷ folder ∷ read_only ∷ quiet ∷ [])
+query_line = game_command_line game_command.Query (codes "query") (game ∷ position ∷ folder ∷ read_only ∷ quiet ∷ [])
 
 abbrev pub moves_line : Line
-moves_line = game_line game_command.Moves (codes "moves") (game ∷ start ∷ distinct ∷ json ∷ folder ∷ read_only ∷ quiet ∷ [])
+moves_line = game_command_line game_command.Moves (codes "moves") (game ∷ start ∷ distinct ∷ json ∷ folder ∷ read_only ∷ quiet ∷ [])
 
 abbrev pub why_line : Line
-why_line = game_line game_command.Why (codes "why") (game ∷ start ∷ folder ∷ read_only ∷ quiet ∷ [])
+why_line = game_command_line game_command.Why (codes "why") (game ∷ start ∷ folder ∷ read_only ∷ quiet ∷ [])
 
 abbrev pub line_line : Line
-line_line = game_line game_command.Line (codes "line") (game ∷ start ∷ any_number (codes "limit") 1 ∷ json ∷ folder ∷ read_only ∷ quiet ∷ [])
+line_line = game_command_line game_command.Line (codes "line") (game ∷ start ∷ any_number (codes "limit") 1 ∷ json ∷ folder ∷ read_only ∷ quiet ∷ [])
 
 abbrev pub show_line : Line
-show_line = game_line game_command.Show (codes "show") (game ∷ start ∷ word (codes "svg") flag ∷ word (codes "no-value") flag ∷ folder ∷ read_only ∷ quiet ∷ [])
+show_line = game_command_line game_command.Show (codes "show") (game ∷ start ∷ word (codes "svg") flag ∷ word (codes "no-value") flag ∷ folder ∷ read_only ∷
+    quiet ∷ [])
 
 abbrev pub page_line : Line
-page_line = game_line game_command.Page (codes "page") (word (codes "GAME") (place_unless (codes "all")) ∷ start
+page_line = game_command_line game_command.Page (codes "page") (word (codes "GAME") (place_unless (codes "all")) ∷ start
     ∷ word (codes "limit") (number (pos 1) (pos 1000000) (Some (codes "2000"))) ∷ word (codes "engine") (text false) ∷ word (codes "all") flag
     ∷ folder ∷ read_only ∷ quiet ∷ [])
 
 abbrev pub at_line : Line
-at_line = game_line game_command.At (codes "at") (game ∷ word (codes "TIER") place ∷ word (codes "INDEX") place ∷ folder ∷ read_only ∷ quiet ∷ [])
+at_line = game_command_line game_command.At (codes "at") (game ∷ word (codes "TIER") place ∷ word (codes "INDEX") place ∷ folder ∷ read_only ∷ quiet ∷ [])
 
 abbrev pub locate_line : Line
-locate_line = game_line game_command.Locate (codes "locate") (game ∷ position ∷ [])
+locate_line = game_command_line game_command.Locate (codes "locate") (game ∷ position ∷ [])
 
 abbrev pub find_line : Line
-find_line = game_line game_command.Find (codes "find") (game ∷ word (codes "value") (text true) ∷ word (codes "remoteness") (text false) ∷ word (codes "tier") tier
+find_line = game_command_line game_command.Find (codes "find") (game ∷ word (codes "value") (text true) ∷ word (codes "remoteness") (text false) ∷ word (codes "tier") tier
     ∷ word (codes "only-move") flag ∷ word (codes "only-fastest") flag ∷ word (codes "whole-line") flag ∷ distinct
     ∷ any_number (codes "min-moves") 1 ∷ reached ∷ any_number (codes "limit") 1 ∷ any_number (codes "random") 1 ∷ any_number (codes "seed") 0
     ∷ word (codes "show") flag ∷ json ∷ word (codes "page") flag ∷ folder ∷ read_only ∷ quiet ∷ [])
 
 abbrev pub counts_line : Line
-counts_line = game_line game_command.Counts (codes "counts") (game ∷ word (codes "legal") flag ∷ word (codes "by-tier") flag ∷ reached ∷ word (codes "csv") flag ∷ json
+counts_line = game_command_line game_command.Counts (codes "counts") (game ∷ word (codes "legal") flag ∷ word (codes "by-tier") flag ∷ reached ∷ word (codes "csv") flag ∷ json
     ∷ folder ∷ read_only ∷ quiet ∷ [])
 
 abbrev pub longest_line : Line
-longest_line = game_line game_command.Longest (codes "longest") (game ∷ reached ∷ any_number (codes "limit") 1 ∷ folder ∷ read_only ∷ quiet ∷ [])
+longest_line = game_command_line game_command.Longest (codes "longest") (game ∷ reached ∷ any_number (codes "limit") 1 ∷ folder ∷ read_only ∷ quiet ∷ [])
 
 abbrev pub ask_line : Line
-ask_line = game_line game_command.Ask (codes "ask") (game ∷ word (codes "values") flag ∷ distinct ∷ word (codes "with") (text false) ∷ word (codes "ready") flag
+ask_line = game_command_line game_command.Ask (codes "ask") (game ∷ word (codes "values") flag ∷ distinct ∷ word (codes "with") (text false) ∷ word
+    (codes "ready") flag
     ∷ folder ∷ read_only ∷ quiet ∷ [])
 
 abbrev pub analyse_line : Line
-analyse_line = record (game_line game_command.Analyse (codes "analyse") (game ∷ folder ∷ read_only ∷ quiet ∷ [])) { alias = Some (codes "analyze") }
+analyse_line = record (game_command_line game_command.Analyse (codes "analyse") (game ∷ folder ∷ read_only ∷ quiet ∷ [])) { alias = Some (codes "analyze") }
 
 abbrev pub check_line : Line
-check_line = game_line game_command.Check (codes "check") (game ∷ word (codes "FOLDER") place ∷ quiet ∷ [])
+check_line = game_command_line game_command.Check (codes "check") (game ∷ word (codes "FOLDER") place ∷ quiet ∷ [])
 
 abbrev pub play_line : Line
-play_line = game_line game_command.Play (codes "play") (game ∷ folder ∷ read_only ∷ quiet ∷ word (codes "second") flag ∷ word (codes "from") (text false)
+play_line = game_command_line game_command.Play (codes "play") (game ∷ folder ∷ read_only ∷ quiet ∷ word (codes "second") flag ∷ word (codes "from")
+    (text false)
     ∷ word (codes "show") flag ∷ [])
 
 abbrev pub completions_line : Line
@@ -169,5 +172,5 @@ kind_of arg.Tier = tier
 abbrev pub word_of : ArgSpec → Word
 word_of w = record { name = w.name.now; kind = kind_of w.kind }
 
-abbrev pub line_of : CommandSpec → Line
-line_of l = record { command = l.command; name = l.name.now; alias = option_map (λ t. t.now) l.alias; words = map word_of l.words.now }
+abbrev pub line_of_spec : CommandSpec → Line
+line_of_spec l = record { command = l.command; name = l.name.now; alias = option_map (λ t. t.now) l.alias; words = map word_of l.words.now }

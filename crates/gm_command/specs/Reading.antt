@@ -1,6 +1,5 @@
 -- The request that a line makes, from what clap found for its words.
-use Rattle.std.specs.Prelude.{ℕ, ◌^◌, ◌&&◌, ◌||◌, not, nat_le, nat_lt, Bool, true, false, List, codes}
-use Rattle.std.specs.Prelude.{Option, Some, None, is_some, option_map, option_and_then, if◌then◌else◌}
+use Rattle.std.specs.Prelude.{ℕ, ◌^◌, ◌&&◌, ◌||◌, not, nat_le, nat_lt, Bool, true, false, List, codes, Option, Some, None, is_some, option_map, option_and_then, if◌then◌else◌}
 use Rattle.std.specs.List.{list_all}
 use Rattle.std.specs.Option.{option_map_or, option_or}
 use Rattle.std.specs.Str.{bytes_eq}
@@ -23,11 +22,10 @@ use Rattle.gm_command.specs.declared.words.CommandName.TheVariants.{Game, Comple
 use Rattle.gm_command.specs.declared.words.GameCommandName.{GameCommandName}
 use Rattle.gm_command.specs.declared.words.GameCommandName.TheVariants as command
 use Rattle.gm_command.specs.Lines.{Kind, Word, Line, number, tier, line_named}
-use Rattle.gm_command.specs.Given.{text_in, has, is_plain, no_limit, number_in, number_or}
+use Rattle.gm_command.specs.Given.{text_in, has, is_plain_number, no_limit, option_number, number_or}
 use Rattle.gm_command.specs.Relations.{are_related}
 use Rattle.gm_command.specs.Searching.{ask_in, search_in}
-use Rattle.gm_command.specs.Contents.{CommandContent, solving, exploring, filtering, paging, placed, locating, finding, counting, answering, analysing, checking, playing}
-use Rattle.gm_command.specs.Contents.{seeking_longest, PlanNumbers, GameContent, Content, list_of_games, about_game, page_of_games, about_program}
+use Rattle.gm_command.specs.Contents.{CommandContent, solving, exploring, filtering, paging, placed, locating, finding, counting, answering, analysing, checking, playing, seeking_longest, PlanNumbers, GameContent, Content, list_of_games, about_game, page_of_games, about_program}
 
 -- the number that is written so in a text
 abbrev pub written : List ℕ → Option ℕ
@@ -55,8 +53,8 @@ only_reads _ = false
 module _ (rows : List Row) where
   -- a word that has a number is written plainly
   abbrev pub is_plain_word : List ℕ → Kind → Bool
-  is_plain_word name (number least most default) = option_map_or is_plain (text_in rows name) true
-  is_plain_word name tier = option_map_or is_plain (text_in rows name) true
+  is_plain_word name (number least most default) = option_map_or is_plain_number (text_in rows name) true
+  is_plain_word name tier = option_map_or is_plain_number (text_in rows name) true
   is_plain_word name _ = true
 
   -- the numbers of a command are written plainly
@@ -65,8 +63,8 @@ module _ (rows : List Row) where
 
   -- the folder of the tables, FOLDER or that of `--folder`, with whether it is only read: that of `check` is, and with `--read-only` any; none if the tables
   -- are in memory
-  abbrev pub kept_in : GameCommandName → Option (List ℕ × Bool)
-  kept_in command = option_map (λ folder. (folder, only_reads command || has rows (codes "read-only")))
+  abbrev pub folder_in : GameCommandName → Option (List ℕ × Bool)
+  folder_in command = option_map (λ folder. (folder, only_reads command || has rows (codes "read-only")))
       (option_or (text_in rows (codes "FOLDER")) (text_in rows (codes "folder")))
 
   -- the plan: `--workers`, `--shards` and `--piece`
@@ -98,8 +96,8 @@ module _ (rows : List Row) where
   abbrev pub paging_in : ℕ → CommandContent
   paging_in limit = paging (text_in rows (codes "POSITION")) limit (text_in rows (codes "engine"))
 
-  abbrev pub place_in : Option CommandContent
-  place_in = option_and_then (λ t. option_map (λ i. placed t i) (option_and_then written (text_in rows (codes "INDEX"))))
+  abbrev pub place_given : Option CommandContent
+  place_given = option_and_then (λ t. option_map (λ i. placed t i) (option_and_then written (text_in rows (codes "INDEX"))))
       (option_and_then written (text_in rows (codes "TIER")))
 
   -- the limit that is given, or none
@@ -126,8 +124,8 @@ module _ (rows : List Row) where
   command_in command.Why = Some (asking Why)
   command_in command.Line = Some (asking (BestLine limit_in (has rows (codes "json"))))
   command_in command.Show = option_map asking drawing_in
-  command_in command.Page = option_map paging_in (number_in rows (codes "limit"))
-  command_in command.At = place_in
+  command_in command.Page = option_map paging_in (option_number rows (codes "limit"))
+  command_in command.At = place_given
   command_in command.Locate = option_map (λ t. locating t) (text_in rows (codes "POSITION"))
   command_in command.Find = option_map (λ s. finding s) (search_in rows)
   command_in command.Counts = Some (counting counts_in)
@@ -140,7 +138,7 @@ module _ (rows : List Row) where
   -- a request about a game: its name, the command, the folder, the plan and the report of progress
   abbrev pub game_in : GameCommandName → Option GameContent
   game_in command = option_and_then (λ game. option_and_then (λ content. option_map (λ plan.
-      record { game = game; command = content; kept = kept_in command; plan = plan; progress = progress_in }) plan_in) (command_in command))
+      record { game = game; command = content; kept = folder_in command; plan = plan; progress = progress_in }) plan_in) (command_in command))
       (text_in rows (codes "GAME"))
 
   -- the request of a command. `--all`, which is a word of `page` too, makes the page of all games

@@ -1,6 +1,5 @@
 -- What a line of `find` or `ask` asks for, from what clap found for its words.
-use Rattle.std.specs.Prelude.{ℕ, ◌^◌, ◌==◌, ◌&&◌, ◌||◌, not, nat_le, Bool, true, false, List, [], ◌∷◌, take, drop, codes}
-use Rattle.std.specs.Prelude.{Option, Some, None, is_some, unwrap_or, option_map, option_and_then, if◌then◌else◌}
+use Rattle.std.specs.Prelude.{ℕ, ◌^◌, ◌==◌, ◌&&◌, ◌||◌, not, nat_le, Bool, true, false, List, [], ◌∷◌, take, drop, codes, Option, Some, None, is_some, unwrap_or, option_map, option_and_then, if◌then◌else◌}
 use Rattle.std.specs.Str.{bytes_eq}
 use Rattle.clap.specs.Words.{Row}
 use Rattle.gm_game.specs.declared.position.Value.{Value}
@@ -16,7 +15,7 @@ use Rattle.gm_command.specs.declared.requests.LineForm.TheVariants.{Rows, Json, 
 use Rattle.gm_command.specs.declared.requests.Report.{Report}
 use Rattle.gm_command.specs.declared.requests.Report.TheVariants.{Lines, Sheet}
 use Rattle.gm_command.specs.declared.requests.PositionSearch.{PositionSearch}
-use Rattle.gm_command.specs.Given.{text_in, has, is_plain, number_below, number_in, number_or, no_limit, tier_in}
+use Rattle.gm_command.specs.Given.{text_in, has, is_plain_number, number_below, option_number, number_or, no_limit, tier_in}
 
 abbrev pub value_named : List ℕ → Option Value
 value_named word = if bytes_eq word (codes "win") then Some Win else (if bytes_eq word (codes "tie") then Some Tie
@@ -24,7 +23,7 @@ value_named word = if bytes_eq word (codes "win") then Some Win else (if bytes_e
 
 -- a number of at most 4,294,967,295, written without a sign and without leading zeros
 abbrev pub plain_number : List ℕ → Option ℕ
-plain_number text = if is_plain text then number_below (2 ^ 32) text else None
+plain_number text = if is_plain_number text then number_below (2 ^ 32) text else None
 
 -- what comes before the first `..` of a text, and what comes after it
 abbrev pub cut_at_dots : List ℕ → Option (List ℕ × List ℕ)
@@ -94,8 +93,8 @@ with_nothing = record { canonical = false; parents = false; symmetric = false; b
 
 module _ (rows : List Row) where
   -- `--remoteness`; none if it is no span
-  abbrev pub remoteness_in : Option (Option Span)
-  remoteness_in = elim (text_in rows (codes "remoteness")) [ None ↦ Some None | Some text ↦ option_map (λ span. Some span) (span_in text) ]
+  abbrev pub remoteness_option : Option (Option Span)
+  remoteness_option = elim (text_in rows (codes "remoteness")) [ None ↦ Some None | Some text ↦ option_map (λ span. Some span) (span_in text) ]
 
   -- the properties that are searched for; none if no position can have them
   abbrev pub sought_in : Option Sought
@@ -107,11 +106,11 @@ module _ (rows : List Row) where
     whole_line = has rows (codes "whole-line");
     distinct = has rows (codes "distinct");
     min_moves = number_or rows (codes "min-moves") 0;
-  })) (option_and_then value_named (text_in rows (codes "value")))) remoteness_in
+  })) (option_and_then value_named (text_in rows (codes "value")))) remoteness_option
 
   -- a number of positions by chance, or the first up to a limit
   abbrev pub choice_in : Choice
-  choice_in = elim (number_in rows (codes "random")) [
+  choice_in = elim (option_number rows (codes "random")) [
     | None ↦ First (number_or rows (codes "limit") no_limit)
     | Some number ↦ Random number (number_or rows (codes "seed") 0)
   ]

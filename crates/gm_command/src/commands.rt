@@ -2,7 +2,7 @@
 ghost use Rattle.std.specs.Prelude.{◌≡◌, [], Some, false, IfOk, OnOk, map};
 ghost use Rattle.std.specs.List.{AllZip};
 ghost use Rattle.clap.specs.Words.{app_of, rule_of};
-ghost use Rattle.gm_command.specs.Lines.{word_of, line_of, command_lines};
+ghost use Rattle.gm_command.specs.Lines.{word_of, line_of_spec, command_lines};
 ghost use Rattle.gm_command.specs.Parsers.{numbers, defaults_after, rule_of_word, IsArgFor, IsCommandFor, command_line};
 
 use crate::lines::lines;
@@ -114,7 +114,7 @@ fn command_of<'a>(
     line: &'static CommandSpec,
     explained: bool,
 ) -> Result<Command<'a>, AllocError>
-    ensures { IfOk result (λ c. explained ≡ false → IsCommandFor (line_of line.now) c) }
+    ensures { IfOk result (λ c. explained ≡ false → IsCommandFor (line_of_spec line.now) c) }
 {
     let mut words = Vec::new(alloc);
     add_words(alloc, line.words, explained, &mut words)?;

@@ -2,8 +2,8 @@
 ghost use Rattle.std.specs.Prelude.{◌≡◌, codes, option_and_then, option_map};
 ghost use Rattle.std.specs.Result.{result_ok};
 ghost use Rattle.gm_command.specs.Contents.{command_content};
-ghost use Rattle.gm_command.specs.Given.{rows_in, text_in, number_in};
-ghost use Rattle.gm_command.specs.Reading.{written, asking, asking_each, drawing_in, paging_in, place_in, playing_in, command_in};
+ghost use Rattle.gm_command.specs.Given.{rows_in, text_in, option_number};
+ghost use Rattle.gm_command.specs.Reading.{written, asking, asking_each, drawing_in, paging_in, place_given, playing_in, command_in};
 
 use crate::given::{has, number_in, text_in};
 use crate::requests::{GameCommand, PageRequest, PlayRequest, Question, TableCommand};
@@ -51,7 +51,7 @@ fn explore_each<'a>(inner: &ArgMatches<'a>, question: Question) -> GameCommand<'
 
 // Reads a line of `page`.
 fn page_of<'a>(inner: &ArgMatches<'a>) -> Option<GameCommand<'a>>
-    ensures { option_map command_content result ≡ option_map (paging_in (rows_in inner.now)) (number_in (rows_in inner.now) (codes "limit")) }
+    ensures { option_map command_content result ≡ option_map (paging_in (rows_in inner.now)) (option_number (rows_in inner.now) (codes "limit")) }
 {
     Some(GameCommand::FromTables(TableCommand::Page(PageRequest {
         position: text_in(inner, "POSITION"),
@@ -69,7 +69,7 @@ fn written(inner: &ArgMatches<'_>, name: &str) -> Option<u64>
 
 /// Reads a line of `at`, or returns the reason for a refusal: a tier and an index are numbers without a sign and without leading zeros.
 pub(crate) fn place_of<'a>(inner: &ArgMatches<'a>) -> Result<GameCommand<'a>, &'static str>
-    ensures { option_map command_content (result_ok result) ≡ place_in (rows_in inner.now) }
+    ensures { option_map command_content (result_ok result) ≡ place_given (rows_in inner.now) }
 {
     let Some(tier) = written(inner, "TIER") else {
         return Err(

@@ -1,7 +1,7 @@
 //! What a line gives: the texts, flags and numbers of its words.
 ghost use Rattle.std.specs.Prelude.{◌≡◌, option_map};
 ghost use Rattle.clap.specs.Words.{found_of, rows_of, subcommand_rows_of};
-ghost use Rattle.gm_command.specs.Given.{rows_in, is_of_line, given, text_in, has, number_in, number_or, tier_in};
+ghost use Rattle.gm_command.specs.Given.{rows_in, is_of_line, given, text_in, has, option_number, number_or, tier_in};
 
 use clap::ArgMatches;
 use clap::parser::ValueSource;
@@ -48,7 +48,7 @@ pub(crate) fn has(inner: &ArgMatches<'_>, name: &str) -> bool
 
 /// Returns the number of the option with this name.
 pub(crate) fn number_in(inner: &ArgMatches<'_>, name: &str) -> Option<u32>
-    ensures { result ≡ number_in (rows_in inner.now) name.now }
+    ensures { result ≡ option_number (rows_in inner.now) name.now }
 {
     inner.get_one::<u32>(name)
 }

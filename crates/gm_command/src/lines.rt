@@ -1,6 +1,6 @@
 //! The commands of the program and the words of each, with their texts in `--help`.
 ghost use Rattle.std.specs.Prelude.{◌≡◌, map, option_map};
-ghost use Rattle.gm_command.specs.Lines.{line_of, line_named, command_lines};
+ghost use Rattle.gm_command.specs.Lines.{line_of_spec, line_named, command_lines};
 
 use crate::defaults::{PIECE_WORD, SHARDS_WORD, WORKERS_WORD};
 use crate::words::{
@@ -294,7 +294,7 @@ static MAN: CommandSpec = CommandSpec {
 /// Returns all commands, in the order of the help.
 #[tactic(auto, unfolding(crate::specs::Lines::command_lines))]
 pub(crate) fn lines() -> [&'static CommandSpec; 19]
-    ensures { map (λ line. line_of line.now) result ≡ command_lines }
+    ensures { map (λ line. line_of_spec line.now) result ≡ command_lines }
 {
     [
         &LIST,
@@ -321,7 +321,7 @@ pub(crate) fn lines() -> [&'static CommandSpec; 19]
 
 /// Returns the command of this name.
 pub(crate) fn line_named(name: &str) -> Option<&'static CommandSpec>
-    ensures { option_map (λ line. line_of line.now) result ≡ line_named name.now }
+    ensures { option_map (λ line. line_of_spec line.now) result ≡ line_named name.now }
 {
     lines().iter().find(|line| line.name == name).copied()
 }

@@ -1,6 +1,6 @@
 //! Numbers of a command line, without a sign and without leading zeros.
 ghost use Rattle.std.specs.Prelude.{◌≡◌, unwrap_or, map};
-ghost use Rattle.gm_command.specs.Given.{rows_in, is_plain};
+ghost use Rattle.gm_command.specs.Given.{rows_in, is_plain_number};
 ghost use Rattle.gm_command.specs.Lines.{word_of};
 ghost use Rattle.gm_command.specs.Reading.{is_plain_word, are_plain};
 ghost use Rattle.gm_command.specs.Searching.{plain_number, cut_at_dots, span_in};
@@ -12,7 +12,7 @@ use gm_find::sought::Span;
 
 // Tests whether a text that may be a number has no sign and no leading zero.
 fn is_plain(text: &str) -> bool
-    ensures { result ≡ is_plain text.now }
+    ensures { result ≡ is_plain_number text.now }
 {
     let digits = text.as_bytes();
     match digits.first() {

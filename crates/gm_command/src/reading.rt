@@ -4,8 +4,8 @@ ghost use Rattle.std.specs.Option.{option_or};
 ghost use Rattle.clap.specs.Words.{kind_of, subcommand_rows_of};
 ghost use Rattle.gm_command.specs.Contents.{content_of, game_content, kept_at, plan_of as numbers_of};
 ghost use Rattle.gm_command.specs.Given.{rows_in, text_in};
-ghost use Rattle.gm_command.specs.Lines.{line_of};
-ghost use Rattle.gm_command.specs.Reading.{kept_in, plan_in, progress_in, only_reads, game_in, request_in, request_with, request_of as content_in};
+ghost use Rattle.gm_command.specs.Lines.{line_of_spec};
+ghost use Rattle.gm_command.specs.Reading.{folder_in, plan_in, progress_in, only_reads, game_in, request_in, request_with, request_of as content_in};
 ghost use Rattle.gm_command.specs.Readings.{IsOutcome, IsReadingOf, why_not};
 
 use crate::commands::gamesman;
@@ -62,7 +62,7 @@ fn only_reads(command: GameCommandName) -> bool
 
 // Returns the place of the tables that a command needs. `check` only reads its folder.
 fn tables_of<'a>(command: GameCommandName, inner: &ArgMatches<'a>) -> TableLocation<'a>
-    ensures { kept_at result ≡ kept_in (rows_in inner.now) command }
+    ensures { kept_at result ≡ folder_in (rows_in inner.now) command }
 {
     match folder_of(inner) {
         None => TableLocation::Memory,
@@ -129,7 +129,7 @@ fn command_request_of<'a>(command: CommandName, inner: &ArgMatches<'a>) -> Optio
 
 // Reads a line with this command, whose words are to go with each other, and whose numbers are to be written plainly.
 fn line_request_of<'a>(line: &CommandSpec, inner: &ArgMatches<'a>) -> Option<Request<'a>>
-    ensures { option_map content_of result ≡ request_with (rows_in inner.now) (line_of line.now) }
+    ensures { option_map content_of result ≡ request_with (rows_in inner.now) (line_of_spec line.now) }
 {
     if are_related(line.words, inner) && are_plain(line.words, inner) {
         command_request_of(line.command, inner)

@@ -3,7 +3,7 @@ ghost use Rattle.std.specs.Prelude.{◌≡◌, codes, is_none, option_and_then};
 ghost use Rattle.std.specs.Result.{result_ok};
 ghost use Rattle.gm_command.specs.Given.{rows_in, text_in};
 ghost use Rattle.gm_command.specs.Reading.{limit_in, counts_form_in, counts_in};
-ghost use Rattle.gm_command.specs.Searching.{value_named, is_possible, remoteness_in, sought_in, choice_in, report_in, search_in, with_word, with_words, with_nothing, split_at_commas, answer_in, ask_in};
+ghost use Rattle.gm_command.specs.Searching.{value_named, is_possible, remoteness_option, sought_in, choice_in, report_in, search_in, with_word, with_words, with_nothing, split_at_commas, answer_in, ask_in};
 
 use crate::given::{has, number_in, number_or, text_in, tier_in};
 use crate::numbers::span_of;
@@ -58,7 +58,7 @@ fn misfit(sought: Sought) -> Option<&'static str>
 
 // Reads the span of remoteness, if the line has one.
 fn remoteness_of(inner: &ArgMatches<'_>) -> Result<Option<Span>, &'static str>
-    ensures { result_ok result ≡ remoteness_in (rows_in inner.now) }
+    ensures { result_ok result ≡ remoteness_option (rows_in inner.now) }
 {
     let Some(text) = text_in(inner, "remoteness") else {
         return Ok(None);

@@ -1,6 +1,5 @@
 -- The rules of Connect Four on boards: a board is a list of cells as the player to move sees them, row by row, the top row first.
-use Rattle.std.specs.Prelude.{ℕ, ◌+◌, ◌-◌, ◌*◌, ◌/◌, Bool, not, ◌&&◌, ◌||◌, ◌==◌, nat_le, nat_lt, List, [], ◌∷◌, map, replicate, length, set, if◌then◌else◌, Option}
-use Rattle.std.specs.Prelude.{None, Some}
+use Rattle.std.specs.Prelude.{ℕ, ◌+◌, ◌-◌, ◌*◌, ◌/◌, Bool, not, ◌&&◌, ◌||◌, ◌==◌, nat_le, nat_lt, List, [], ◌∷◌, map, replicate, length, set, if◌then◌else◌, Option, None, Some}
 use Rattle.std.specs.List.{list_all, range_with_len}
 use Rattle.gm_game.specs.declared.position.End.{End}
 use Rattle.gm_game.specs.declared.position.End.TheVariants.{Lose, Tie}

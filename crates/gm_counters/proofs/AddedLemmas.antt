@@ -1,10 +1,14 @@
 -- What one pair more changes of a state, and what a delivery adds to it.
-use Rattle.gm_counters.proofs.Lower.{◌≡◌, ◌≢◌, ℕ, zero, suc, ◌+◌, ◌-◌, ◌⊎◌, inl, inr, List, [], ◌∷◌, length, refl, ap, sym, subst, ◌∙◌, arith, Some, Result, Ok}
-use Rattle.gm_counters.proofs.Lower.{Err, get_or-set_same, get_or-set_other, length-set, Contains, slice_get, cases_eq, sum_by-set, same_Some, Position, Phase}
-use Rattle.gm_counters.proofs.Lower.{Value, Lose, Draw, Tie, Win, Rules, HasValue, StandsAt, with_position, length_with, NoteData, IsNote, phase_of, Delivery}
-use Rattle.gm_counters.proofs.Lower.{Fresh, FreshSettled, Repeat, Refused, NotThisLevel, NotMine, NotAParent, TooFar, ShardState, IsInRange, delivered_to}
-use Rattle.gm_counters.proofs.Lower.{with_pair, pairs_in, IsPairHere, Delivers, IsAdded}
-use Rattle.std.proofs.Common.{set}
+use Rattle.gm_counters.proofs.Lower.{◌≡◌, ◌≢◌, ℕ, zero, suc, ◌+◌, ◌-◌, inl, inr, List, [], ◌∷◌, length, refl, ap, sym, subst, ◌∙◌, arith, Some, Ok, Err, length-set, Contains, slice_get, cases_eq, Position, Phase, Value, Lose, Draw, Tie, Win, Rules, HasValue, StandsAt, with_position, NoteData, IsNote, phase_of, Fresh, FreshSettled, TooFar, ShardState, IsInRange, delivered_to, with_pair, pairs_in, IsPairHere, Delivers}
+use Rattle.std.proofs.Common.{◌⊎◌, Result, get_or-set_same, get_or-set_other, set}
+use Rattle.std.proofs.lemmas.List.Sums.{sum_by-set}
+use Rattle.std.proofs.lemmas.Option.{same_Some}
+use Rattle.gm_game.proofs.SetLemmas.{length_with}
+use Rattle.gm_counters.specs.declared.status.Delivery.{Delivery}
+use Rattle.gm_counters.specs.declared.status.Delivery.TheVariants.{Repeat}
+use Rattle.gm_counters.specs.declared.status.Refused.{Refused}
+use Rattle.gm_counters.specs.declared.status.Refused.TheVariants.{NotThisLevel, NotMine, NotAParent}
+use Rattle.gm_counters.specs.Delivery.{IsAdded}
 
 -- the item at a place of a list of which one item was changed
 pub set_cases : {X : Type 0} (P : X → Type 0) (xs : List X) (k : ℕ) (y : X) (i : ℕ) (x : X) → slice_get (set xs k y) i ≡ Some x → (i ≡ k → P y)

@@ -1,10 +1,11 @@
 -- A shard with no pair.
-use Rattle.gm_counters.proofs.Lower.{◌≡◌, ℕ, ◌+◌, ◌-◌, ◌<◌, ◌≤◌, inl, List, [], length, get_or, map, refl, ap, sym, subst, ◌∙◌, arith, Some, None, Contains}
-use Rattle.gm_counters.proofs.Lower.{slice_get, length-map, get_or-map, get_or-replicate, length-replicate, sum_by-replicate, slice_get-get_or}
-use Rattle.gm_counters.proofs.Lower.{get_or_from_slice_get, TIER_SIZE, Position, End, Phase, WinLose, Ties, Lose, Draw, Tie, Win, IsUndecided, Rules, at}
-use Rattle.gm_counters.proofs.Lower.{StandsBefore, IsPlaceBefore, AreAscending, canonical_children_of, from_end, Start, Status, Hole, Settled, IsInRange}
-use Rattle.gm_counters.proofs.Lower.{delivered_to, In, HasStatus, StatusIs, IsShard, IsWithinLimit, IsKept, IsCounter, IsStart, AreStarts, first_status}
-use Rattle.gm_counters.proofs.Lower.{first_left, first_state, has_none}
+use Rattle.gm_counters.proofs.Lower.{◌≡◌, ℕ, ◌+◌, ◌-◌, ◌<◌, ◌≤◌, inl, List, [], length, get_or, map, refl, ap, sym, subst, ◌∙◌, arith, Some, None, Contains, slice_get, length-map, get_or-replicate, length-replicate, slice_get-get_or, get_or_from_slice_get, TIER_SIZE, Position, End, Phase, WinLose, Ties, Lose, Draw, Tie, Win, Rules, at, StandsBefore, AreAscending, canonical_children_of, from_end, Start, Status, Hole, Settled, IsInRange, delivered_to, In, HasStatus, StatusIs, IsShard, IsWithinLimit, IsShardKept, IsCounter, first_status, first_left, first_state}
+use Rattle.std.proofs.lemmas.List.{get_or-map}
+use Rattle.std.proofs.lemmas.List.Folds.{sum_by-replicate}
+use Rattle.gm_game.specs.Settling.{IsUndecided}
+use Rattle.gm_game.specs.Places.{IsPlaceBefore}
+use Rattle.gm_counters.specs.inner.Begin.{IsStart, AreStarts}
+use Rattle.gm_game.proofs.SetLemmas.{has_none}
 use Rattle.std.proofs.Common.{◌*◌}
 use Rattle.gm_counters.specs.declared.status.Start.TheVariants.{Ended, Inner, Hole as NoStart}
 use Rattle.gm_game.specs.declared.position.End.TheVariants.{Lose as EndLose, Tie as EndTie, Win as EndWin}
@@ -69,7 +70,7 @@ first_good r tier lo starts are = record {
 
 -- and of the other fields
 pub first_kept : (r : Rules) (tier lo : ℕ) (starts : List Start) → AreStarts r tier lo starts → lo + length starts ≤ TIER_SIZE
-    → IsKept r (first_state tier lo (length starts)) (map first_status starts) (map first_left starts) 0
+    → IsShardKept r (first_state tier lo (length starts)) (map first_status starts) (map first_left starts) 0
 first_kept r tier lo starts are few' = record {
   shard = first_good r tier lo starts are;
   as_many = length-map starts first_left ∙ sym (first_count tier lo (length starts));

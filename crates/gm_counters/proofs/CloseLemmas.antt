@@ -1,14 +1,18 @@
 -- A level is whole exactly where as many pairs are delivered as there are.
-use Rattle.gm_counters.proofs.Lower.{◌≡◌, ℕ, zero, suc, ◌+◌, ◌-◌, ◌<◌, ◌≤◌, inl, inr, true, List, [], ◌∷◌, ◌++◌, length, get_or, map, refl, ap, sym, subst}
-use Rattle.gm_counters.proofs.Lower.{arith, sum_by, Contains, length-map, length-append, sum_by-cons, REMOTENESS, MOVES, TIER_SIZE, Position, Phase, WinLose}
-use Rattle.gm_counters.proofs.Lower.{Place, Rules, IsGame, StandsAt, StandsBefore, IsLastLevel, is_before, AreAscending, contains_none, map_from, map_in}
-use Rattle.gm_counters.proofs.Lower.{before_itself, IsPairInto, IsNumberBefore, no_repeats_to, no_repeats_append, no_repeats_map, Contains-append_left}
-use Rattle.gm_counters.proofs.Lower.{Contains-append_right, Contains-append_cases, stands_now, before_later, before_ties, ties_after, Status, ShardState}
-use Rattle.gm_counters.proofs.Lower.{IsInRange, delivered_to, pairs_in, IsGood, IsKept, IsWhole, next_level, first_ties, CanTurn}
-use Rattle.std.proofs.Common.{◌*◌}
+use Rattle.gm_counters.proofs.Lower.{◌≡◌, ℕ, zero, suc, ◌+◌, ◌-◌, ◌<◌, ◌≤◌, inl, inr, true, List, [], ◌∷◌, ◌++◌, length, get_or, map, refl, ap, sym, subst, arith, Contains, length-map, REMOTENESS, MOVES, TIER_SIZE, Position, Phase, WinLose, Rules, IsGame, StandsAt, StandsBefore, IsLastLevel, AreAscending, contains_none, Contains-append_left, Contains-append_right, Contains-append_cases, Status, ShardState, IsInRange, delivered_to, pairs_in, IsGood, IsShardKept, IsWhole, at_next_level, first_ties}
+use Rattle.std.proofs.Common.{sum_by, ◌*◌}
+use Rattle.std.proofs.lemmas.List.{length-append}
+use Rattle.std.proofs.lemmas.List.Sums.{sum_by-cons}
+use Rattle.gm_game.specs.declared.position.Place.{Place}
+use Rattle.gm_game.specs.Children.{is_before}
+use Rattle.gm_game.proofs.Lists.{map_from, map_in}
+use Rattle.gm_game.proofs.SetLemmas.{before_itself, all_there as fact_there}
+use Rattle.gm_frontier.specs.Counts.{IsPairInto, IsNumberBefore}
+use Rattle.gm_table.proofs.Distinct.{no_repeats_to, no_repeats_append, no_repeats_map}
+use Rattle.gm_frontier.proofs.ForGame.{stands_now, before_later, before_ties, ties_after}
+use Rattle.gm_counters.specs.Steps.{CanTurn}
 use Rattle.gm_game.proofs.Counts.{HasNoRepeats}
 use Rattle.gm_frontier.proofs.PairLemmas.{near_of_pair}
-use Rattle.gm_game.proofs.SetLemmas.{all_there as fact_there}
 use Rattle.gm_counters.proofs.MaskList.{sum_small}
 
 -- ascending positions are different
@@ -65,8 +69,8 @@ no_repeats_pairs i (d ∷ ds) up =
     let (j, f, m, k) = pair_from (suc i) ds x b in absurd (omega arith)))
 
 -- the next level
-pub kept_next : (r : Rules) (s : ShardState) (statuses : List Status) (left : List ℕ) (count : ℕ) → IsKept r s statuses left count → IsWhole r s
-    → s.level ≤ REMOTENESS → IsKept r (next_level s) statuses left count
+pub kept_next : (r : Rules) (s : ShardState) (statuses : List Status) (left : List ℕ) (count : ℕ) → IsShardKept r s statuses left count → IsWhole r s
+    → s.level ≤ REMOTENESS → IsShardKept r (at_next_level s) statuses left count
 kept_next r s statuses left count t w l = record {
   shard = record {
     once = t.shard.once;
@@ -84,9 +88,9 @@ kept_next r s statuses left count t w l = record {
 }
 
 -- the first level of ties
-pub kept_ties : (r : Rules) → IsGame r → (s : ShardState) (statuses : List Status) (left : List ℕ) (count : ℕ) → IsKept r s statuses left count
+pub kept_ties : (r : Rules) → IsGame r → (s : ShardState) (statuses : List Status) (left : List ℕ) (count : ℕ) → IsShardKept r s statuses left count
     → (last : Place) → IsLastLevel r last.tier last.phase last.level → CanTurn s last
-    → IsKept r (first_ties s) statuses left count
+    → IsShardKept r (first_ties s) statuses left count
 kept_ties r g s statuses left count t last is turn = record {
   shard = record {
     once = t.shard.once;
@@ -109,7 +113,7 @@ kept_ties r g s statuses left count t last is turn = record {
     is_last = subst (λ (ph : Phase). IsLastLevel r s.tier ph s.level) turn.phase (subst (λ (p : Place). IsLastLevel r p.tier p.phase p.level) turn.stands is)
 
 -- the number of pairs is small
-pub few_there : (r : Rules) (s : ShardState) (statuses : List Status) (left : List ℕ) (count : ℕ) → IsKept r s statuses left count
+pub few_there : (r : Rules) (s : ShardState) (statuses : List Status) (left : List ℕ) (count : ℕ) → IsShardKept r s statuses left count
     → pairs_in s ≤ MOVES * TIER_SIZE
 few_there r s statuses left count t =
     let m = sum_small MOVES s.delivered (λ k l. subst (λ (j : ℕ). length (get_or s.delivered j []) ≤ MOVES) (let e : s.lo + k - s.lo ≡ k = omega arith in e)

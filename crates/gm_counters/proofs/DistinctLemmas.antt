@@ -1,8 +1,11 @@
 -- Lists of numbers in which no number stands twice.
-use Rattle.gm_counters.proofs.Lower.{◌≡◌, ℕ, zero, suc, ◌<◌, ◌≤◌, ◌⊎◌, inl, inr, List, [], ◌∷◌, ◌++◌, length, get_or, refl, sym, ap, subst, ◌∙◌, arith}
-use Rattle.gm_counters.proofs.Lower.{Contains, range_with_len, swap, get_or_append_left, get_or-append_seam, cases_lt, cases_eq, get_or_default_zero}
-use Rattle.gm_counters.proofs.Lower.{length-swap, Swapped, swapped_from_swap, IsPermutation, IsNonDecreasing, IsPermutation-keeps, Contains-get_or, AreDistinct}
-use Rattle.std.proofs.Common.{length-append}
+use Rattle.gm_counters.proofs.Lower.{◌≡◌, ℕ, zero, suc, ◌<◌, ◌≤◌, inl, inr, List, [], ◌∷◌, ◌++◌, length, get_or, refl, sym, ap, subst, ◌∙◌, arith, Contains, get_or_append_left, cases_lt, cases_eq, IsPermutation, IsNonDecreasing, Contains-get_or, AreDistinct}
+use Rattle.std.proofs.Common.{◌⊎◌, length-append}
+use Rattle.std.specs.List.{range_with_len, swap}
+use Rattle.std.proofs.Math.Seq.{get_or-append_seam}
+use Rattle.std.proofs.lemmas.Grind.{get_or_default_zero}
+use Rattle.std.proofs.lemmas.List.Edits.{length-swap, Swapped, swapped_from_swap}
+use Rattle.std.proofs.lemmas.List.Sorted.{IsPermutation-keeps}
 use Rattle.std.proofs.lemmas.List.FromFn.{length-range_with_len, get_or-range_with_len}
 use Rattle.gm_game.proofs.Counts.{HasNoRepeats, no_longer}
 

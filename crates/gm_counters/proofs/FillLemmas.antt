@@ -1,9 +1,7 @@
 -- The queue of the positions of a range that have ended, index by index.
-use Rattle.gm_counters.proofs.Lower.{◌≡◌, ℕ, ◌+◌, ◌<◌, ◌≤◌, ◌↔◌, inl, inr, List, [], ◌∷◌, ◌++◌, length, refl, sym, ap, subst, ◌∙◌, arith, Some, Contains}
-use Rattle.gm_counters.proofs.Lower.{slice_get, cases_eq, cases_lt, slice_get_within, get_or_from_slice_get, Contains-get_or, Contains-append_left}
-use Rattle.gm_counters.proofs.Lower.{Contains-append_right, Contains-append_cases, Position, End, Phase, WinLose, Ties, Solved, Rules, at, from_end, IsSettled}
-use Rattle.gm_counters.proofs.Lower.{contains_none, contains_first, contains_cases, Status, Hole, Undecided, Settled, first_state, ShardState, IsInRange}
-use Rattle.gm_counters.proofs.Lower.{delivered_to, In, StatusIs, IsGood, QueueData, IsSettledIn, IsQueue, AreQueues, AreDistinct, HasPhase, IsEmptied}
+use Rattle.gm_counters.proofs.Lower.{◌≡◌, ℕ, ◌+◌, ◌<◌, ◌≤◌, inl, inr, List, [], ◌∷◌, ◌++◌, length, refl, sym, ap, subst, ◌∙◌, arith, Some, Contains, slice_get, cases_eq, cases_lt, slice_get_within, get_or_from_slice_get, Contains-get_or, Contains-append_left, Contains-append_right, Contains-append_cases, Position, End, Phase, WinLose, Ties, Solved, Rules, at, from_end, IsSettled, contains_none, contains_first, contains_cases, Status, Hole, Undecided, Settled, first_state, ShardState, IsInRange, delivered_to, In, StatusIs, IsGood, QueueData, IsQueue, AreDistinct}
+use Rattle.std.proofs.Common.{◌↔◌}
+use Rattle.gm_counters.specs.inner.Queues.{IsSettledIn, AreQueues, HasPhase, IsEmptied}
 use Rattle.gm_counters.proofs.NoteLemmas.{none_of}
 use Rattle.gm_counters.proofs.BeginLemmas.{nothing_settled, first_empty}
 use Rattle.gm_game.specs.declared.position.End.TheVariants.{Lose as EndLose, Tie as EndTie, Win as EndWin}

@@ -1,9 +1,14 @@
 -- The records of a range at the end of ties.
-use Rattle.gm_counters.proofs.Lower.{◌≡◌, ◌≢◌, ℕ, zero, suc, ◌+◌, ◌<◌, ◌≤◌, List, [], ◌∷◌, ◌++◌, length, replicate, refl, sym, subst, ◌∙◌, arith, inl, inr}
-use Rattle.gm_counters.proofs.Lower.{Option, None, Some, ne_eqb, same_Some, get_or_from_slice_get, slice_get_within, get_or-replicate, length-replicate}
-use Rattle.gm_counters.proofs.Lower.{REMOTENESS, Phase, Ties, Solved, Rules, at, IsInner, IsGame, IsRecord, IsTrueValue, IsLastLevel, AreReached}
-use Rattle.gm_counters.proofs.Lower.{undecided_draw, unpacked, Status, Hole, Undecided, Settled, ShardState, IsInRange, delivered_to, In, StatusIs, IsGood}
-use Rattle.gm_counters.proofs.Lower.{record_of, status_of, ArePart, AreFinal}
+use Rattle.gm_counters.proofs.Lower.{◌≡◌, ◌≢◌, ℕ, zero, suc, ◌+◌, ◌<◌, ◌≤◌, List, [], ◌∷◌, ◌++◌, length, replicate, refl, sym, subst, ◌∙◌, arith, inl, inr, Option, None, Some, get_or_from_slice_get, slice_get_within, get_or-replicate, length-replicate, REMOTENESS, Phase, Ties, Solved, Rules, at, IsGame, IsTrueValue, IsLastLevel, Status, Hole, Undecided, Settled, ShardState, IsInRange, delivered_to, In, StatusIs, IsGood, status_numbered, AreFinal}
+use Rattle.std.proofs.Common.{ne_eqb}
+use Rattle.std.proofs.lemmas.Option.{same_Some}
+use Rattle.gm_game.specs.Rules.{IsInner}
+use Rattle.gm_game.specs.Records.{IsRecord}
+use Rattle.gm_game.specs.Settling.{AreReached}
+use Rattle.gm_game.proofs.Levels.{undecided_draw}
+use Rattle.gm_table.specs.Packed.{unpacked}
+use Rattle.gm_counters.specs.inner.Closing.{record_of_status}
+use Rattle.gm_table.specs.Solving.{ArePart}
 use Rattle.gm_table.proofs.Dealt.{append_cases}
 use Rattle.gm_counters.proofs.NoteLemmas.{settled_canonical}
 use Rattle.gm_counters.proofs.StatusLemmas.{reached_by}
@@ -16,7 +21,7 @@ reached_good r s good i m inner = reached_by r s i inner (λ c. good.pairs i c m
 -- the record of a status is the true one
 record_true : (r : Rules) → IsGame r → (s : ShardState) → IsGood r s → s.phase ≡ Ties → IsLastLevel r s.tier Ties s.level → (i : ℕ) → IsInRange s i
     → (status : Status) → StatusIs r s i status
-    → IsRecord r REMOTENESS (IsTrueValue r) (at s.tier i) (record_of status)
+    → IsRecord r REMOTENESS (IsTrueValue r) (at s.tier i) (record_of_status status)
 record_true r g s good ties last i m Hole h = h
 record_true r g s good ties last i m Undecided (inner, u) =
     let reached : AreReached r (at s.tier i) Ties s.level (In (delivered_to s i)) =
@@ -31,10 +36,10 @@ record_true r g s good ties last i m (Settled x) h =
     (settled_canonical r (at s.tier i) (delivered_to s i) x h, value, near)
 
 -- a number that is not that of an undecided index stands for the record of its status
-pub final_record : (n : ℕ) → n ≢ 1 → unpacked n ≡ record_of (status_of n)
+pub final_record : (n : ℕ) → n ≢ 1 → unpacked n ≡ record_of_status (status_numbered n)
 final_record n other = rw (ne_eqb n 1 other) (of_record (unpacked n))
   where
-    of_record : (known : Option Solved) → known ≡ record_of (elim known [ None ↦ Hole | Some x ↦ Settled x ])
+    of_record : (known : Option Solved) → known ≡ record_of_status (elim known [ None ↦ Hole | Some x ↦ Settled x ])
     of_record None = refl
     of_record (Some x) = refl
 
@@ -57,9 +62,9 @@ final_holes r s i n holes k o e =
     (Hole, holes (i + k) (omega arith) (omega arith), sym (get_or_from_slice_get (replicate n None) k o o e) ∙ get_or-replicate n k None o (omega arith))
 
 -- the record of one index
-pub final_one : (r : Rules) (s : ShardState) (i : ℕ) (status : Status) → StatusIs r s i status → AreFinal r s i (record_of status ∷ [])
+pub final_one : (r : Rules) (s : ShardState) (i : ℕ) (status : Status) → StatusIs r s i status → AreFinal r s i (record_of_status status ∷ [])
 final_one r s i status h zero o e = let place : i ≡ i + zero = omega arith in
-    (status, subst (λ (n : ℕ). StatusIs r s n status) place h, sym (same_Some (record_of status) o e))
+    (status, subst (λ (n : ℕ). StatusIs r s n status) place h, sym (same_Some (record_of_status status) o e))
 final_one r s i status h (suc k) o e = absurd (let z : None ≡ Some o = e in cc)
 
 -- at the end of ties they are the true ones

@@ -1,11 +1,19 @@
 -- The indexes that are settled at the present place, and their notes.
-use Rattle.gm_counters.proofs.Lower.{◌≡◌, ◌≢◌, ℕ, suc, ◌+◌, ◌-◌, ◌<◌, ◌≤◌, inl, inr, true, List, [], ◌∷◌, map, drop, length, get_or, refl, sym, ap, subst, ◌∙◌}
-use Rattle.gm_counters.proofs.Lower.{arith, Some, length-drop, length-take, Contains, slice_get, slice_range, AllByRecursion, IsPermutation, IsNonDecreasing}
-use Rattle.gm_counters.proofs.Lower.{get_or-drop, get_or-take, Contains-permutation, IsPermutation-sym, Contains-get_or, cases_lt, nat_tests}
-use Rattle.gm_counters.proofs.Lower.{get_or_default_zero, slice_get-get_or, Position, Phase, Solved, Rules, at, IsCanonical, is_before, Draw, IsTrueValue}
-use Rattle.gm_counters.proofs.Lower.{StandsAt, same_position, contains_none, contains_first, contains_later, contains_cases, map_in, map_from, NoteData, IsNote}
-use Rattle.gm_counters.proofs.Lower.{IsNoteAt, phase_of, IsInRun, IsRun, AreInOrder, positions, now_stands, one_place, place_of, Settled, ShardState, IsInRange}
-use Rattle.gm_counters.proofs.Lower.{delivered_to, StatusIs, IsGood, QueueData, IsSettledAt, AreSettledAt, IsQueue, IsNoteAtIndex, AreNotesAt}
+use Rattle.gm_counters.proofs.Lower.{◌≡◌, ◌≢◌, ℕ, suc, ◌+◌, ◌-◌, ◌<◌, ◌≤◌, inl, inr, true, List, [], ◌∷◌, map, length, get_or, refl, sym, ap, subst, ◌∙◌, arith, Some, Contains, slice_get, slice_range, IsPermutation, IsNonDecreasing, Contains-get_or, cases_lt, slice_get-get_or, Position, Phase, Solved, Rules, at, IsCanonical, Draw, IsTrueValue, StandsAt, contains_none, contains_first, contains_cases, NoteData, IsNote, phase_of, Settled, ShardState, IsInRange, delivered_to, StatusIs, IsGood, QueueData, IsSettledAt, AreSettledAt, IsQueue, AreNotesAt}
+use Rattle.std.proofs.Common.{drop, length-drop, length-take}
+use Rattle.std.specs.List.{AllByRecursion}
+use Rattle.std.proofs.lemmas.List.{get_or-drop, get_or-take}
+use Rattle.std.proofs.lemmas.List.Sorted.{Contains-permutation, IsPermutation-sym}
+use Rattle.std.proofs.lemmas.Bool.Decides.{nat_tests}
+use Rattle.std.proofs.lemmas.Grind.{get_or_default_zero}
+use Rattle.gm_game.specs.Children.{is_before}
+use Rattle.gm_game.proofs.SetLemmas.{same_position}
+use Rattle.gm_game.proofs.Lists.{contains_later, map_in, map_from}
+use Rattle.gm_frontier.specs.Notes.{IsNoteAt}
+use Rattle.gm_frontier.specs.Levels.{IsInRun, IsRunOfNotes, AreInOrder, positions}
+use Rattle.gm_frontier.proofs.ForGame.{now_stands, one_place}
+use Rattle.gm_counters.specs.Steps.{place_of}
+use Rattle.gm_counters.specs.inner.Queues.{IsNoteAtIndex}
 use Rattle.gm_counters.proofs.AddedLemmas.{value_stands}
 use Rattle.gm_counters.proofs.NoteLemmas.{settled_canonical, settled_decided}
 use Rattle.gm_counters.proofs.QueueLemmas.{settled_once}
@@ -123,7 +131,7 @@ place_is r p x phase n h some at = one_place r (phase_of x.value) phase x.remote
 -- the notes of all indexes that are settled at the place are a run
 pub run_of : (r : Rules) (s : ShardState) → IsGood r s → (ks : List ℕ) (ns : List NoteData) → AreSettledAt r s s.phase s.level ks → IsNonDecreasing ks
     → AreNotesAt r s ks ns
-    → IsRun r (place_of s) s.lo (s.lo + length s.delivered) ns
+    → IsRunOfNotes r (place_of s) s.lo (s.lo + length s.delivered) ns
 run_of r s good ks ns h up notes = record {
   each = λ c. (
     λ i. subst (λ (l : List Position). Contains l c) (sym at_is)

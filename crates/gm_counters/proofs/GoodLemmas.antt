@@ -1,8 +1,8 @@
 -- A good shard, from what its fields keep.
-use Rattle.gm_counters.proofs.Lower.{◌≡◌, ℕ, ◌+◌, ◌-◌, ◌<◌, ◌≤◌, inl, inr, List, length, get_or, sym, subst, ◌∙◌, arith, None, Some, slice_get-get_or}
-use Rattle.gm_counters.proofs.Lower.{REMOTENESS, Solved, Rules, at, IsCanonical, IsGame, IsTrueValue, StandsBefore, HasValue_once, end_value, reached_true}
-use Rattle.gm_counters.proofs.Lower.{reached_settled, Status, Hole, Undecided, Settled, ShardState, IsInRange, delivered_to, In, StatusIs, IsShard}
-use Rattle.gm_counters.proofs.Lower.{IsWithinLimit, IsGood}
+use Rattle.gm_counters.proofs.Lower.{◌≡◌, ℕ, ◌+◌, ◌-◌, ◌<◌, ◌≤◌, inl, inr, List, length, get_or, sym, subst, ◌∙◌, arith, None, Some, slice_get-get_or, REMOTENESS, Solved, Rules, at, IsCanonical, IsGame, IsTrueValue, StandsBefore, Status, Hole, Undecided, Settled, ShardState, IsInRange, delivered_to, In, StatusIs, IsShard, IsWithinLimit, IsGood}
+use Rattle.gm_game.proofs.Basic.{HasValue_once}
+use Rattle.gm_game.proofs.Settled.{end_value}
+use Rattle.gm_game.proofs.Reached.{reached_true, reached_settled}
 use Rattle.gm_counters.proofs.StatusLemmas.{reached_at}
 
 module _ {r : Rules} (g : IsGame r) {s : ShardState} {statuses : List Status} (t : IsShard r s statuses) where

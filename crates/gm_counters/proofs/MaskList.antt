@@ -1,6 +1,8 @@
 -- The children that a list of masks stands for.
-use Rattle.gm_counters.proofs.Lower.{◌≡◌, ℕ, suc, ◌+◌, ◌<◌, ◌≤◌, List, [], ◌∷◌, length, get_or, ◌∙◌, arith, sum_by, sum_by-cons, mul-suc, Position}
-use Rattle.std.proofs.Common.{◌*◌}
+use Rattle.gm_counters.proofs.Lower.{◌≡◌, ℕ, suc, ◌+◌, ◌<◌, ◌≤◌, List, [], ◌∷◌, length, get_or, ◌∙◌, arith, Position}
+use Rattle.std.proofs.Common.{sum_by, ◌*◌}
+use Rattle.std.proofs.lemmas.List.Sums.{sum_by-cons}
+use Rattle.std.proofs.Math.Nat.{mul-suc}
 
 -- short lists make a small sum
 pub sum_small : (n : ℕ) (ds : List (List Position)) → ((k : ℕ) → k < length ds → length (get_or ds k []) ≤ n) → sum_by length ds ≤ n * length ds

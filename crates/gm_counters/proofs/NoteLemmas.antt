@@ -1,7 +1,5 @@
 -- The note of a settled index.
-use Rattle.gm_counters.proofs.Lower.{◌≡◌, ◌≢◌, ℕ, inl, inr, List, refl, ap, sym, subst, ◌∙◌, None, Some, Position, Solved, Value, Draw, End, Rules, at}
-use Rattle.gm_counters.proofs.Lower.{IsCanonical, from_end, IsGame, IsSettled, IsNote, Status, Hole, Undecided, Settled, ShardState, IsInRange, delivered_to}
-use Rattle.gm_counters.proofs.Lower.{In, StatusIs, HasStatus, IsShard}
+use Rattle.gm_counters.proofs.Lower.{◌≡◌, ◌≢◌, ℕ, inl, inr, List, refl, ap, sym, subst, ◌∙◌, None, Some, Position, Solved, Value, Draw, End, Rules, at, IsCanonical, from_end, IsGame, IsSettled, IsNote, Status, Hole, Undecided, Settled, ShardState, IsInRange, delivered_to, In, StatusIs, HasStatus, IsShard}
 use Rattle.gm_game.specs.declared.position.End.TheVariants.{Lose as EndLose, Tie as EndTie, Win as EndWin}
 use Rattle.gm_counters.proofs.GoodLemmas.{settled_truth}
 

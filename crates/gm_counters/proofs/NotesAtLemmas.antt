@@ -1,6 +1,9 @@
 -- Notes of settled indexes, one after another.
-use Rattle.gm_counters.proofs.Lower.{◌≡◌, ℕ, ◌+◌, ◌<◌, List, [], ◌∷◌, ◌++◌, take, length, get_or, refl, sym, subst, Option, None, Some, IsSome, take_more}
-use Rattle.gm_counters.proofs.Lower.{Rules, NoteData, Solved, Settled, ShardState, StatusIs, IsNoteOf, IsNoteAtIndex, AreNotesAt}
+use Rattle.gm_counters.proofs.Lower.{◌≡◌, ℕ, ◌+◌, ◌<◌, List, [], ◌∷◌, ◌++◌, take, length, get_or, refl, sym, subst, Option, None, Some, Rules, NoteData, Solved, Settled, ShardState, StatusIs, AreNotesAt}
+use Rattle.std.proofs.Common.{IsSome}
+use Rattle.std.proofs.lemmas.List.{take_more}
+use Rattle.gm_counters.specs.inner.Closing.{IsNoteOf}
+use Rattle.gm_counters.specs.inner.Queues.{IsNoteAtIndex}
 
 pub notes_push : (r : Rules) (s : ShardState) (ks : List ℕ) (ns : List NoteData) (k : ℕ) (n : NoteData) → AreNotesAt r s ks ns → IsNoteAtIndex r s k n
     → AreNotesAt r s (ks ++ k ∷ []) (ns ++ n ∷ [])

@@ -1,17 +1,17 @@
 -- Statuses as numbers.
-use Rattle.gm_counters.proofs.Lower.{◌≡◌, ℕ, ◌+◌, ◌-◌, ◌<◌, ◌≤◌, Bool, true, List, ◌++◌, length, map, replicate, drop, get_or, refl, sym, ap, subst, ◌∙◌, arith}
-use Rattle.gm_counters.proofs.Lower.{inl, inr, Some, cases_lt, length-map, slice_get, slice_get-get_or, get_or-drop, get_or-take, get_or-replicate}
-use Rattle.gm_counters.proofs.Lower.{get_or_append_left, Decides-eqb, slice_range, Status, Hole, status_of, Start, first_status}
-use Rattle.gm_counters.specs.Statuses.{first_number}
+use Rattle.gm_counters.proofs.Lower.{◌≡◌, ℕ, ◌+◌, ◌-◌, ◌<◌, ◌≤◌, Bool, true, List, ◌++◌, length, map, replicate, get_or, refl, sym, ap, subst, ◌∙◌, arith, inl, inr, Some, cases_lt, length-map, slice_get, slice_get-get_or, get_or-replicate, get_or_append_left, slice_range, Status, Hole, status_numbered, Start, first_status}
+use Rattle.std.proofs.Common.{drop, eqb, option_map}
+use Rattle.std.proofs.lemmas.List.{get_or-drop, get_or-take}
+use Rattle.std.proofs.lemmas.Bool.Decides.{Decides-eqb}
+use Rattle.gm_counters.specs.inner.Statuses.{first_number}
 use Rattle.gm_counters.specs.declared.status.Start.TheVariants.{Ended, Inner, Hole as NoStart}
 use Rattle.gm_game.specs.declared.position.End.TheVariants.{Lose, Tie, Win}
 use Rattle.std.specs.List.{starts_with}
-use Rattle.std.proofs.Common.{eqb, option_map}
 use Rattle.std.proofs.lemmas.Option.{slice_get-map}
 use Rattle.std.proofs.lemmas.Slice.Eq.{starts_is}
 
 -- the numbers with which indexes begin are those of their statuses
-pub first_numbered : (x : Start) → status_of (first_number x) ≡ first_status x
+pub first_numbered : (x : Start) → status_numbered (first_number x) ≡ first_status x
 first_numbered NoStart = refl
 first_numbered (Ended Lose) = refl
 first_numbered (Ended Tie) = refl
@@ -47,12 +47,14 @@ zero_more numbers from to is old k low high = elim (cases_lt k to) [
 ]
 
 -- their statuses are holes
-pub zeros_are_holes : (numbers : List ℕ) (statuses : List Status) (from to k : ℕ) → map status_of numbers ≡ statuses → to ≤ length numbers
+pub zeros_are_holes : (numbers : List ℕ) (statuses : List Status) (from to k : ℕ) → map status_numbered numbers ≡ statuses → to ≤ length numbers
     → AreZeros numbers from to → from ≤ k → k < to → slice_get statuses k ≡ Some Hole
 zeros_are_holes numbers statuses from to k same inside zeros low high =
-    ap (λ (s : List Status). slice_get s k) (sym same) ∙ slice_get-map status_of numbers k
-    ∙ ap (option_map status_of) (slice_get-get_or numbers k 0 (omega arith) ∙ ap (λ (n : ℕ). Some n) (zeros k low high))
+    ap (λ (s : List Status). slice_get s k) (sym same) ∙ slice_get-map status_numbered numbers k
+    ∙ ap (option_map status_numbered) (slice_get-get_or numbers k 0 (omega arith) ∙ ap (λ (n : ℕ). Some n) (zeros k low high))
 
 -- there are as many numbers as statuses
-pub in_numbers : (numbers : List ℕ) (statuses : List Status) (n k : ℕ) → map status_of numbers ≡ statuses → n ≡ length numbers → k < length statuses → k < n
-in_numbers numbers statuses n k same many within = let e = length-map numbers status_of in let l = ap (λ (xs : List Status). length xs) same in omega arith
+pub in_numbers : (numbers : List ℕ) (statuses : List Status) (n k : ℕ) → map status_numbered numbers ≡ statuses → n ≡ length numbers → k < length statuses → k <
+    n
+in_numbers numbers statuses n k same many within = let e = length-map numbers status_numbered in let l = ap (λ (xs : List Status). length xs) same in omega
+    arith

@@ -1,9 +1,11 @@
 -- A range to which no pair is delivered twice.
-use Rattle.gm_counters.proofs.Lower.{◌≡◌, ℕ, ◌+◌, ◌-◌, ◌^◌, ◌<◌, ◌≤◌, List, [], ◌∷◌, ◌++◌, length, get_or, map, refl, ap, sym, subst, ◌∙◌, arith, Some}
-use Rattle.gm_counters.proofs.Lower.{length-set, ◌==◌, replicate, Contains, slice_get, set, length-map, slice_get_read, MOVES, TIER_SIZE, Position, Phase}
-use Rattle.gm_counters.proofs.Lower.{WinLose, Rules, at, IsGame, with_position, canonical_children_of, canonical_children_few, NoteData, IsNote, Start, Status}
-use Rattle.gm_counters.proofs.Lower.{ShardState, IsInRange, delivered_to, with_pair, with_one, with_all, state_by, StatusIs, IsShard, IsWithinLimit, IsKept}
-use Rattle.gm_counters.proofs.Lower.{IsCounter, CanDeliver, IsPairHere, AreStarts, first_status, first_left, first_state}
+use Rattle.gm_counters.proofs.Lower.{◌≡◌, ℕ, ◌+◌, ◌-◌, ◌<◌, ◌≤◌, List, [], ◌∷◌, ◌++◌, length, get_or, map, refl, ap, sym, subst, ◌∙◌, arith, Some, length-set, ◌==◌, replicate, Contains, slice_get, length-map, MOVES, TIER_SIZE, Position, Phase, WinLose, Rules, at, IsGame, with_position, canonical_children_of, NoteData, IsNote, Start, Status, ShardState, IsInRange, delivered_to, with_pair, state_by, StatusIs, IsShard, IsWithinLimit, IsShardKept, IsCounter, CanDeliver, IsPairHere, first_status, first_left, first_state}
+use Rattle.std.proofs.Common.{◌^◌}
+use Rattle.std.proofs.Math.ListN.{set}
+use Rattle.std.proofs.lemmas.Option.{slice_get_read}
+use Rattle.gm_game.proofs.ChildrenLemmas.{canonical_children_few}
+use Rattle.gm_counters.specs.inner.Ordered.{with_one, with_all}
+use Rattle.gm_counters.specs.inner.Begin.{AreStarts}
 use Rattle.gm_counters.proofs.AddedLemmas.{set_cases, range_is, same_here, cases_at, pairs_more}
 use Rattle.gm_counters.proofs.BeginLemmas.{first_kept}
 use Rattle.gm_counters.proofs.CloseLemmas.{few_there}
@@ -41,16 +43,16 @@ first_by tier lo starts ls items l e =
 -- what the fields keep at the start
 pub first_fields : (r : Rules) (tier lo : ℕ) (starts : List Start) → AreStarts r tier lo starts → lo + length starts ≤ TIER_SIZE
     → (ls : List ℕ) (ss : List Status) (items : List (Position × ℕ)) → ls ≡ map first_left starts → ss ≡ map first_status starts → items ≡ []
-    → IsKept r (state_by tier lo WinLose 0 (length ls) items) ss ls 0
+    → IsShardKept r (state_by tier lo WinLose 0 (length ls) items) ss ls 0
 first_fields r tier lo starts are few ls ss items l s e =
-    subst (λ (t : ShardState). IsKept r t ss ls 0) (sym (first_by tier lo starts ls items l e))
-    (subst (λ (xs : List Status). IsKept r (first_state tier lo (length starts)) xs ls 0) (sym s)
-    (subst (λ (ys : List ℕ). IsKept r (first_state tier lo (length starts)) (map first_status starts) ys 0) (sym l)
+    subst (λ (t : ShardState). IsShardKept r t ss ls 0) (sym (first_by tier lo starts ls items l e))
+    (subst (λ (xs : List Status). IsShardKept r (first_state tier lo (length starts)) xs ls 0) (sym s)
+    (subst (λ (ys : List ℕ). IsShardKept r (first_state tier lo (length starts)) (map first_status starts) ys 0) (sym l)
     (first_kept r tier lo starts are few)))
 
 -- what a delivery has found, where the pair is new
 pub step_new : {r : Rules} {u s : ShardState} {statuses : List Status} {left : List ℕ} {count : ℕ} {note : NoteData} {parent : ℕ} {old : Status} (l : ℕ)
-    → IsKept r u statuses left count → u ≡ s → IsNote r note.position note.solved
+    → IsShardKept r u statuses left count → u ≡ s → IsNote r note.position note.solved
     → IsPairHere r s note parent → (Contains (delivered_to s parent) note.position → ⊥) → StatusIs r s parent old → IsCounter r s parent l
     → Step r s statuses note parent old (l == 1)
 step_new {r} {u} {s} {statuses} {left} {count} {note} {parent} {old} l kept e is_note here new before counter = record {
@@ -63,7 +65,7 @@ step_new {r} {u} {s} {statuses} {left} {count} {note} {parent} {old} l kept e is
 }
 
 module _ {r : Rules} {s : ShardState} {statuses : List Status} {left : List ℕ} {count : ℕ} {c : Position} {parent : ℕ} (g : IsGame r)
-    (kept : IsKept r s statuses left count) (can : CanDeliver r s c parent) where
+    (kept : IsShardKept r s statuses left count) (can : CanDeliver r s c parent) where
   fresh_pair : NewPair r s c parent
   fresh_pair = record { stands = can.stands; is_mine = can.is_mine; is_parent = can.is_parent; new = can.new }
 
@@ -96,7 +98,7 @@ module _ {r : Rules} {s : ShardState} {statuses : List Status} {left : List ℕ}
 
   -- what the fields keep after the pair is added
   pub kept_more : (next : Status) → StatusIs r (with_pair s c parent) parent next → (l : ℕ) → l ≡ get_or left (parent - s.lo) l → IsWithinLimit next
-      → IsKept r (with_pair s c parent) (set statuses (parent - s.lo) next) (set left (parent - s.lo) (l - 1)) (count + 1)
+      → IsShardKept r (with_pair s c parent) (set statuses (parent - s.lo) next) (set left (parent - s.lo) (l - 1)) (count + 1)
   kept_more next after l is near = record {
     shard = shard_after kept.shard fresh_pair next after near;
     as_many = length-set left (parent - s.lo) (l - 1) ∙ kept.as_many ∙ sym (length-set s.delivered (parent - s.lo) (with_position c (delivered_to s parent)));
@@ -125,10 +127,11 @@ module _ {r : Rules} {s : ShardState} {statuses : List Status} {left : List ℕ}
 -- what the fields keep after the pair is added, where the state is what the fields show
 pub kept_seen : {r : Rules} {statuses : List Status} {left : List ℕ} {count : ℕ} → IsGame r
     → (tier lo : ℕ) (phase : Phase) (level : ℕ) (xs ys : List (Position × ℕ)) (c d : Position) (parent : ℕ) (s : ShardState)
-    → state_by tier lo phase level (length left) xs ≡ s → IsKept r (state_by tier lo phase level (length left) xs) statuses left count → CanDeliver r s c parent
+    → state_by tier lo phase level (length left) xs ≡ s → IsShardKept r (state_by tier lo phase level (length left) xs) statuses left count → CanDeliver r s c
+    parent
     → (next : Status) → StatusIs r (with_pair s c parent) parent next → (l : ℕ) → l ≡ get_or left (parent - lo) l → (put : List Status)
     → put ≡ set statuses (parent - lo) next → d ≡ c → ys ≡ xs ++ (d, parent) ∷ []
-    → IsKept r (state_by tier lo phase level (length (set left (parent - lo) (l - 1))) ys) put (set left (parent - lo) (l - 1)) (count + 1)
+    → IsShardKept r (state_by tier lo phase level (length (set left (parent - lo) (l - 1))) ys) put (set left (parent - lo) (l - 1)) (count + 1)
 kept_seen {r} {statuses} {left} {count} g tier lo phase level xs ys c d parent s is kept can next after l read put put_is position e =
     let n = length left in
     let more : state_by tier lo phase level (length (set left (parent - lo) (l - 1))) ys ≡ with_pair (state_by tier lo phase level n xs) c parent =
@@ -136,7 +139,7 @@ kept_seen {r} {statuses} {left} {count} g tier lo phase level xs ys c d parent s
     (sym (length-set left (parent - lo) (l - 1))) position e in
     let can' = subst (λ (u : ShardState). CanDeliver r u c parent) (sym is) can in
     let after' = subst (λ (u : ShardState). StatusIs r (with_pair u c parent) parent next) (sym is) after in
-    subst (λ (xs' : List Status). IsKept r (state_by tier lo phase level (length (set left (parent - lo) (l - 1))) ys) xs' (set left (parent - lo) (l - 1))
+    subst (λ (xs' : List Status). IsShardKept r (state_by tier lo phase level (length (set left (parent - lo) (l - 1))) ys) xs' (set left (parent - lo) (l - 1))
     (count + 1)) (sym put_is)
-    (subst (λ (u : ShardState). IsKept r u (set statuses (parent - lo) next) (set left (parent - lo) (l - 1)) (count + 1)) (sym more)
+    (subst (λ (u : ShardState). IsShardKept r u (set statuses (parent - lo) next) (set left (parent - lo) (l - 1)) (count + 1)) (sym more)
     (kept_more g kept can' next after' l read (within_after r (state_by tier lo phase level n xs) c parent next can' after')))

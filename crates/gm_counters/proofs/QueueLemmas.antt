@@ -1,11 +1,9 @@
 -- How queues follow a shard's state.
-use Rattle.gm_counters.proofs.Lower.{◌≡◌, ◌≢◌, ℕ, ◌+◌, ◌-◌, ◌<◌, ◌≤◌, inl, inr, List, [], ◌∷◌, ◌++◌, length, get_or, sym, ap, subst, ◌∙◌, arith, Some}
-use Rattle.gm_counters.proofs.Lower.{get_or-set_other, Contains, slice_get, cases_lt, cases_eq, get_or_append_left, get_or-append_seam, Contains-get_or}
-use Rattle.gm_counters.proofs.Lower.{Contains-append_left, Contains-append_right, Contains-append_cases, slice_get-get_or, get_or_from_slice_get}
-use Rattle.gm_counters.proofs.Lower.{slice_get_within, Position, Phase, Solved, Rules, at, with_position, IsTrueValue_once, contains_none, contains_first}
-use Rattle.gm_counters.proofs.Lower.{contains_cases, phase_of, Status, Hole, Undecided, Settled, ShardState, IsInRange, delivered_to, with_pair, HasStatus}
-use Rattle.gm_counters.proofs.Lower.{StatusIs, IsGood, IsSettledNow, KeepsStatus, QueueData, IsSettledIn, IsPlaced, AreDistinct, IsQueue}
-use Rattle.std.proofs.Common.{length-append}
+use Rattle.gm_counters.proofs.Lower.{◌≡◌, ◌≢◌, ℕ, ◌+◌, ◌-◌, ◌<◌, ◌≤◌, inl, inr, List, [], ◌∷◌, ◌++◌, length, get_or, sym, ap, subst, ◌∙◌, arith, Some, Contains, slice_get, cases_lt, cases_eq, get_or_append_left, Contains-get_or, Contains-append_left, Contains-append_right, Contains-append_cases, slice_get-get_or, get_or_from_slice_get, slice_get_within, Position, Phase, Solved, Rules, at, with_position, contains_none, contains_first, contains_cases, phase_of, Status, Hole, Undecided, Settled, ShardState, IsInRange, delivered_to, with_pair, HasStatus, StatusIs, IsGood, IsSettledNow, KeepsStatus, QueueData, AreDistinct, IsQueue}
+use Rattle.std.proofs.Common.{get_or-set_other, length-append}
+use Rattle.std.proofs.Math.Seq.{get_or-append_seam}
+use Rattle.gm_game.proofs.Checker.{IsTrueValue_once}
+use Rattle.gm_counters.specs.inner.Queues.{IsSettledIn, IsQueuedAt}
 use Rattle.gm_counters.proofs.AddedLemmas.{count_same, still_mine}
 use Rattle.gm_counters.proofs.NoteLemmas.{none_of}
 use Rattle.gm_counters.proofs.DistinctLemmas.{distinct_push, fewer_than}
@@ -51,7 +49,7 @@ queue_same r s t phase level q same to from good old = record {
       let w = (old.listed k).0 (there place k is) in
       let range : IsInRange t (t.lo + k) = (omega arith, (let l = w.within in omega arith)) in
       let e : w.value ≡ x = settled_once r t good (t.lo + k) range w.value x (to k w.value w.within w.phase_is w.settled) h in
-      subst (λ (y : Solved). IsPlaced level q place y.remoteness) e (old.placed place k w.value is w.settled);
+      subst (λ (y : Solved). IsQueuedAt level q place y.remoteness) e (old.placed place k w.value is w.settled);
   order = old.order;
   inside = old.inside;
   room = (let l = old.room in omega arith);
@@ -183,7 +181,7 @@ module _ (r : Rules) (s : ShardState) (c : Position) (parent : ℕ) (mine : IsIn
       }
 
       place_of : (place k : ℕ) (x : Solved) → slice_get (q.indexes ++ last) place ≡ Some k → StatusIs r (with_pair s c parent) (s.lo + k) (Settled x)
-          → IsPlaced s.level p place x.remoteness
+          → IsQueuedAt s.level p place x.remoteness
       place_of place k x got h = elim (cases_lt place (length q.indexes)) [
         | inl l ↦ (
             let k_is : get_or q.indexes place 0 ≡ k =

@@ -1,7 +1,11 @@
 -- How a shard's two queues follow its state.
-use Rattle.gm_counters.proofs.Lower.{◌≡◌, ℕ, ◌+◌, ◌-◌, ◌<◌, ◌≤◌, [], ◌∷◌, ◌++◌, length, refl, sym, subst, ◌∙◌, Result, Ok, Err, WinLose, Ties, Rules, NoteData}
-use Rattle.gm_counters.proofs.Lower.{Delivery, Fresh, FreshSettled, Repeat, Refused, NotThisLevel, NotMine, NotAParent, TooFar, ShardState, with_pair, IsGood}
-use Rattle.gm_counters.proofs.Lower.{Delivers, IsSettledNow, KeepsStatus, next_level, first_ties, QueueData, IsQueue, AreQueues}
+use Rattle.gm_counters.proofs.Lower.{◌≡◌, ℕ, ◌+◌, ◌-◌, ◌<◌, ◌≤◌, [], ◌∷◌, ◌++◌, length, refl, sym, subst, ◌∙◌, Ok, Err, WinLose, Ties, Rules, NoteData, Fresh, FreshSettled, TooFar, ShardState, with_pair, IsGood, Delivers, IsSettledNow, KeepsStatus, at_next_level, first_ties, QueueData, IsQueue}
+use Rattle.std.proofs.Common.{Result}
+use Rattle.gm_counters.specs.declared.status.Delivery.{Delivery}
+use Rattle.gm_counters.specs.declared.status.Delivery.TheVariants.{Repeat}
+use Rattle.gm_counters.specs.declared.status.Refused.{Refused}
+use Rattle.gm_counters.specs.declared.status.Refused.TheVariants.{NotThisLevel, NotMine, NotAParent}
+use Rattle.gm_counters.specs.inner.Queues.{AreQueues}
 use Rattle.gm_counters.proofs.QueueLemmas.{queue_kept, queue_other, queue_room, queue_pushed, queue_closed, queue_moved}
 
 -- a delivery that settles nothing keeps both queues
@@ -43,10 +47,10 @@ module _ (r : Rules) (note : NoteData) (parent : ℕ) (s t : ShardState) (answer
   )
 
 -- a level is closed
-pub closed : (r : Rules) (s t : ShardState) (q p ties : QueueData) → t ≡ next_level s → AreQueues r s q ties
+pub closed : (r : Rules) (s t : ShardState) (q p ties : QueueData) → t ≡ at_next_level s → AreQueues r s q ties
     → p ≡ record q { from = q.to; to = length q.indexes } → AreQueues r t p ties
 closed r s t q p ties e x is = subst (λ (u : ShardState). AreQueues r u p ties) (sym e) (
-  subst (IsQueue r (next_level s) s.phase (s.level + 1)) (sym is)
+  subst (IsQueue r (at_next_level s) s.phase (s.level + 1)) (sym is)
       (queue_moved r s s.phase (s.level + 1) s.phase (s.level + 1) (record q { from = q.to; to = length q.indexes }) (queue_closed r s s.phase s.level q x.0)),
   λ w. queue_moved r s s.phase (s.level + 1) Ties 0 ties (x.1 w),
 )

@@ -1,8 +1,10 @@
 -- How a status changes where one more child is delivered.
-use Rattle.gm_counters.proofs.Lower.{◌≡◌, ◌≢◌, ℕ, ◌+◌, inl, inr, ⊎_elim, Bool, true, false, List, ◌∙◌, sym, subst, refl, None, Some, Contains, Position, Value}
-use Rattle.gm_counters.proofs.Lower.{Lose, Draw, Tie, Win, Phase, Rules, at, IsInner, IsCanonicalChild, IsParent, HasValue, StandsAt, StandsBefore}
-use Rattle.gm_counters.proofs.Lower.{with_position, solved, AreAll, IsSettled, IsUndecided, AreReached, And, has_new, has_old, with_cases, Status, Hole}
-use Rattle.gm_counters.proofs.Lower.{Undecided, Settled, ShardState, IsInRange, delivered_to, In, HasStatus, IsShard, next_status}
+use Rattle.gm_counters.proofs.Lower.{◌≡◌, ◌≢◌, ℕ, ◌+◌, inl, inr, Bool, true, List, ◌∙◌, sym, subst, refl, None, Some, Contains, Position, Value, Lose, Draw, Tie, Win, Phase, Rules, at, HasValue, StandsAt, StandsBefore, with_position, IsSettled, Status, Hole, Undecided, Settled, ShardState, IsInRange, delivered_to, In, HasStatus, IsShard, next_status}
+use Rattle.std.proofs.Common.{⊎_elim, false}
+use Rattle.gm_game.specs.Rules.{IsInner, IsCanonicalChild, IsParent}
+use Rattle.gm_game.specs.Records.{solved}
+use Rattle.gm_game.specs.Settling.{AreAll, IsUndecided, AreReached, And}
+use Rattle.gm_game.proofs.SetLemmas.{has_new, has_old, with_cases}
 use Rattle.gm_game.proofs.Delivered.{settled_stays, settles_win, settles_tie, settles_loss, settles_nothing}
 
 -- the same positions settle the same

@@ -1,11 +1,15 @@
 -- One delivery of a new pair.
-use Rattle.gm_counters.proofs.Lower.{◌≡◌, ℕ, ◌+◌, ◌-◌, ◌^◌, ◌<◌, ◌≤◌, ⊎_elim, Bool, true, false, List, length, map, refl, ap, sym, subst, ◌∙◌, arith, Some, Ok}
-use Rattle.gm_counters.proofs.Lower.{length-set, true≢false, ◌==◌, Contains, slice_get, set, false_from_ne_true, Decides-eqb, REMOTENESS, Position, Solved}
-use Rattle.gm_counters.proofs.Lower.{Value, Lose, Draw, Tie, Win, Rules, at, children, IsCanonicalChild, IsParent, IsGame, HasValue, StandsAt, StandsBefore}
-use Rattle.gm_counters.proofs.Lower.{with_position, canonical_children_of, AreAscending, solved, NoteData, IsNote, phase_of, Status, Hole, Undecided, Settled}
-use Rattle.gm_counters.proofs.Lower.{Err, FreshSettled, TooFar, Fresh, AreAll, ShardState, IsInRange, delivered_to, with_pair, In, HasStatus, StatusIs, IsShard}
-use Rattle.gm_counters.proofs.Lower.{IsWithinLimit, IsKept, CanDeliver, Delivers, next_status, is_settling, IsPairHere, IsSettledNow, KeepsStatus, has_old}
-use Rattle.gm_counters.proofs.Lower.{with_cases, set_has, has_set, ascending_set, ascending_with, shorter, no_longer, has_all, length_with, now_stands}
+use Rattle.gm_counters.proofs.Lower.{◌≡◌, ℕ, ◌+◌, ◌-◌, ◌<◌, ◌≤◌, Bool, true, List, length, map, refl, ap, sym, subst, ◌∙◌, arith, Some, Ok, length-set, true≢false, ◌==◌, Contains, slice_get, REMOTENESS, Position, Solved, Value, Lose, Draw, Tie, Win, Rules, at, IsGame, HasValue, StandsAt, StandsBefore, with_position, canonical_children_of, AreAscending, NoteData, IsNote, phase_of, Status, Hole, Undecided, Settled, Err, FreshSettled, TooFar, Fresh, ShardState, IsInRange, delivered_to, with_pair, In, HasStatus, StatusIs, IsShard, IsWithinLimit, IsShardKept, CanDeliver, Delivers, next_status, IsPairHere, IsSettledNow, KeepsStatus}
+use Rattle.std.proofs.Common.{◌^◌, ⊎_elim, false}
+use Rattle.std.proofs.Math.ListN.{set}
+use Rattle.std.proofs.lemmas.Bool.{false_from_ne_true}
+use Rattle.std.proofs.lemmas.Bool.Decides.{Decides-eqb}
+use Rattle.gm_game.specs.Rules.{children, IsCanonicalChild, IsParent}
+use Rattle.gm_game.specs.Records.{solved}
+use Rattle.gm_game.specs.Settling.{AreAll}
+use Rattle.gm_counters.specs.Delivery.{is_settling}
+use Rattle.gm_game.proofs.SetLemmas.{has_old, with_cases, set_has, has_set, ascending_set, ascending_with, shorter, no_longer, has_all, length_with}
+use Rattle.gm_frontier.proofs.ForGame.{now_stands}
 use Rattle.gm_counters.proofs.AddedLemmas.{set_cases, range_is, still_mine, same_here, cases_at, note_stands}
 use Rattle.gm_counters.proofs.StatusLemmas.{after_any, reached_at}
 use Rattle.gm_counters.proofs.GoodLemmas.{near_of, within_limit}
@@ -241,7 +245,8 @@ pub settling_is : (old next : Status) (note : Solved) (last settles : Bool) {v :
 settling_is old next note last settles e is b = ap (is_settling old) (sym e) ∙ sym is ∙ b
 
 -- a remoteness one above that of a note of the present level fits
-pub room_above : {r : Rules} {u s : ShardState} {statuses : List Status} {left : List ℕ} {count : ℕ} {x y : Solved} → IsKept r u statuses left count → u ≡ s
+pub room_above : {r : Rules} {u s : ShardState} {statuses : List Status} {left : List ℕ} {count : ℕ} {x y : Solved} → IsShardKept r u statuses left count → u ≡
+    s
     → x ≡ y → y.remoteness ≡ s.level → x.remoteness + 1 < 2 ^ 32
 room_above kept e same level =
     let fits = kept.shard.fits in

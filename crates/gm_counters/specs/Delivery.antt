@@ -1,6 +1,12 @@
 -- What one delivery does.
 use Rattle.std.specs.Prelude.{◌≡◌, ℕ, ◌+◌, ◌≤◌, ◌<◌, Result, Ok, Err, Bool, true, false, if◌then◌else◌}
-use Rattle.gm_counters.specs.Lower.{Contains, REMOTENESS, Solved, Lose, Draw, Tie, Win, solved, Rules, IsParent, NoteData, phase_of}
+use Rattle.std.specs.List.{Contains}
+use Rattle.gm_game.specs.declared.limits.TheConstants.{REMOTENESS}
+use Rattle.gm_game.specs.declared.position.Solved.{Solved}
+use Rattle.gm_game.specs.declared.position.Value.TheVariants.{Lose, Draw, Tie, Win}
+use Rattle.gm_game.specs.Records.{solved}
+use Rattle.gm_game.specs.Rules.{Rules, IsParent}
+use Rattle.gm_frontier.specs.Notes.{NoteData, phase_of}
 use Rattle.gm_counters.specs.declared.status.Status.{Status}
 use Rattle.gm_counters.specs.declared.status.Status.TheVariants.{Hole, Undecided, Settled}
 use Rattle.gm_counters.specs.declared.status.Delivery.{Delivery}
@@ -48,11 +54,11 @@ Delivers r note parent s t (Ok FreshSettled) = (t ≡ with_pair s note.position 
     × (Contains (delivered_to s parent) note.position → ⊥) × IsSettledNow r s t parent × (s.level + 1 ≤ REMOTENESS)
 
 -- the numbers of the refusals
-abbrev pub number_of : Refused → ℕ
-number_of NotThisLevel = 1
-number_of NotMine = 2
-number_of NotAParent = 3
-number_of TooFar = 4
+abbrev pub refused_number : Refused → ℕ
+refused_number NotThisLevel = 1
+refused_number NotMine = 2
+refused_number NotAParent = 3
+refused_number TooFar = 4
 
 -- a delivery that added its pair
 abbrev pub IsAdded : Result Delivery Refused → Type 0

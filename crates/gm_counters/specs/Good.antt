@@ -1,7 +1,13 @@
 -- A good shard.
 use Rattle.std.specs.Prelude.{◌≡◌, ℕ, ◌+◌, ◌-◌, ◌≤◌, List, Some, length, slice_get}
-use Rattle.gm_counters.specs.Lower.{Contains, REMOTENESS, MOVES, TIER_SIZE, Position, Solved, Rules, at, IsCanonical, IsInner, IsParent, IsTrueValue}
-use Rattle.gm_counters.specs.Lower.{StandsBefore, AreAscending, canonical_children_of}
+use Rattle.std.specs.List.{Contains}
+use Rattle.gm_game.specs.declared.limits.TheConstants.{REMOTENESS, MOVES, TIER_SIZE}
+use Rattle.gm_game.specs.declared.position.Position.{Position}
+use Rattle.gm_game.specs.declared.position.Solved.{Solved}
+use Rattle.gm_game.specs.Rules.{Rules, at, IsCanonical, IsInner, IsParent}
+use Rattle.gm_game.specs.Values.{IsTrueValue}
+use Rattle.gm_game.specs.Places.{StandsBefore}
+use Rattle.gm_game.specs.Children.{AreAscending, canonical_children_of}
 use Rattle.gm_counters.specs.declared.status.Status.{Status}
 use Rattle.gm_counters.specs.declared.status.Status.TheVariants.{Hole, Undecided, Settled}
 use Rattle.gm_counters.specs.State.{ShardState, IsInRange, delivered_to, pairs_in}
@@ -46,7 +52,7 @@ pub record IsCounter (r : Rules) (s : ShardState) (index n : ℕ) : Type 0 where
   pub other : (IsInner r (at s.tier index) → ⊥) → n ≡ 0
 
 -- what a shard keeps in all: a stored status and a stored counter for each index, and the number of pairs
-pub record IsKept (r : Rules) (s : ShardState) (statuses : List Status) (left : List ℕ) (count : ℕ) : Type 0 where
+pub record IsShardKept (r : Rules) (s : ShardState) (statuses : List Status) (left : List ℕ) (count : ℕ) : Type 0 where
   pub shard : IsShard r s statuses
   pub as_many : length left ≡ length s.delivered
   pub counted : (i n : ℕ) → IsInRange s i → slice_get left (i - s.lo) ≡ Some n → IsCounter r s i n

@@ -1,12 +1,6 @@
-pub mod Begin
-pub mod Closing
 pub mod Delivery
 pub mod Good
-pub mod Logged
-pub mod Ordered
-pub mod Queues
 pub mod State
 pub mod Status
-pub mod Statuses
 pub mod Steps
-pub mod Lower
+pub mod inner

@@ -1,6 +1,8 @@
 -- A shard's state, and the pairs that are delivered to it.
 use Rattle.std.specs.Prelude.{ℕ, ◌+◌, ◌-◌, ◌<◌, ◌≤◌, List, [], ◌∷◌, length, slice_index_or, slice_set, sum_by}
-use Rattle.gm_counters.specs.Lower.{Position, Phase, with_position}
+use Rattle.gm_game.specs.declared.position.Position.{Position}
+use Rattle.gm_game.specs.declared.position.Phase.{Phase}
+use Rattle.gm_game.specs.Children.{with_position}
 
 -- a tier, a range of its indexes from lo on, the present place, and for each index of the range the children
 -- that are delivered to it, ascending

@@ -1,6 +1,12 @@
 -- What the delivered children say of a position.
 use Rattle.std.specs.Prelude.{◌≡◌, ◌⊎◌, ℕ, List, Some}
-use Rattle.gm_counters.specs.Lower.{Contains, Position, End, Solved, Rules, at, IsCanonical, IsInner, from_end, IsSettled, IsUndecided}
+use Rattle.std.specs.List.{Contains}
+use Rattle.gm_game.specs.declared.position.Position.{Position}
+use Rattle.gm_game.specs.declared.position.End.{End}
+use Rattle.gm_game.specs.declared.position.Solved.{Solved}
+use Rattle.gm_game.specs.Rules.{Rules, at, IsCanonical, IsInner}
+use Rattle.gm_game.specs.Records.{from_end}
+use Rattle.gm_game.specs.Settling.{IsSettled, IsUndecided}
 use Rattle.gm_counters.specs.declared.status.Status.{Status}
 use Rattle.gm_counters.specs.declared.status.Status.TheVariants.{Hole, Undecided, Settled}
 use Rattle.gm_counters.specs.State.{ShardState, delivered_to}

@@ -1,6 +1,14 @@
 -- What events a state takes, and what they leave.
 use Rattle.std.specs.Prelude.{◌≡◌, ℕ, ◌+◌, ◌≤◌}
-use Rattle.gm_counters.specs.Lower.{Contains, REMOTENESS, Position, WinLose, Ties, Place, Solved, Rules, IsParent, StandsAt, StandsBefore, place_at}
+use Rattle.std.specs.List.{Contains}
+use Rattle.gm_game.specs.declared.limits.TheConstants.{REMOTENESS}
+use Rattle.gm_game.specs.declared.position.Position.{Position}
+use Rattle.gm_game.specs.declared.position.Phase.TheVariants.{WinLose, Ties}
+use Rattle.gm_game.specs.declared.position.Place.{Place}
+use Rattle.gm_game.specs.declared.position.Solved.{Solved}
+use Rattle.gm_game.specs.Rules.{Rules, IsParent}
+use Rattle.gm_game.specs.Places.{StandsAt, StandsBefore}
+use Rattle.gm_frontier.specs.Levels.{place_at}
 use Rattle.gm_counters.specs.declared.status.Status.TheVariants.{Settled}
 use Rattle.gm_counters.specs.State.{ShardState, IsInRange, delivered_to, with_pair}
 use Rattle.gm_counters.specs.Status.{StatusIs}
@@ -27,8 +35,8 @@ pub record CanTurn (s : ShardState) (last : Place) : Type 0 where
   pub stands : last ≡ place_of s
 
 -- the state at the next level, and at the first level of ties
-abbrev pub next_level : ShardState → ShardState
-next_level s = record s { level = s.level + 1 }
+abbrev pub at_next_level : ShardState → ShardState
+at_next_level s = record s { level = s.level + 1 }
 
 abbrev pub first_ties : ShardState → ShardState
 first_ties s = record s { phase = Ties; level = 0 }

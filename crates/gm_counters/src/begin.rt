@@ -1,6 +1,6 @@
 //! The start values of the positions of a shard.
-ghost use Rattle.gm_counters.specs.Lower.{IsCanonical};
-ghost use Rattle.gm_counters.specs.Begin.{IsStart};
+ghost use Rattle.gm_game.specs.Rules.{IsCanonical};
+ghost use Rattle.gm_counters.specs.inner.Begin.{IsStart};
 
 use crate::status::Start;
 use gm_game::game::Game;

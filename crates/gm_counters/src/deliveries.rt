@@ -1,7 +1,7 @@
 //! The children delivered to each position of a range whose pairs are delivered in an order in which none comes twice: no mask is kept.
 
 ghost use Rattle.std.specs.Prelude.{◌≡◌, map, IfOk};
-ghost use Rattle.gm_counters.specs.Begin.{first_left};
+ghost use Rattle.gm_counters.specs.inner.Begin.{first_left};
 
 use crate::log::Log;
 use crate::status::{Delivery, Refused, Start, Status, first_left, is_settling, next_status};
@@ -56,28 +56,29 @@ impl<G: Game> Drop for Ordered<G> {
 }
 
 impl<G: Game> Model for Ordered<G> {
-    ghost use Rattle.gm_counters.specs.Logged.{logged};
+    ghost use Rattle.gm_counters.specs.inner.Logged.{logged};
     ghost use Rattle.std.specs.Prelude.{length};
     ghost use Rattle.gm_counters.specs.State.{ShardState};
-    ghost use Rattle.gm_counters.specs.Ordered.{state_by};
-    ghost use Rattle.gm_counters.specs.Good.{IsKept};
+    ghost use Rattle.gm_counters.specs.inner.Ordered.{state_by};
+    ghost use Rattle.gm_counters.specs.Good.{IsShardKept};
 
     ghost Value = { ShardState };
 
     ghost view = { λ s. state_by s.tier s.lo s.phase s.level (length s.left.items) (logged s.pairs) };
 
-    ghost invariant = { λ s. IsKept G.rules (state_by s.tier s.lo s.phase s.level (length s.left.items) (logged s.pairs)) s.statuses s.left.items s.delivered };
+    ghost invariant = { λ s. IsShardKept G.rules (state_by s.tier s.lo s.phase s.level (length s.left.items) (logged s.pairs)) s.statuses s.left.items
+        s.delivered };
 }
 
 impl<G: Game> Ordered<G> {
     ghost use Rattle.std.specs.Prelude.{◌≡◌, ◌+◌, ◌*◌, ◌<◌, ◌≤◌, ℕ, length, IfOk};
-    ghost use Rattle.gm_counters.specs.Lower.{MOVES, REMOTENESS};
-    ghost use Rattle.gm_counters.specs.Begin.{AreStarts, first_state};
+    ghost use Rattle.gm_game.specs.declared.limits.TheConstants.{MOVES, REMOTENESS};
+    ghost use Rattle.gm_counters.specs.inner.Begin.{AreStarts, first_state};
     ghost use Rattle.gm_counters.specs.State.{IsInRange, pairs_in};
     ghost use Rattle.gm_counters.specs.Status.{StatusIs};
     ghost use Rattle.gm_counters.specs.Good.{IsGood, IsCounter};
-    ghost use Rattle.gm_counters.specs.Steps.{CanTurn, IsWhole, place_of, next_level, first_ties};
-    ghost use Rattle.gm_counters.specs.Closing.{IsNoteOf, record_of};
+    ghost use Rattle.gm_counters.specs.Steps.{CanTurn, IsWhole, place_of, at_next_level, first_ties};
+    ghost use Rattle.gm_counters.specs.inner.Closing.{IsNoteOf, record_of_status};
     ghost use Rattle.gm_counters.specs.declared.status.Status.{Status as StatusSpec};
     ghost use Rattle.gm_counters.specs.declared.status.Status.TheVariants.{Hole};
     ghost use Rattle.gm_table.specs.Packed.{unpacked};
@@ -153,7 +154,7 @@ impl<G: Game> Ordered<G> {
     /// Returns the number of an index's record when nothing is left to settle: an undecided position is a draw.
     pub fn final_number(&self, index: u64) -> u32
         requires { IsInRange self.now index }
-        ensures { (status : StatusSpec) × StatusIs G.rules self.now index status × (unpacked result ≡ record_of status) }
+        ensures { (status : StatusSpec) × StatusIs G.rules self.now index status × (unpacked result ≡ record_of_status status) }
     {
         self.statuses.final_number((index - self.lo) as usize)
     }
@@ -193,7 +194,7 @@ impl<G: Game> Ordered<G> {
     pub fn close(&mut self)
         requires whole { IsWhole G.rules self.old }
         requires fits { self.old.level ≤ REMOTENESS }
-        ensures { self.new ≡ next_level self.old }
+        ensures { self.new ≡ at_next_level self.old }
     {
         self.level += 1;
     }
@@ -211,7 +212,7 @@ impl<G: Game> Ordered<G> {
 
 impl<G: Game> Ordered<G> {
     ghost use Rattle.std.specs.Prelude.{◌≡◌};
-    ghost use Rattle.gm_counters.specs.Lower.{Contains};
+    ghost use Rattle.std.specs.List.{Contains};
     ghost use Rattle.gm_counters.specs.State.{delivered_to, with_pair};
     ghost use Rattle.gm_counters.specs.Status.{StatusIs};
     ghost use Rattle.gm_counters.specs.Steps.{CanDeliver};

@@ -19,7 +19,7 @@ impl<A, B> Model for Log<A, B> {
 unsafe impl<A: Send, B: Send> Send for Log<A, B> {}
 
 impl<A, B> Log<A, B> {
-    ghost use Rattle.gm_counters.specs.Logged.{logged};
+    ghost use Rattle.gm_counters.specs.inner.Logged.{logged};
 
     /// Returns the pairs of a log, or none if there is no log, and one more.
     pub fn after(before: &Option<Log<A, B>>, first: &A, second: &B) -> Log<A, B>

@@ -2,7 +2,7 @@
 
 ghost use Rattle.std.specs.Prelude.{◌≡◌, ℕ, IfOk};
 ghost use Rattle.std.specs.List.{Contains};
-ghost use Rattle.gm_counters.specs.Queues.{IsEmptied, IsQueue, IsSettledAt, AreNotesAt};
+ghost use Rattle.gm_counters.specs.inner.Queues.{IsEmptied, IsQueue, IsSettledAt, AreNotesAt};
 
 use crate::deliveries::Ordered;
 use crate::queue::Queue;
@@ -75,7 +75,7 @@ impl<G: Game> Drop for OrderedShard<G> {
 
 impl<G: Game> Model for OrderedShard<G> {
     ghost use Rattle.gm_counters.specs.State.{ShardState};
-    ghost use Rattle.gm_counters.specs.Queues.{AreQueues};
+    ghost use Rattle.gm_counters.specs.inner.Queues.{AreQueues};
 
     ghost Value = { ShardState };
 
@@ -86,18 +86,21 @@ impl<G: Game> Model for OrderedShard<G> {
 
 impl<G: Game> OrderedShard<G> {
     ghost use Rattle.std.specs.Prelude.{◌≡◌, ◌+◌, ◌*◌, ◌<◌, ◌≤◌, ◌++◌, List, Option, length, IfOk, OnOk, OnErr};
-    ghost use Rattle.gm_counters.specs.Lower.{MOVES, Solved, Ties, Contains};
-    ghost use Rattle.gm_counters.specs.Begin.{AreStarts, first_state};
+    ghost use Rattle.gm_game.specs.declared.limits.TheConstants.{MOVES};
+    ghost use Rattle.gm_game.specs.declared.position.Solved.{Solved};
+    ghost use Rattle.gm_game.specs.declared.position.Phase.TheVariants.{Ties};
+    ghost use Rattle.std.specs.List.{Contains};
+    ghost use Rattle.gm_counters.specs.inner.Begin.{AreStarts, first_state};
     ghost use Rattle.gm_counters.specs.State.{IsInRange, delivered_to, pairs_in};
     ghost use Rattle.gm_counters.specs.Status.{StatusIs};
     ghost use Rattle.gm_counters.specs.Good.{IsGood, IsCounter};
     ghost use Rattle.gm_counters.specs.Delivery.{IsPairHere, Delivers};
-    ghost use Rattle.gm_counters.specs.Steps.{IsWhole, CanTurn, place_of, next_level, first_ties};
-    ghost use Rattle.gm_counters.specs.Closing.{IsNoteOf, AreFinal, record_of};
+    ghost use Rattle.gm_counters.specs.Steps.{IsWhole, CanTurn, place_of, at_next_level, first_ties};
+    ghost use Rattle.gm_counters.specs.inner.Closing.{IsNoteOf, AreFinal, record_of_status};
     ghost use Rattle.gm_table.specs.Solving.{ArePart};
     ghost use Rattle.gm_counters.specs.declared.status.Status.{Status as StatusSpec};
     ghost use Rattle.gm_table.specs.Packed.{unpacked};
-    ghost use Rattle.gm_counters.specs.Queues.{AreSettledAt};
+    ghost use Rattle.gm_counters.specs.inner.Queues.{AreSettledAt};
 
     /// Makes the shard of the indexes from `lo` on with these start values; nothing is delivered yet.
     pub fn begin(alloc: Global, tier: u64, lo: u64, starts: &[Start]) -> Result<Self, AllocError>
@@ -192,7 +195,7 @@ impl<G: Game> OrderedShard<G> {
     pub fn close(&mut self)
         requires whole { IsWhole G.rules self.old }
         requires fits { self.old.level ≤ REMOTENESS }
-        ensures { self.new ≡ next_level self.old }
+        ensures { self.new ≡ at_next_level self.old }
     {
         self.children.close();
         self.queue.advance();
@@ -221,7 +224,7 @@ impl<G: Game> OrderedShard<G> {
     // Returns the number of an index's record when nothing is left to settle: an undecided position is a draw.
     fn final_number(&self, index: u64) -> u32
         requires { IsInRange self.now index }
-        ensures { (status : StatusSpec) × StatusIs G.rules self.now index status × (unpacked result ≡ record_of status) }
+        ensures { (status : StatusSpec) × StatusIs G.rules self.now index status × (unpacked result ≡ record_of_status status) }
     {
         self.children.final_number(index)
     }

@@ -14,7 +14,7 @@ pub(crate) struct Queue {
 
 impl Model for Queue {
     ghost use Rattle.std.specs.Prelude.{◌≤◌, length, vec_capacity};
-    ghost use Rattle.gm_counters.specs.Queues.{QueueData};
+    ghost use Rattle.gm_counters.specs.inner.Queues.{QueueData};
 
     ghost Value = { QueueData };
 

@@ -1,9 +1,10 @@
 //! What is known of an index, and what a delivery makes of it.
 ghost use Rattle.std.specs.Prelude.{◌≡◌, ◌+◌, ◌<◌, ◌^◌, ◌↔◌, IsTrue};
-ghost use Rattle.gm_counters.specs.Lower.{phase_of, solved};
-ghost use Rattle.gm_counters.specs.Delivery.{next_status, is_settling, number_of};
-ghost use Rattle.gm_counters.specs.Begin.{first_left};
-ghost use Rattle.gm_counters.specs.Queues.{HasPhase};
+ghost use Rattle.gm_frontier.specs.Notes.{phase_of};
+ghost use Rattle.gm_game.specs.Records.{solved};
+ghost use Rattle.gm_counters.specs.Delivery.{next_status, is_settling, refused_number};
+ghost use Rattle.gm_counters.specs.inner.Begin.{first_left};
+ghost use Rattle.gm_counters.specs.inner.Queues.{HasPhase};
 ghost use Rattle.gm_counters.specs.declared.status.Status.TheVariants.{Settled};
 
 use gm_game::position::{End, Phase, Solved, Value};
@@ -53,7 +54,7 @@ pub enum Refused {
 impl Refused {
     /// Returns the number of the refusal.
     pub fn number(&self) -> u8
-        ensures { result ≡ number_of self.now }
+        ensures { result ≡ refused_number self.now }
     {
         match self {
             Refused::NotThisLevel => 1,

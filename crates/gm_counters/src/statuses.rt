@@ -1,12 +1,12 @@
 //! Statuses of four bytes each.
 ghost use Rattle.std.specs.Prelude.{◌≡◌, ◌<◌, ◌≤◌, ℕ, Some, length, map, slice_get, set, IfOk};
-ghost use Rattle.gm_counters.specs.Begin.{first_status};
+ghost use Rattle.gm_counters.specs.inner.Begin.{first_status};
 ghost use Rattle.gm_counters.specs.Good.{IsWithinLimit};
 ghost use Rattle.gm_table.specs.Packed.{unpacked};
-ghost use Rattle.gm_counters.specs.Closing.{record_of};
+ghost use Rattle.gm_counters.specs.inner.Closing.{record_of_status};
 ghost use Rattle.gm_counters.specs.declared.status.Status.{Status as StatusSpec};
 ghost use Rattle.gm_counters.specs.declared.status.Status.TheVariants.{Hole};
-ghost use Rattle.gm_counters.specs.Statuses.{first_number, status_of};
+ghost use Rattle.gm_counters.specs.inner.Statuses.{first_number, status_numbered};
 
 use crate::status::{Start, Status};
 use gm_game::evaluate::of_end;
@@ -29,11 +29,11 @@ pub(crate) struct Statuses {
 impl Model for Statuses {
     ghost use Rattle.std.specs.Prelude.{List, map};
     ghost use Rattle.gm_counters.specs.declared.status.Status.{Status};
-    ghost use Rattle.gm_counters.specs.Statuses.{status_of};
+    ghost use Rattle.gm_counters.specs.inner.Statuses.{status_numbered};
 
     ghost Value = { List Status };
 
-    ghost view = { λ s. map status_of s.numbers.items };
+    ghost view = { λ s. map status_numbered s.numbers.items };
 }
 
 impl Statuses {
@@ -77,7 +77,7 @@ impl Statuses {
     // Returns the number of the status at a place.
     fn number(&self, k: usize) -> u32
         requires { k < length self.now }
-        ensures { slice_get self.now k ≡ Some (status_of result) }
+        ensures { slice_get self.now k ≡ Some (status_numbered result) }
     {
         self.numbers[k]
     }
@@ -85,7 +85,7 @@ impl Statuses {
     /// Returns the number of the record at a place when nothing is left to settle: an undecided one is a draw.
     pub(crate) fn final_number(&self, k: usize) -> u32
         requires { k < length self.now }
-        ensures { (status : StatusSpec) × (slice_get self.now k ≡ Some status) × (unpacked result ≡ record_of status) }
+        ensures { (status : StatusSpec) × (slice_get self.now k ≡ Some status) × (unpacked result ≡ record_of_status status) }
     {
         let number = self.number(k);
         if number == UNDECIDED {
@@ -118,7 +118,7 @@ fn first_number(start: Start) -> u32
 // Returns the number of a status.
 fn number_of_status(status: Status) -> u32
     requires { IsWithinLimit status }
-    ensures { status_of result ≡ status }
+    ensures { status_numbered result ≡ status }
 {
     match status {
         Status::Hole => number_of(None),
@@ -129,7 +129,7 @@ fn number_of_status(status: Status) -> u32
 
 // Returns the status with this number.
 fn status_of(number: u32) -> Status
-    ensures { result ≡ status_of number }
+    ensures { result ≡ status_numbered number }
 {
     match unpacked(number) {
         Some(solved) => Status::Settled(solved),

@@ -1,12 +1,12 @@
 -- The board before a slide that led to a legal board.
-use Rattle.gm_dao.proofs.Lower.{◌≡◌, ◌+◌, ◌<◌, has_formation, has_trapped, legal, in_line, slides, can_move, can_have_led_here, dao, is_open, formation_turned}
-use Rattle.gm_dao.proofs.Lower.{formation_left, legal_in, legal_from, IsSlide, slide_step, move_slide, slide_move, was_from}
+use Rattle.gm_dao.proofs.Lower.{◌≡◌, ◌+◌, ◌<◌, legal, slides, can_move, can_have_led_here, dao, legal_in, slide_step, move_slide}
+use Rattle.gm_dao.specs.DaoRules.{has_formation, has_trapped, in_line, end_by_last_move, undo}
+use Rattle.gm_dao.specs.inner.MaskSlides.{is_unended}
+use Rattle.gm_dao.specs.laws.BoardFacts.{formation_turned, formation_left, legal_from}
+use Rattle.gm_dao.specs.laws.MoveFacts.{IsSlide, slide_move}
+use Rattle.gm_dao.specs.laws.BeforeFacts.{was_from}
 use Rattle.std.specs.Prelude.{◌*◌}
-use Rattle.gm_pieces.specs.Common.{false_from_ne_true, refl, ℕ, true, false, not, eqb, eqb-true, eq-eqb, List, map, length, set, None, Some, subst, sym, ap}
-use Rattle.gm_pieces.specs.Common.{ap₂, ◌∙◌, arith, inl, inr, get_or-set_same, length-set, length-map, cases_Bool, not-true, Cell, Empty, Mine, turned, is_mine}
-use Rattle.gm_pieces.specs.Common.{is_theirs, cell_at, number_of, mine_turned, theirs_turned, and_left, and_right, and_both, from_back, to_back, plays_on}
-use Rattle.gm_pieces.specs.Common.{goes_on, before_at, before_some, before_none, WasStep, gone, brought_back, step_left, gone_again}
-use Rattle.gm_dao.specs.DaoRules.{end_by_last_move, undo}
+use Rattle.gm_pieces.specs.Common.{false_from_ne_true, refl, ℕ, true, false, not, eqb, eqb-true, eq-eqb, List, map, length, set, None, Some, subst, sym, ap, ap₂, ◌∙◌, arith, inl, inr, get_or-set_same, length-set, length-map, cases_Bool, not-true, Cell, Empty, Mine, turned, is_mine, is_theirs, cell_at, number_of, mine_turned, theirs_turned, and_left, and_right, and_both, from_back, to_back, is_undecided, goes_on, before_at, before_some, before_none, WasStep, mover_gone, brought_back, step_left, gone_again}
 
 -- the board before, by the cells of the move
 taken_at : (d : List Cell) (a c : ℕ) → c < 16 → undo d (16 * a + c) ≡ brought_back d a c
@@ -23,7 +23,7 @@ earlier_has : (d e : List Cell) (a c : ℕ) → legal d ≡ true → WasStep d a
 earlier_has d e a c l w q n h =
     let x = set (set e a Empty) c Mine in
     let s = step_left e a c (slide_step e a c n h) in
-    let back : map turned x ≡ d = ap (λ (b : List Cell). gone b a c) q ∙ gone_again d a c w in
+    let back : map turned x ≡ d = ap (λ (b : List Cell). mover_gone b a c) q ∙ gone_again d a c w in
     let k = legal_in d l in
     let own : number_of is_mine x ≡ 4 = sym (theirs_turned x) ∙ ap (number_of is_theirs) back ∙ k.other in
     let other : number_of is_theirs x ≡ 4 = sym (mine_turned x) ∙ ap (number_of is_mine) back ∙ k.own in
@@ -35,7 +35,7 @@ earlier_has d e a c l w q n h =
 
 -- ---- if the game goes on
 -- where the opponent has no formation, the last move has not ended the game exactly if no piece is trapped
-plays_is : (e : List Cell) → has_formation is_theirs e ≡ false → plays_on (end_by_last_move e) ≡ not (has_trapped e)
+plays_is : (e : List Cell) → has_formation is_theirs e ≡ false → is_undecided (end_by_last_move e) ≡ not (has_trapped e)
 unfolding end_by_last_move
 plays_is e f = elim (cases_Bool (has_trapped e)) [ inl g ↦ rw (f, g) refl | inr g ↦ rw (f, g) refl ]
 
@@ -60,7 +60,7 @@ module _ (t : ℕ) (d e : List Cell) (a c : ℕ) (la : a < 16) (lc : c < 16) (l 
       let r = and_right _ _ h in
       record { mine = mover_at; line = and_left _ _ h; clear = and_left _ _ r; stopped = and_right _ _ r }
 
-  went_on : goes_on dao t e (16 * a + c) ≡ true → (slides e a c ≡ true) × (eqb t 0 ≡ true) × (is_open e ≡ true)
+  went_on : goes_on dao t e (16 * a + c) ≡ true → (slides e a c ≡ true) × (eqb t 0 ≡ true) × (is_unended e ≡ true)
   went_on g =
       let r = and_right _ _ g in
       let s = and_right _ _ r in
@@ -75,11 +75,11 @@ module _ (t : ℕ) (d e : List Cell) (a c : ℕ) (la : a < 16) (lc : c < 16) (l 
   taken = taken_at d a c lc ∙ sym q
 
   -- if a test fails there is none
-  pub no_before : (slides e a c ≡ true → eqb t 0 ≡ true → is_open e ≡ true → ⊥) → before_at dao t d (16 * a + c) ≡ None
+  pub no_before : (slides e a c ≡ true → eqb t 0 ≡ true → is_unended e ≡ true → ⊥) → before_at dao t d (16 * a + c) ≡ None
   no_before z = before_none dao t d (16 * a + c) (λ u. false_from_ne_true _ (λ g.
       let x = went_on (subst (λ (b : List Cell). goes_on dao t b (16 * a + c) ≡ true) taken g) in z x.0 x.1 x.2))
 
-  module _ (f : slides e a c ≡ true) (z : t ≡ 0) (o : is_open e ≡ true) where
+  module _ (f : slides e a c ≡ true) (z : t ≡ 0) (o : is_unended e ≡ true) where
     slide : IsSlide e a c
     slide = slide_of f
 

@@ -1,16 +1,21 @@
 -- The cells from which a piece can have slid to its cell, and the boards before a board, taken by the pieces that may have moved.
-use Rattle.gm_dao.proofs.Lower.{◌++◌, ◌≡◌, ◌≢◌, ◌+◌, ◌/◌, ◌^◌, ◌<◌, ◌≤◌, ◌&&◌, ◌∷◌, filter_map_from, filter_map_to, contains_head, contains_later, is_some}
-use Rattle.gm_dao.proofs.Lower.{filter_map_few, AllByRecursion, AreAscending, is_before, ascending_once, contains_none, map_in, map_from, put_all_ascending}
-use Rattle.gm_dao.proofs.Lower.{put_all_from, put_all_later, before_skip, puts_skip, legal, slides, can_have_led_here, least_index_of, dao, came_by_masks}
-use Rattle.gm_dao.proofs.Lower.{way_back, befores_below, AreBeforesBelow, legal_in, way, blocks_few, was_in}
-use Rattle.std.specs.Prelude.{◌*◌}
-use Rattle.gm_pieces.specs.Common.{ℕ, zero, suc, Bool, true, false, not, cond, eqb, eq-eqb, ltb, ltb-true, List, [], length, map, set, None, Some, Option, refl}
-use Rattle.gm_pieces.specs.Common.{sym, ap, ap₂, ◌∙◌, subst, arith, inl, inr, bit_and, list_all, filter_map, range_with_len, cases_Bool, true≢false, Contains}
-use Rattle.gm_pieces.specs.Common.{put, put_all, put_more_none, put_more_some, Cell, Empty, Mine, Theirs, turned, has_cell, board_of, from_point, to_point}
-use Rattle.gm_pieces.specs.Common.{from_back, to_back, all_at, all_from, at_all, at_each, and_left, and_right, cond-true, get_or-set_same, get_or-set_other}
-use Rattle.gm_pieces.specs.Common.{length-set, length-map, before_at, befores, is_theirs, is_empty, is_taken, cell_at, WasStep, brought_back, turned_cell}
-use Rattle.gm_pieces.specs.Common.{filter, reverse, same_all, same_list, same_list_true, same_tests, cells_counted, empty_cell, contains_range, range_below}
-use Rattle.gm_pieces.specs.Common.{their_cells, IsAscending, Position, at, lt-ltb, map_once, false_from_ne_true}
+use Rattle.gm_dao.proofs.Lower.{◌++◌, ◌≡◌, ◌+◌, ◌/◌, ◌^◌, ◌<◌, ◌≤◌, ◌&&◌, ◌∷◌, contains_none, legal, slides, can_have_led_here, least_index_of, dao, came_by_masks, AreBeforesBelow, legal_in}
+use Rattle.std.specs.Prelude.{◌≢◌, ◌*◌}
+use Rattle.gm_board.specs.laws.Lists.{filter_map_from, filter_map_to, contains_head, contains_later}
+use Rattle.std.specs.Option.{is_some}
+use Rattle.gm_board.specs.laws.Filters.{filter_map_few}
+use Rattle.std.specs.List.{AllByRecursion}
+use Rattle.gm_game.specs.Children.{AreAscending, is_before}
+use Rattle.gm_game.proofs.ChildrenLemmas.{ascending_once}
+use Rattle.gm_game.proofs.Lists.{map_in, map_from}
+use Rattle.gm_game.proofs.Putting.{put_all_ascending, put_all_from, put_all_later}
+use Rattle.gm_pieces.specs.laws.MoveLaws.{before_skip}
+use Rattle.gm_pieces.specs.laws.Skipped.{puts_skip}
+use Rattle.gm_dao.specs.inner.MaskSlides.{way_back, befores_below}
+use Rattle.gm_dao.specs.laws.SlideFacts.{way}
+use Rattle.gm_dao.specs.laws.CountFacts.{blocks_few}
+use Rattle.gm_dao.specs.laws.BeforeFacts.{was_in}
+use Rattle.gm_pieces.specs.Common.{ℕ, zero, suc, Bool, true, false, not, cond, eqb, eq-eqb, ltb, ltb-true, List, [], length, map, set, None, Some, Option, refl, sym, ap, ap₂, ◌∙◌, subst, arith, inl, inr, bit_and, list_all, filter_map, range_with_len, cases_Bool, true≢false, Contains, put, put_all, put_more_none, put_more_some, Cell, Empty, Mine, Theirs, turned, has_cell, board_of, from_point, to_point, from_back, to_back, all_at, all_from, at_all, at_each, and_left, and_right, cond-true, get_or-set_same, get_or-set_other, length-set, length-map, before_at, befores, is_theirs, is_empty, is_taken, cell_at, WasStep, brought_back, turned_cell, filter, reverse, same_all, same_list, same_list_true, same_tests, cells_counted, empty_cell, contains_range, range_below, their_cells, IsAscending, Position, at, lt-ltb, map_once, false_from_ne_true}
 use Rattle.gm_dao.specs.DaoRules.{in_line, path, beyond}
 use Rattle.std.proofs.lemmas.List.Sorted.{IsPermutation-reverse, IsPermutation-sym, Contains-permutation}
 use Rattle.gm_dao.proofs.MoveSteps.{all_more, was_at}

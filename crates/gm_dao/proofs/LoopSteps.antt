@@ -1,11 +1,10 @@
 -- The steps of the loops over cells: what is skipped gives no move and no board.
-use Rattle.gm_dao.proofs.Lower.{◌≡◌, ◌+◌, ◌-◌, ◌/◌, ◌%◌, ◌^◌, ◌<◌, ◌≤◌, ◌&&◌, ◌∷◌, ◌++◌, or_zero_r, with_within, filter_skip, can_move, dao, slides_by_masks}
-use Rattle.gm_dao.proofs.Lower.{AreMovesBelow, move_slide}
+use Rattle.gm_dao.proofs.Lower.{◌≡◌, ◌+◌, ◌-◌, ◌/◌, ◌%◌, ◌^◌, ◌<◌, ◌≤◌, ◌&&◌, ◌∷◌, ◌++◌, can_move, dao, slides_by_masks, AreMovesBelow, move_slide}
+use Rattle.std.specs.Int.Bits.{or_zero_r}
+use Rattle.gm_board.specs.laws.MaskChanges.{with_within}
+use Rattle.gm_pieces.specs.laws.Skipped.{filter_skip}
 use Rattle.std.specs.Prelude.{◌*◌}
-use Rattle.gm_pieces.specs.Common.{ℕ, Bool, true, false, eqb, eq-eqb, List, [], refl, sym, ap, ap₂, ◌∙◌, subst, arith, inl, inr, bit_or, pow_mono, w32, filter}
-use Rattle.gm_pieces.specs.Common.{range_with_len, cases_eq, true≢false, bit_at_above, bit_at_set_same, bit_at_set_other, Cell, has_cell, weight, none_left}
-use Rattle.gm_pieces.specs.Common.{board_of, from_point, from_back, to_back, filter_in, steps, all_steps, is_mine, false_from_ne_true, is_empty, is_taken}
-use Rattle.gm_pieces.specs.Common.{cell_at, own_cells}
+use Rattle.gm_pieces.specs.Common.{ℕ, Bool, true, false, eqb, eq-eqb, List, [], refl, sym, ap, ap₂, ◌∙◌, subst, arith, inl, inr, bit_or, pow_mono, w32, filter, range_with_len, cases_eq, true≢false, bit_at_above, bit_at_set_same, bit_at_set_other, Cell, has_cell, bit_weight, none_left, board_of, from_point, from_back, to_back, filter_in, steps, all_steps, is_mine, false_from_ne_true, is_empty, is_taken, cell_at, own_cells}
 use Rattle.gm_dao.proofs.MoveSteps.{move_by}
 
 -- ---- moves
@@ -71,7 +70,7 @@ wider : (g n : ℕ) → g < 2 ^ n → g < 2 ^ (n + 1)
 wider g n l = let p : 2 ^ n ≤ 2 ^ (n + 1) = pow_mono (let q : n ≤ n + 1 = omega arith in q) in omega (arith, l, p)
 
 -- one more cell, which passes or not
-pub passed_more : (p : ℕ → Bool) (n g v : ℕ) (x : Bool) → n < 16 → HasPassed p n g → x ≡ p n → v ≡ weight x → HasPassed p (n + 1)
+pub passed_more : (p : ℕ → Bool) (n g v : ℕ) (x : Bool) → n < 16 → HasPassed p n g → x ≡ p n → v ≡ bit_weight x → HasPassed p (n + 1)
     (bit_or g (v * 2 ^ n % 2 ^ 32))
 passed_more p n g v true l h e w = rw w (record {
   within = with_within g n (n + 1) (wider g n h.within) (omega arith) (omega arith);

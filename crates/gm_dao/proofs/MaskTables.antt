@@ -1,10 +1,11 @@
 -- The constant tables of the code against the lists of cells.
-use Rattle.gm_dao.proofs.Lower.{◌≡◌, ◌+◌, ◌<◌, ◌&&◌, ◌∷◌, PATHS, BEYOND, BEHIND, corners, FORMATIONS, CORNERS, NEXT_TO_CORNERS}
+use Rattle.gm_dao.proofs.Lower.{◌≡◌, ◌+◌, ◌<◌, ◌&&◌, ◌∷◌, corners}
+use Rattle.gm_dao.specs.declared.slides.TheConstants.{PATHS, BEYOND, BEHIND}
+use Rattle.gm_dao.specs.declared.formations.TheConstants.{FORMATIONS, CORNERS, NEXT_TO_CORNERS}
 use Rattle.std.specs.Prelude.{◌*◌}
-use Rattle.gm_pieces.specs.Common.{ℕ, Bool, true, not, cond, eqb, eqb-true, [], map, get_or, refl, sym, ◌∙◌, cond-true, and_left, and_right, pattern_mask}
-use Rattle.gm_pieces.specs.Common.{at_below, at_each, agree, agree_same}
+use Rattle.gm_pieces.specs.Common.{ℕ, Bool, true, not, cond, eqb, eqb-true, [], map, get_or, refl, sym, ◌∙◌, cond-true, and_left, and_right, pattern_mask, at_below, at_each, agree, agree_same}
 use Rattle.gm_dao.specs.DaoRules.{formations, around, in_line, path, beyond}
-use Rattle.gm_dao.specs.MaskSlides.{way_mask}
+use Rattle.gm_dao.specs.inner.MaskSlides.{way_mask}
 
 -- the masks of the formations
 pub masks_of_formations : map pattern_mask formations ≡ FORMATIONS

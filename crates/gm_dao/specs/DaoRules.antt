@@ -1,7 +1,6 @@
 -- The rules of Dao on boards: a board is a list of sixteen cells as the player to move sees them.
 use Rattle.std.specs.Prelude.{ℕ, ◌+◌, ◌-◌, ◌/◌, ◌%◌, Bool, true, ◌&&◌, ◌||◌, ◌==◌, List, [], ◌∷◌, ◌++◌, length, if◌then◌else◌}
-use Rattle.gm_dao.specs.Lower.{max, not, nat_le, nat_lt, map, codes, Option, None, Some, filter, list_any, range_with_len, End, Rules, Theirs, arrangements}
-use Rattle.gm_dao.specs.Lower.{cell_in, from_point, to_point, gone, brought_back, board_index, board_numbered, least_index_under, MoveGame, move_rules}
+use Rattle.gm_dao.specs.Lower.{max, not, nat_le, nat_lt, map, codes, Option, None, Some, filter, list_any, range_with_len, End, Rules, Theirs, arrangements, cell_in, from_point, to_point, mover_gone, brought_back, board_index, board_numbered, least_index_under, MoveGame, move_rules}
 use Rattle.gm_game.specs.declared.position.End.TheVariants.{Lose, Win}
 use Rattle.gm_board.specs.declared.cell.Cell.{Cell}
 use Rattle.gm_board.specs.declared.cell.Cell.TheVariants.{Empty, Mine}
@@ -117,7 +116,7 @@ end_by_last_move b = if has_formation is_theirs b then Some Lose else (if has_tr
 
 -- a move, after which the roles swap
 unfoldable pub play : List Cell → ℕ → List Cell
-play b m = gone b (from_point m) (to_point m)
+play b m = mover_gone b (from_point m) (to_point m)
 
 -- ---- moves back
 -- whether the move can have led to d: a piece of the opponent's is where it ended, and none where it began

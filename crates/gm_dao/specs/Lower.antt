@@ -2,7 +2,7 @@
 pub use Rattle.gm_board.specs.Arrangements.{arrangements}
 pub use Rattle.gm_board.specs.BoardMasks.{pattern_mask}
 pub use Rattle.gm_board.specs.Images.{board_of, image_mask}
-pub use Rattle.gm_board.specs.Leaders.{IsLeader}
+pub use Rattle.gm_board.specs.inner.Leaders.{IsLeader}
 pub use Rattle.gm_board.specs.Masks.{has_cell}
 pub use Rattle.gm_board.specs.Pieces.{mine_mask}
 pub use Rattle.gm_board.specs.Squares.{cell_in, cell_text}
@@ -22,8 +22,8 @@ pub use Rattle.gm_game.specs.Rules.{Rules}
 pub use Rattle.gm_game.specs.declared.position.End.{End}
 pub use Rattle.gm_game.specs.declared.position.Position.{Position}
 pub use Rattle.gm_pieces.specs.MoveGames.{MoveGame, before_at, befores, board_game, move_rules, steps}
-pub use Rattle.gm_pieces.specs.SideTexts.{board_text}
-pub use Rattle.gm_pieces.specs.Sides.{WasStep, board_index, board_numbered, brought_back, gone, least_index_under}
+pub use Rattle.gm_pieces.specs.SideTexts.{cells_text}
+pub use Rattle.gm_pieces.specs.Sides.{WasStep, board_index, board_numbered, brought_back, mover_gone, least_index_under}
 pub use Rattle.gm_pieces.specs.Steps.{from_point, to_point}
 pub use Rattle.gm_pieces.specs.laws.MoveLaws.{move_in}
 pub use Rattle.gm_pieces.specs.laws.SideTextFacts.{text_length}

@@ -2,9 +2,8 @@
 ghost use Rattle.std.specs.Prelude.{◌≡◌, ◌<◌, ◌≤◌, ◌+◌, ◌*◌, ◌&&◌, ◌==◌, true, length};
 ghost use Rattle.gm_dao.specs.Lower.{board_of, has_cell, steps};
 ghost use Rattle.gm_board.specs.Cells.{is_mine, is_theirs, number_of};
-ghost use Rattle.gm_dao.specs.DaoRules.{has_formation as has_formation_of, has_trapped as has_trapped_of, legal, can_move as can_move_of};
-ghost use Rattle.gm_dao.specs.DaoRules.{end_by_last_move as over_of, play as play_of, dao};
-ghost use Rattle.gm_dao.specs.MaskSlides.{AreMovesBelow};
+ghost use Rattle.gm_dao.specs.DaoRules.{has_formation as has_formation_of, has_trapped as has_trapped_of, legal, can_move as can_move_of, end_by_last_move as over_of, play as play_of, dao};
+ghost use Rattle.gm_dao.specs.inner.MaskSlides.{AreMovesBelow};
 
 use crate::board::Board;
 use crate::formations::{has_formation, has_trapped};

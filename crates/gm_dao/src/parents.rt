@@ -7,7 +7,7 @@ ghost use Rattle.gm_dao.specs.Lower.{map, MatchOption, None, Some, put_all, boar
 ghost use Rattle.gm_board.specs.Cells.{cell_at};
 ghost use Rattle.gm_pieces.specs.MoveGames.{goes_on as goes_on_of};
 ghost use Rattle.gm_dao.specs.DaoRules.{can_have_led_here as was_moved_of, undo as taken_back_of, legal, slides, least_index_of, dao};
-ghost use Rattle.gm_dao.specs.MaskSlides.{is_open as is_open_of, befores_below, AreBeforesBelow};
+ghost use Rattle.gm_dao.specs.inner.MaskSlides.{is_unended as is_open_of, befores_below, AreBeforesBelow};
 
 use crate::board::{Board, least_index};
 use crate::moves::{can_move, end_by_last_move, has_own_formation, is_legal_board, is_trapped};

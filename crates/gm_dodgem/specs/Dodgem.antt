@@ -1,8 +1,7 @@
 -- The rules of Dodgem on three by three. A side sees its cars go to the right; the other side sees the board across the diagonal, so that its cars come down.
 -- A crew is a number of two digits: the cells of a side's two cars as it sees them, the lesser first; 9 is a car that is off the board. A board is the crew of
 -- the side to move, and then that of the other: four digits.
-use Rattle.std.specs.Prelude.{ℕ, ◌+◌, ◌*◌, ◌/◌, ◌%◌, Bool, not, ◌&&◌, ◌||◌, ◌==◌, nat_lt, List, [], ◌∷◌, ◌++◌, map, slice_index_or, codes, Option, None, Some}
-use Rattle.std.specs.Prelude.{if◌then◌else◌}
+use Rattle.std.specs.Prelude.{ℕ, ◌+◌, ◌*◌, ◌/◌, ◌%◌, Bool, not, ◌&&◌, ◌||◌, ◌==◌, nat_lt, List, [], ◌∷◌, ◌++◌, map, slice_index_or, codes, Option, None, Some, if◌then◌else◌}
 use Rattle.std.specs.List.{range_with_len}
 use Rattle.gm_game.specs.declared.position.End.{End}
 use Rattle.gm_game.specs.declared.position.End.TheVariants.{Lose, Win}
@@ -82,14 +81,14 @@ dodgem_move p m = step_text m
 
 -- ---- texts read back
 -- the cell, where the byte of a place is the mark, or what the other places say
-unfoldable pub picked : List ℕ → ℕ → ℕ → ℕ → ℕ → ℕ
-picked text mark place k rest = if slice_index_or text place 0 == mark then k else rest
+unfoldable pub marked_or : List ℕ → ℕ → ℕ → ℕ → ℕ → ℕ
+marked_or text mark place k rest = if slice_index_or text place 0 == mark then k else rest
 
 -- the crew with a mark: the first and the last cell that have it
 unfoldable pub crew_in : List ℕ → ℕ → List ℕ → ℕ
 crew_in text mark places =
-    let first = picked text mark (slice_index_or places 0 0) 0 (picked text mark (slice_index_or places 1 0) 1 (picked text mark (slice_index_or places 2 0) 2 (picked text mark (slice_index_or places 3 0) 3 (picked text mark (slice_index_or places 4 0) 4 (picked text mark (slice_index_or places 5 0) 5 (picked text mark (slice_index_or places 6 0) 6 (picked text mark (slice_index_or places 7 0) 7 (picked text mark (slice_index_or places 8 0) 8 9)))))))) in
-    let last = picked text mark (slice_index_or places 8 0) 8 (picked text mark (slice_index_or places 7 0) 7 (picked text mark (slice_index_or places 6 0) 6 (picked text mark (slice_index_or places 5 0) 5 (picked text mark (slice_index_or places 4 0) 4 (picked text mark (slice_index_or places 3 0) 3 (picked text mark (slice_index_or places 2 0) 2 (picked text mark (slice_index_or places 1 0) 1 (picked text mark (slice_index_or places 0 0) 0 9)))))))) in
+    let first = marked_or text mark (slice_index_or places 0 0) 0 (marked_or text mark (slice_index_or places 1 0) 1 (marked_or text mark (slice_index_or places 2 0) 2 (marked_or text mark (slice_index_or places 3 0) 3 (marked_or text mark (slice_index_or places 4 0) 4 (marked_or text mark (slice_index_or places 5 0) 5 (marked_or text mark (slice_index_or places 6 0) 6 (marked_or text mark (slice_index_or places 7 0) 7 (marked_or text mark (slice_index_or places 8 0) 8 9)))))))) in
+    let last = marked_or text mark (slice_index_or places 8 0) 8 (marked_or text mark (slice_index_or places 7 0) 7 (marked_or text mark (slice_index_or places 6 0) 6 (marked_or text mark (slice_index_or places 5 0) 5 (marked_or text mark (slice_index_or places 4 0) 4 (marked_or text mark (slice_index_or places 3 0) 3 (marked_or text mark (slice_index_or places 2 0) 2 (marked_or text mark (slice_index_or places 1 0) 1 (marked_or text mark (slice_index_or places 0 0) 0 9)))))))) in
     if first == last then 10 * first + 9 else 10 * first + last
 
 unfoldable pub number_in : List ℕ → ℕ

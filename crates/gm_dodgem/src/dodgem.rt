@@ -1,8 +1,6 @@
 //! Dodgem on three by three, with two cars a side (docs/GAMES.md, Dodgem).
 ghost use Rattle.std.specs.Prelude.{◌≡◌, ◌<◌};
-ghost use Rattle.gm_dodgem.specs.Dodgem.{dodgem, dodgem_rules, holds as holds_of, crew_of as crew_of_cars, driven as driven_of, is_crew as is_crew_of};
-ghost use Rattle.gm_dodgem.specs.Dodgem.{across as across_of, leads as leads_of, is_clear as is_clear_of, cell_byte as cell_byte_of, picked as picked_of};
-ghost use Rattle.gm_dodgem.specs.Dodgem.{crew_in as crew_in_of, dodgem_text, dodgem_move};
+ghost use Rattle.gm_dodgem.specs.Dodgem.{dodgem, dodgem_rules, holds as holds_of, crew_of as crew_of_cars, driven as driven_of, is_crew as is_crew_of, across as across_of, leads as leads_of, is_clear as is_clear_of, cell_byte as cell_byte_of, marked_or as picked_of, crew_in as crew_in_of, dodgem_text, dodgem_move};
 ghost use Rattle.gm_dodgem.specs.laws.DodgemLaws.{tables};
 
 use arrayvec::ArrayVec;
@@ -120,7 +118,7 @@ fn cell_byte(board: u64, cell: u64) -> u8
 }
 
 // Returns the cell if the byte of the place is the mark, else `rest`.
-#[tactic(auto, unfolding(crate::specs::Dodgem::picked))]
+#[tactic(auto, unfolding(crate::specs::Dodgem::marked_or))]
 fn picked(text: &[u8], mark: u8, place: u32, cell: u64, rest: u64) -> u64
     requires cell { cell < 10 }
     requires rest { rest < 10 }

@@ -1,8 +1,7 @@
 //! What these games look like.
 ghost use Rattle.std.specs.Prelude.{◌≡◌};
 ghost use Rattle.gm_dominoes.specs.DominoPictures.{domineering_four_picture, domineering_five_picture, cram_four_picture, cram_five_picture, kayles_picture};
-ghost use Rattle.gm_dominoes.specs.laws.DominoPictured.{domineering_four_pictured, domineering_five_pictured, cram_four_pictured};
-ghost use Rattle.gm_dominoes.specs.laws.DominoPictured.{cram_five_pictured, kayles_pictured};
+ghost use Rattle.gm_dominoes.specs.laws.DominoPictured.{domineering_four_pictured, domineering_five_pictured, cram_four_pictured, cram_five_pictured, kayles_pictured};
 ghost use Rattle.gm_dominoes.specs.laws.DominoTables.{domineering_four_tables, domineering_five_tables, cram_four_tables, cram_five_tables, kayles_tables};
 
 use crate::cram::{CramFive, CramFiveRules, CramFour, CramFourRules};

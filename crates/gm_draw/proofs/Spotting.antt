@@ -1,9 +1,14 @@
 -- Each byte of a board is drawn at a point of its own.
-use Rattle.gm_draw.proofs.Lower.{◌≡◌, ℕ, ◌+◌, ◌<◌, ◌⊎◌, Bool, ◌==◌, cond, eqb, eqb-true, List, [], ◌∷◌, ◌++◌, count_by, refl, sym, ap, ◌∙◌, arith}
-use Rattle.gm_draw.proofs.Lower.{inl, inr, All, flat_map, All-nil, All-cons, sum_by-cons, Style, over_at, next_x, next_y}
+use Rattle.gm_draw.proofs.Lower.{◌≡◌, ℕ, ◌+◌, List, ◌++◌, sym, ap, ◌∙◌, arith, flat_map}
+use Rattle.std.proofs.Common.{◌<◌, ◌⊎◌, Bool, ◌==◌, cond, eqb, eqb-true, [], ◌∷◌, count_by, refl, inl, inr}
+use Rattle.std.specs.List.{All}
+use Rattle.std.proofs.lemmas.List.Elements.{All-nil, All-cons}
+use Rattle.std.proofs.lemmas.List.Sums.{sum_by-cons}
+use Rattle.gm_draw.specs.declared.pictured.Style.{Style}
+use Rattle.gm_draw.specs.Diagrams.{over_at}
+use Rattle.gm_draw.specs.Templates.{next_x, next_y, spread}
 use Rattle.std.proofs.lemmas.Bool.{cases_Bool, cond-true, cond-false}
-use Rattle.gm_draw.specs.Templates.{spread}
-use Rattle.gm_draw.specs.Spots.{Spot, spots, IsBefore, AreApart, IsEachOnce}
+use Rattle.gm_draw.specs.Spots.{Spot, spots, IsSpotBefore, AreSpotsInOrder, IsEachOnce}
 
 spread_spots : (f : ℕ → ℕ → ℕ → List ℕ) (x y : ℕ) (bs : List ℕ) → spread f x y bs ≡ flat_map (λ s. f s.x s.y s.byte) (spots x y bs)
 unfolding spread spots
@@ -32,15 +37,15 @@ past_both x y u v p q (inl l) (inr m) = (let same = m.0 in inl (omega (arith, l,
 past_both x y u v p q (inr l) (inl m) = (let same = l.0 in inl (omega (arith, same, m)))
 past_both x y u v p q (inr (e, l)) (inr (f, m)) = inr (e ∙ f, omega (arith, l, m))
 
-all_past : (x y c u v : ℕ) (bs : List ℕ) → (y < v) ⊎ ((y ≡ v) × (x < u)) → All (IsBefore (record { x = x; y = y; byte = c })) (spots u v bs)
+all_past : (x y c u v : ℕ) (bs : List ℕ) → (y < v) ⊎ ((y ≡ v) × (x < u)) → All (IsSpotBefore (record { x = x; y = y; byte = c })) (spots u v bs)
 unfolding spots
-all_past x y c u v [] h = All-nil (IsBefore (record { x = x; y = y; byte = c }))
+all_past x y c u v [] h = All-nil (IsSpotBefore (record { x = x; y = y; byte = c }))
 all_past x y c u v (b ∷ bs) h =
-    All-cons (IsBefore (record { x = x; y = y; byte = c })) (record { x = u; y = v; byte = b }) (spots (next_x u b) (next_y v b) bs) h
+    All-cons (IsSpotBefore (record { x = x; y = y; byte = c })) (record { x = u; y = v; byte = b }) (spots (next_x u b) (next_y v b) bs) h
     (all_past x y c (next_x u b) (next_y v b) bs (past_both x y u v _ _ h (past_here u v b)))
 
-apart : (x y : ℕ) (bs : List ℕ) → AreApart (spots x y bs)
-unfolding spots AreApart
+apart : (x y : ℕ) (bs : List ℕ) → AreSpotsInOrder (spots x y bs)
+unfolding spots AreSpotsInOrder
 apart x y [] = tt
 apart x y (b ∷ bs) = (all_past x y b (next_x x b) (next_y y b) bs (past_here x y b), apart (next_x x b) (next_y y b) bs)
 

@@ -1,9 +1,11 @@
 -- Texts that grow by a part for each byte.
-use Rattle.gm_draw.proofs.Lower.{◌≡◌, ℕ, ◌+◌, ◌<◌, ◌≤◌, max, List, [], ◌∷◌, ◌++◌, length, take, drop, get_or, cond, Result, Ok, Err, sym, ap, ◌∙◌, flat_map}
-use Rattle.gm_draw.proofs.Lower.{OnOk, is_ok, append_assoc, append-nil, take_more, take_all, drop_more, drop_all, escaped_byte, next_length, next_x, next_y}
+use Rattle.gm_draw.proofs.Lower.{◌≡◌, ℕ, ◌+◌, ◌≤◌, List, ◌++◌, length, take, drop, sym, ap, ◌∙◌, flat_map}
+use Rattle.std.proofs.Common.{◌<◌, max, [], ◌∷◌, get_or, cond, Result, Ok, Err}
+use Rattle.std.specs.Result.{OnOk, is_ok}
+use Rattle.std.proofs.lemmas.List.{append_assoc, append-nil, take_more, take_all, drop_more, drop_all}
+use Rattle.gm_draw.specs.Diagrams.{escaped_byte, next_length, escaped, widest}
+use Rattle.gm_draw.specs.Templates.{next_x, next_y, spread}
 use Rattle.std.proofs.lemmas.Grind.{flat_map-append}
-use Rattle.gm_draw.specs.Diagrams.{escaped, widest}
-use Rattle.gm_draw.specs.Templates.{spread}
 
 -- one more byte of a text
 pub flat_next : (f : ℕ → List ℕ) (xs : List ℕ) (i : ℕ) (base cur new : List ℕ) → i < length xs → cur ≡ base ++ flat_map f (take i xs) → new ≡ cur ++ f

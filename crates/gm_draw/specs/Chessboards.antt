@@ -1,7 +1,7 @@
 -- The board of chess: sixty-four squares, light and dark. A position's text has a word for each man, its letter and the name of its square, and each of
 -- these words is followed by a space.
 use Rattle.std.specs.Prelude.{ℕ, ◌+◌, ◌-◌, ◌/◌, ◌%◌, Bool, ◌&&◌, ◌==◌, List, [], ◌∷◌, map, codes, if◌then◌else◌}
-use Rattle.gm_draw.specs.Lower.{range_with_len}
+use Rattle.std.specs.List.{range_with_len}
 use Rattle.gm_draw.specs.Templates.{is_slot, spread}
 
 -- the names of the squares, from the eighth rank down, each rank from left to right

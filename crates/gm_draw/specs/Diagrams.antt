@@ -1,7 +1,11 @@
 -- Diagrams: SVG documents of positions, byte by byte.
-use Rattle.std.specs.Prelude.{ℕ, ◌+◌, ◌-◌, ◌*◌, ◌/◌, max, Bool, true, false, ◌||◌, ◌&&◌, ◌==◌, List, [], ◌∷◌, ◌++◌, count_by, nat_lt, slice_index, codes}
-use Rattle.std.specs.Prelude.{if◌then◌else◌, Option, None, Some}
-use Rattle.gm_draw.specs.Lower.{Bor, decimal, flat_map, Position, Solved, text_of}
+use Rattle.std.specs.Prelude.{ℕ, ◌+◌, ◌-◌, ◌*◌, ◌/◌, max, Bool, true, false, ◌||◌, ◌&&◌, ◌==◌, List, [], ◌∷◌, ◌++◌, count_by, nat_lt, slice_index, codes, if◌then◌else◌, Option, None, Some}
+use Rattle.std.specs.Borrow.{Bor}
+use Rattle.std.specs.Fmt.{decimal}
+use Rattle.std.specs.List.{flat_map}
+use Rattle.gm_game.specs.declared.position.Position.{Position}
+use Rattle.gm_game.specs.declared.position.Solved.{Solved}
+use Rattle.gm_game.specs.Texts.{text_of}
 use Rattle.gm_draw.specs.declared.pictured.Style.{Style}
 use Rattle.gm_draw.specs.declared.pictured.Style.TheVariants.{Row, Crosses, Counters, Stones, Discs, Letters, Chess, Hounds}
 use Rattle.gm_draw.specs.Templates.{is_slot, spread}
@@ -21,8 +25,8 @@ escaped text = flat_map escaped_byte text
 abbrev pub at_point : List ℕ → ℕ → List ℕ → ℕ → List ℕ → List ℕ
 at_point front x middle y back = front ++ decimal x ++ middle ++ decimal y ++ back
 
-abbrev pub path : ℕ → ℕ → List ℕ → List ℕ
-path x y back = at_point (codes "<path d=\"M") x (codes " ") y back
+abbrev pub svg_path : ℕ → ℕ → List ℕ → List ℕ
+svg_path x y back = at_point (codes "<path d=\"M") x (codes " ") y back
 
 abbrev pub circle : ℕ → ℕ → List ℕ → List ℕ
 circle x y back = at_point (codes "<circle cx=\"") x (codes "\" cy=\"") y back
@@ -35,11 +39,11 @@ words_at x y look plain = at_point (codes "<text x=\"") x (codes "\" y=\"") y lo
 -- the strokes of the net; nothing for any other byte
 unfoldable pub stroke_of : ℕ → ℕ → ℕ → List ℕ
 stroke_of x y b =
-    if b == 45 then path (x - 20) y (codes "h40\"/>\n") else
-    if b == 124 then path x (y - 40) (codes "v80\"/>\n") else
-    if b == 47 then path (x - 40) (y + 40) (codes "l80-80\"/>\n") else
-    if b == 92 then path (x - 40) (y - 40) (codes "l80 80\"/>\n") else
-    if b == 43 then path (x - 20) y (codes "h40\"/>\n") ++ path x (y - 40) (codes "v80\"/>\n") else
+    if b == 45 then svg_path (x - 20) y (codes "h40\"/>\n") else
+    if b == 124 then svg_path x (y - 40) (codes "v80\"/>\n") else
+    if b == 47 then svg_path (x - 40) (y + 40) (codes "l80-80\"/>\n") else
+    if b == 92 then svg_path (x - 40) (y - 40) (codes "l80 80\"/>\n") else
+    if b == 43 then svg_path (x - 20) y (codes "h40\"/>\n") ++ svg_path x (y - 40) (codes "v80\"/>\n") else
     []
 
 -- whether a byte is a stroke of the net, a space or the end of a line
@@ -77,7 +81,7 @@ has_squares style = false
 -- a square, filled if it is a dark square of a chess board
 unfoldable pub square_of : Style → ℕ → ℕ → List ℕ
 square_of style x y =
-    path (x - 20) (y - 20) (if has_squares style && is_dark x y then codes "h40v40h-40z\" fill=\"#ccc\"/>\n" else codes "h40v40h-40z\"/>\n")
+    svg_path (x - 20) (y - 20) (if has_squares style && is_dark x y then codes "h40v40h-40z\" fill=\"#ccc\"/>\n" else codes "h40v40h-40z\"/>\n")
 
 -- the strokes and squares under the men
 unfoldable pub under_at : Style → ℕ → ℕ → ℕ → List ℕ
@@ -86,7 +90,7 @@ under_at style x y b = if is_slot b then (if has_cells style then square_of styl
 -- a cross or a nought; nothing for any other byte
 unfoldable pub cross_of : ℕ → ℕ → ℕ → List ℕ
 cross_of x y b =
-    if b == 120 then path (x - 21) (y - 21) (codes "l42 42m-42 0l42-42\" stroke-width=\"6\"/>\n") else
+    if b == 120 then svg_path (x - 21) (y - 21) (codes "l42 42m-42 0l42-42\" stroke-width=\"6\"/>\n") else
     if b == 111 then circle x y (codes "\" r=\"21\" fill=\"none\" stroke-width=\"6\"/>\n") else
     []
 
@@ -192,16 +196,16 @@ abbrev pub end_of : Style → List ℕ → ℕ
 end_of style drawing = end_by style (widest 0 0 drawing)
 
 -- the left edge of a board
-abbrev pub left_of : Style → ℕ
-left_of style = if has_cells style then 40 else 0
+abbrev pub left_edge_of : Style → ℕ
+left_edge_of style = if has_cells style then 40 else 0
 
 -- the middle of a board from left to right
 abbrev pub middle_of : Style → List ℕ → ℕ
-middle_of style drawing = (end_of style drawing + left_of style) / 2
+middle_of style drawing = (end_of style drawing + left_edge_of style) / 2
 
 -- the width of a diagram, which has room for its caption, and the width that is added before the board
 abbrev pub width_of : Style → List ℕ → ℕ
-width_of style drawing = max (end_of style drawing) 300 - left_of style
+width_of style drawing = max (end_of style drawing) 300 - left_edge_of style
 
 abbrev pub margin_of : Style → List ℕ → ℕ
 margin_of style drawing = (max (end_of style drawing) 300 - end_of style drawing) / 2
@@ -269,7 +273,7 @@ svg_back middle height caption = caption_words middle height caption ++ codes "<
 -- the SVG document of a position with this text and this drawing
 unfoldable pub svg_of : Style → List ℕ → List ℕ → List ℕ → List ℕ → List ℕ → List ℕ
 svg_of style title board text drawing caption =
-    svg_front (left_of style) (margin_of style drawing) (width_of style drawing) (height_of drawing) title text caption
+    svg_front (left_edge_of style) (margin_of style drawing) (width_of style drawing) (height_of drawing) title text caption
     ++ svg_net style board ++ svg_men style board text drawing (middle_of style drawing) ++ svg_back (middle_of style drawing) (height_of drawing) caption
 
 -- the caption under a board: the side to move, and its value if it is to be shown

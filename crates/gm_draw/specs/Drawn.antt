@@ -1,6 +1,7 @@
 -- The laws of drawings.
 use Rattle.std.specs.Prelude.{◌≡◌, ℕ, ◌≤◌, true, List, length}
-use Rattle.gm_draw.specs.Lower.{Position, Rules}
+use Rattle.gm_game.specs.declared.position.Position.{Position}
+use Rattle.gm_game.specs.Rules.{Rules}
 use Rattle.gm_draw.specs.declared.drawn.TheConstants.{DRAWING}
 
 -- drawings fit, and different legal positions differ in their drawing or in the side to move

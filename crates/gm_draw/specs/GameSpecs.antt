@@ -1,6 +1,7 @@
 -- What is known of a game by its name.
 use Rattle.std.specs.Prelude.{ℕ, List}
-use Rattle.gm_draw.specs.Lower.{Position, Rules}
+use Rattle.gm_game.specs.declared.position.Position.{Position}
+use Rattle.gm_game.specs.Rules.{Rules}
 use Rattle.gm_draw.specs.Pictures.{PictureSpec}
 
 -- a game: its rules, the texts of its positions and of their moves, and how they are drawn

@@ -8,4 +8,3 @@ pub mod Pictured
 pub mod Diagrams
 pub mod Spots
 pub mod laws
-pub mod Lower

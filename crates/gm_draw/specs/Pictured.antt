@@ -1,6 +1,8 @@
 -- The laws of pictures.
 use Rattle.std.specs.Prelude.{◌≡◌, ℕ, ◌+◌, ◌≤◌, ◌↔◌, Bool, true, not, ◌==◌, List, ◌∷◌, length, count_by}
-use Rattle.gm_draw.specs.Lower.{Contains, list_all, range_with_len, Position, Rules}
+use Rattle.std.specs.List.{Contains, list_all, range_with_len}
+use Rattle.gm_game.specs.declared.position.Position.{Position}
+use Rattle.gm_game.specs.Rules.{Rules}
 use Rattle.gm_draw.specs.declared.drawn.TheConstants.{DRAWING}
 use Rattle.gm_draw.specs.declared.pictured.Style.{Style}
 use Rattle.gm_draw.specs.declared.pictured.Style.TheVariants.{Chess}
@@ -23,7 +25,7 @@ pub record IsBoard (r : Rules) (shown : Position → List ℕ) (board : List ℕ
   pub no_more : count_by is_slot board ≡ n
 
 -- a row without slots: its points are the positions
-pub record IsRow (r : Rules) (shown : Position → List ℕ) (board : List ℕ) (points : List (List ℕ)) : Type 0 where
+pub record IsRowOfPoints (r : Rules) (shown : Position → List ℕ) (board : List ℕ) (points : List (List ℕ)) : Type 0 where
   pub no_places : list_all (λ b. not (is_slot b)) board ≡ true
   pub positions : (text : List ℕ) → Contains points text ↔ ((p : Position) × (r.is_legal p ≡ true) × (shown p ≡ text))
 
@@ -35,7 +37,7 @@ pub record IsChessboard (board : List ℕ) (points : List (List ℕ)) : Type 0 w
 -- the law of the board, by how positions are drawn on it
 abbrev pub IsBoardOf : Layout → Rules → (Position → List ℕ) → List ℕ → List (List ℕ) → Type 0
 IsBoardOf Template r shown board points = IsBoard r shown board (length points)
-IsBoardOf Rows r shown board points = IsRow r shown board points
+IsBoardOf Rows r shown board points = IsRowOfPoints r shown board points
 IsBoardOf Squares r shown board points = IsChessboard board points
 
 -- the most points of a board: the slots of a template are the capital letters, or the squares of a chess board

@@ -1,6 +1,7 @@
 -- Pictures: what a game looks like, and the drawings of its positions.
 use Rattle.std.specs.Prelude.{◌≡◌, ℕ, ◌-◌, ◌==◌, List, [], map, length, slice_index, slice_index_or, codes, if◌then◌else◌}
-use Rattle.gm_draw.specs.Lower.{Bor, Position}
+use Rattle.std.specs.Borrow.{Bor}
+use Rattle.gm_game.specs.declared.position.Position.{Position}
 use Rattle.gm_draw.specs.declared.pictured.Style.{Style}
 use Rattle.gm_draw.specs.declared.pictured.Style.TheVariants.{Row, Chess, Hounds}
 use Rattle.gm_draw.specs.declared.pictured.Layout.{Layout}

@@ -1,6 +1,9 @@
 -- The points of boards: their names, in the order of the bytes of a position's text.
 use Rattle.std.specs.Prelude.{◌≡◌, ℕ, ◌*◌, ◌⊎◌, Bool, true, not, ◌&&◌, ◌==◌, List, [], ◌∷◌, ◌++◌, map, length, codes}
-use Rattle.gm_draw.specs.Lower.{decimal, Contains, list_all, list_any, range_with_len, bytes_eq, cell_text}
+use Rattle.std.specs.Fmt.{decimal}
+use Rattle.std.specs.List.{Contains, list_all, list_any, range_with_len}
+use Rattle.std.specs.Str.{bytes_eq}
+use Rattle.gm_board.specs.Squares.{cell_text}
 
 -- ---- points
 -- the cells of a square of side s, row by row

@@ -1,8 +1,6 @@
 //! The board of chess: its squares, and the men that a position's text puts on them.
 ghost use Rattle.std.specs.Prelude.{◌≡◌, ◌≤◌, [], ◌∷◌, length};
-ghost use Rattle.gm_draw.specs.Chessboards.{chess_byte, chess_drawing, is_dark as is_dark_spec};
-ghost use Rattle.gm_draw.specs.Chessboards.{man_on as man_on_spec, man_at as man_at_spec, chess_board as chess_board_of};
-ghost use Rattle.gm_draw.specs.Chessboards.{chess_points};
+ghost use Rattle.gm_draw.specs.Chessboards.{chess_byte, chess_drawing, is_dark as is_dark_spec, man_on as man_on_spec, man_at as man_at_spec, chess_board as chess_board_of, chess_points};
 ghost use Rattle.gm_draw.specs.Pictures.{texts};
 ghost use Rattle.gm_draw.specs.Templates.{spread};
 

@@ -1,7 +1,6 @@
 //! Diagrams of positions for print: SVG documents.
 ghost use Rattle.std.specs.Prelude.{◌≡◌, ◌≤◌, ◌++◌, length, true, OnOk, IfOk};
-ghost use Rattle.gm_draw.specs.Diagrams.{start_of, svg_box, svg_size, svg_title, svg_paper, svg_front, svg_net, svg_men, svg_back, svg_of, over_all};
-ghost use Rattle.gm_draw.specs.Diagrams.{under_all, caption_words, diagram_of};
+ghost use Rattle.gm_draw.specs.Diagrams.{start_of, svg_box, svg_size, svg_title, svg_paper, svg_front, svg_net, svg_men, svg_back, svg_of, over_all, under_all, caption_words, diagram_of};
 ghost use Rattle.gm_draw.specs.Pictures.{drawn};
 ghost use Rattle.gm_draw.specs.Spots.{IsEachOnce};
 

@@ -1,7 +1,6 @@
 //! The sizes of diagrams.
 ghost use Rattle.std.specs.Prelude.{◌≡◌, ◌<◌, ◌≤◌, ◌==◌, ◌+◌, ◌*◌, ◌-◌, length, max};
-ghost use Rattle.gm_draw.specs.Diagrams.{next_length as next_length_spec, widest as widest_spec, end_by, left_of, middle_of as middle_spec, width_of};
-ghost use Rattle.gm_draw.specs.Diagrams.{margin_of, height_of};
+ghost use Rattle.gm_draw.specs.Diagrams.{next_length as next_length_spec, widest as widest_spec, end_by, left_edge_of, middle_of as middle_spec, width_of, margin_of, height_of};
 
 use crate::drawn::DRAWING;
 use crate::pictured::Style;
@@ -53,7 +52,7 @@ fn next_length(n: u64, byte: u8) -> u64
 /// Returns the frame of a drawing. It is wide enough for the caption.
 pub(crate) fn frame_of(style: Style, drawing: &[u8]) -> Frame
     requires { length drawing.now ≤ DRAWING }
-    ensures left { result.left ≡ left_of style }
+    ensures left { result.left ≡ left_edge_of style }
     ensures margin { result.margin ≡ margin_of style drawing.now }
     ensures width { result.width ≡ width_of style drawing.now }
     ensures height { result.height ≡ height_of drawing.now }

@@ -1,7 +1,6 @@
 //! The men of a diagram, each at its point.
 ghost use Rattle.std.specs.Prelude.{◌≡◌, ◌≤◌, ◌++◌, ◌+◌, OnOk};
-ghost use Rattle.gm_draw.specs.Diagrams.{circle, words_at, cross_of, counter_of, stone_of, disc_of, letter_of, is_first as is_first_spec};
-ghost use Rattle.gm_draw.specs.Diagrams.{chessman_of, man_of};
+ghost use Rattle.gm_draw.specs.Diagrams.{circle, words_at, cross_of, counter_of, stone_of, disc_of, letter_of, is_first as is_first_spec, chessman_of, man_of};
 
 use crate::pictured::Style;
 use crate::svg::{push_circle, push_path, push_words};

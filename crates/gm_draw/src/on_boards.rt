@@ -1,5 +1,7 @@
 //! Pictures of games on boards: the rules of a game state what it looks like.
-ghost use Rattle.gm_draw.specs.Lower.{move_rules, position_text, move_text, small_game};
+ghost use Rattle.gm_pieces.specs.MoveGames.{move_rules};
+ghost use Rattle.gm_pieces.specs.MoveTexts.{position_text_by, move_text_by};
+ghost use Rattle.gm_pieces.specs.Small.{small_game};
 ghost use Rattle.gm_draw.specs.Pictures.{PictureSpec, IsPictureOf};
 ghost use Rattle.gm_draw.specs.Pictured.{IsPictured};
 
@@ -16,10 +18,10 @@ pub trait PicturedMoves: MoveLists {
 
     /// Returns what the game looks like.
     fn picture() -> Picture
-        ensures { IsPictureOf result (position_text Self.game Self.text) picture };
+        ensures { IsPictureOf result (position_text_by Self.game Self.text) picture };
 
     /// The laws of pictures.
-    ghost pictured: { IsPictured (move_rules Self.game) (position_text Self.game Self.text) (move_text Self.step_text) picture };
+    ghost pictured: { IsPictured (move_rules Self.game) (position_text_by Self.game Self.text) (move_text_by Self.step_text) picture };
 }
 
 impl<T: PicturedMoves> Pictured for OnBoards<T> {
@@ -39,11 +41,11 @@ pub trait PicturedNumbers: SmallRules {
 
     /// Returns what the game looks like.
     fn picture() -> Picture
-        ensures { IsPictureOf result (position_text (small_game Self.game) Self.game.text) picture };
+        ensures { IsPictureOf result (position_text_by (small_game Self.game) Self.game.text) picture };
 
     /// The laws of pictures.
-    ghost pictured: { IsPictured (move_rules (small_game Self.game)) (position_text (small_game Self.game) Self.game.text)
-        (move_text (λ t m. Self.game.step_text m)) picture };
+    ghost pictured: { IsPictured (move_rules (small_game Self.game)) (position_text_by (small_game Self.game) Self.game.text)
+        (move_text_by (λ t m. Self.game.step_text m)) picture };
 }
 
 impl<T: PicturedNumbers> PicturedMoves for SmallMoves<T> {

@@ -1,9 +1,7 @@
 //! The elements of a diagram.
 ghost use Rattle.std.specs.Prelude.{◌≡◌, ◌≤◌, ◌++◌, ◌+◌, ◌-◌, length, true, OnOk};
-ghost use Rattle.gm_draw.specs.Lower.{decimal};
-ghost use Rattle.gm_draw.specs.Diagrams.{at_point, path, circle, words_at, stroke_of, has_cells as has_cells_spec, has_points as has_points_spec};
-ghost use Rattle.gm_draw.specs.Diagrams.{is_stroke as is_stroke_spec, has_squares as has_squares_spec, square_of, slot_byte as slot_byte_spec, under_at};
-ghost use Rattle.gm_draw.specs.Diagrams.{over_at, part_at, point_of, label_x as label_x_spec, label_y as label_y_spec, label_of};
+ghost use Rattle.std.specs.Fmt.{decimal};
+ghost use Rattle.gm_draw.specs.Diagrams.{at_point, svg_path, circle, words_at, stroke_of, has_cells as has_cells_spec, has_points as has_points_spec, is_stroke as is_stroke_spec, has_squares as has_squares_spec, square_of, slot_byte as slot_byte_spec, under_at, over_at, part_at, point_of, label_x as label_x_spec, label_y as label_y_spec, label_of};
 ghost use Rattle.gm_draw.specs.Templates.{is_slot, next_x as next_x_spec, next_y as next_y_spec, spread};
 
 use crate::chessboard::{is_dark, man_at};
@@ -44,7 +42,7 @@ pub(crate) fn push_at(
 
 /// Appends a path that begins at a point.
 pub(crate) fn push_path(text: &mut Vec<u8>, x: u64, y: u64, back: &[u8]) -> Result<(), AllocError>
-    ensures { OnOk result (text.new.items ≡ text.old.items ++ path x y back.now) }
+    ensures { OnOk result (text.new.items ≡ text.old.items ++ svg_path x y back.now) }
 {
     push_at(text, b"<path d=\"M", x, b" ", y, back)
 }

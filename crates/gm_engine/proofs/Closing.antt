@@ -1,6 +1,8 @@
 -- Tables stay closed when a table is added whose child tiers are held.
-use Rattle.gm_engine.proofs.Lower.{◌≡◌, ◌==◌, ℕ, ◌⊎◌, ◌↔◌, inl, inr, zero, suc, true, false, if◌then◌else◌, List, [], Some, IsSome, refl, ap, sym, subst, ◌∙◌}
-use Rattle.gm_engine.proofs.Lower.{eqb-true, eq-eqb, Rules, TableData, table_of, Inserts, IsHeld, AreHeld, IsBelow, AreClosed}
+use Rattle.gm_engine.proofs.Lower.{◌≡◌, ℕ, inr, suc, List, [], Some, ap, sym, subst, ◌∙◌, Rules, TableData, AreClosed}
+use Rattle.std.proofs.Common.{◌==◌, ◌⊎◌, ◌↔◌, inl, zero, true, false, if◌then◌else◌, IsSome, refl, eqb-true, eq-eqb}
+use Rattle.gm_table.specs.Tables.{table_of, Inserts, IsHeld, AreHeld}
+use Rattle.gm_play.specs.Reached.{IsBelow}
 
 module _ (old new : List TableData) (table : TableData) (inserts : Inserts old new table) where
   pub held_too : (t : ℕ) → IsHeld new t ↔ (IsHeld old t ⊎ (table.tier ≡ t))

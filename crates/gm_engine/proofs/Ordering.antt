@@ -1,9 +1,16 @@
 -- Tiers that can't come after those before them.
-use Rattle.gm_engine.proofs.Lower.{◌≡◌, ◌≤◌, ◌<◌, ◌+◌, ◌++◌, ◌⊎◌, ℕ, List, [], ◌∷◌, Some, inl, inr, length, map, take, drop, get_or, slice_get, slice_index_or}
-use Rattle.gm_engine.proofs.Lower.{subst, sym, ap, arith, ◌∙◌, Contains, sum, take_more, take-append-le, length-append, take-append-drop, get_or_append_left}
-use Rattle.gm_engine.proofs.Lower.{Contains-append_cases, Contains-get_or, sum_by-cons, slice_get-get_or, slice_get_within, get_or_from_slice_get}
-use Rattle.gm_engine.proofs.Lower.{take-append_seam, get_or-append_seam, TIER_SIZE, Rules, TableData, IsHeld, ComeChildrenFirst, Width, AreTrue, room, IsEarly}
-use Rattle.gm_engine.proofs.Lower.{AreDisordered, IsNotNext, HaveTables}
+use Rattle.gm_engine.proofs.Lower.{◌≡◌, ◌≤◌, ◌<◌, ◌+◌, ◌++◌, ℕ, List, [], ◌∷◌, Some, inr, length, map, take, drop, get_or, slice_index_or, subst, sym, ap, arith, ◌∙◌, take_more, slice_get-get_or, Rules, TableData, Width, AreTrueTiers, room, AreDisordered, IsNotNext, HaveTables}
+use Rattle.std.proofs.Common.{◌⊎◌, inl, slice_get}
+use Rattle.std.specs.List.{Contains, sum}
+use Rattle.std.proofs.lemmas.List.{take-append-le, length-append, take-append-drop, get_or_append_left}
+use Rattle.std.proofs.lemmas.List.Elements.{Contains-append_cases, Contains-get_or}
+use Rattle.std.proofs.lemmas.List.Sums.{sum_by-cons}
+use Rattle.std.proofs.lemmas.Option.{slice_get_within, get_or_from_slice_get}
+use Rattle.std.proofs.Math.Seq.{take-append_seam, get_or-append_seam}
+use Rattle.gm_game.specs.declared.limits.TheConstants.{TIER_SIZE}
+use Rattle.gm_table.specs.Tables.{IsHeld}
+use Rattle.gm_tiers.specs.Orders.{ComeChildrenFirst}
+use Rattle.gm_engine.specs.Refusing.{IsEarly}
 use Rattle.gm_engine.proofs.Trueness.{long}
 
 -- one more tier has a table
@@ -69,7 +76,7 @@ module _ (r : Rules) where
 
 module _ (r : Rules) (w : Width) where
   -- there are as many bytes as the records of the tiers have
-  pub total : (tiers : List ℕ) (bytes : List ℕ) → AreTrue r w tiers bytes → length bytes ≡ sum (map (room r w) tiers)
+  pub total : (tiers : List ℕ) (bytes : List ℕ) → AreTrueTiers r w tiers bytes → length bytes ≡ sum (map (room r w) tiers)
   total [] bytes none = ap length none
   total (t ∷ ts) bytes (first, others) =
       let a : length (take (room r w t) bytes) ≡ room r w t = long r w t (take (room r w t) bytes) first in

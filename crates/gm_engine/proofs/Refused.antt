@@ -1,7 +1,12 @@
 -- The reason for a refusal, from the reason why a step has failed.
-use Rattle.gm_engine.proofs.Lower.{◌≡◌, ◌<◌, ℕ, List, Some, slice_get, length, slice_index_or, inr, ◌≢◌, subst, sym, ◌∙◌, Contains-get_or, Solved, Rules}
-use Rattle.gm_engine.proofs.Lower.{TableData, IsTable, IsTierOrder, Width, IsTrueTier, AreTrue, farthest, AreDisordered, IsNotNext, HaveTables, IsTierUnchecked}
-use Rattle.gm_engine.proofs.Lower.{IsUnchecked, IsUnheld, IsUnadded, IsFar, IsTierUnsolved, IsUnsolved, AreUnsolved, IsUnsolvedGame, Refusal}
+use Rattle.gm_engine.proofs.Lower.{◌≡◌, ◌<◌, ℕ, List, Some, length, slice_index_or, inr, subst, sym, ◌∙◌, Solved, Rules, TableData, Width, IsTrueTier, AreTrueTiers, AreDisordered, IsNotNext, HaveTables}
+use Rattle.std.proofs.Common.{slice_get, ◌≢◌}
+use Rattle.std.proofs.lemmas.List.Elements.{Contains-get_or}
+use Rattle.gm_table.specs.Tables.{IsTable}
+use Rattle.gm_tiers.specs.Orders.{IsTierOrder}
+use Rattle.gm_engine.specs.Records.{farthest}
+use Rattle.gm_engine.specs.Refusing.{IsTierUnchecked, IsUnchecked, IsUnheld, IsUnadded, IsFar, IsTierUnsolved, IsUnsolved, AreUnsolved, IsUnsolvedGame}
+use Rattle.gm_engine.specs.declared.refusal.Refusal.{Refusal}
 use Rattle.gm_engine.specs.declared.refusal.Refusal.TheVariants.{Memory, Order, Records, TooFar, Room, Position as NoPosition, NotSolved}
 use Rattle.gm_engine.proofs.Ordering.{disordered_more, disordered_last, total}
 
@@ -17,7 +22,7 @@ unheld A B so NotSolved why = absurd why
 
 module _ (r : Rules) (w : Width) where
   -- if the bytes of a tier are refused, so are all bytes that they are a part of
-  pub unchecked : (tiers all : List ℕ) (entries : List TableData) (tier : ℕ) (bytes : List ℕ) → (AreTrue r w tiers all → IsTrueTier r w tier bytes)
+  pub unchecked : (tiers all : List ℕ) (entries : List TableData) (tier : ℕ) (bytes : List ℕ) → (AreTrueTiers r w tiers all → IsTrueTier r w tier bytes)
       → (IsNotNext r entries tier → AreDisordered r tiers) → (e : Refusal) → IsTierUnchecked r w entries tier bytes e → IsUnchecked r w tiers all e
   unchecked tiers all entries tier bytes is order Memory why = tt
   unchecked tiers all entries tier bytes is order Order why = order why
@@ -78,7 +83,7 @@ module _ (r : Rules) (w : Width) where
   unsolved_one entries tiers k within next NotSolved why = absurd why
 
   -- a game is refused: the room is not that of its records
-  pub unroomed_game : (places room : ℕ) (tiers bytes : List ℕ) → IsTierOrder r tiers → AreTrue r w tiers bytes → (e : Refusal) → e ≡ Room
+  pub unroomed_game : (places room : ℕ) (tiers bytes : List ℕ) → IsTierOrder r tiers → AreTrueTiers r w tiers bytes → (e : Refusal) → e ≡ Room
       → length bytes ≢ room → IsUnsolvedGame r w places room e
   unroomed_game places room tiers bytes order true_ e is other =
       subst (IsUnsolvedGame r w places room) (sym is) (tiers, order, inr (λ same. other (total r w tiers bytes true_ ∙ sym same)))

@@ -1,8 +1,13 @@
 -- True records, tier by tier.
-use Rattle.gm_engine.proofs.Lower.{◌≡◌, ◌≤◌, ◌<◌, ◌+◌, ◌++◌, ℕ, suc, List, [], ◌∷◌, map, Option, Some, None, length, min, take, drop, get_or, slice_index_or}
-use Rattle.gm_engine.proofs.Lower.{subst, sym, ap, arith, ◌∙◌, drop_of_length-le, drop-cons, take_all, length-take, take-append-le, drop-append-le, take_more}
-use Rattle.gm_engine.proofs.Lower.{map-append, append_assoc, take-append-drop, slice_get-get_or, Solved, REMOTENESS, Rules, IsTrueTable, TableData, IsTable}
-use Rattle.gm_engine.proofs.Lower.{record_at, Width, record_with, records_of, times, Stand, room, IsTrueTier, AreTrue}
+use Rattle.gm_engine.proofs.Lower.{◌≡◌, ◌≤◌, ◌<◌, ◌+◌, ◌++◌, ℕ, suc, List, [], ◌∷◌, map, Option, Some, length, take, drop, get_or, slice_index_or, subst, sym, ap, arith, ◌∙◌, take_more, append_assoc, slice_get-get_or, Solved, Rules, TableData, Width, record_with, room, IsTrueTier, AreTrueTiers}
+use Rattle.std.proofs.Common.{None, min}
+use Rattle.std.proofs.Math.ListN.{drop_of_length-le}
+use Rattle.std.proofs.Math.Seq.{drop-cons}
+use Rattle.std.proofs.lemmas.List.{take_all, length-take, take-append-le, drop-append-le, map-append, take-append-drop}
+use Rattle.gm_game.specs.declared.limits.TheConstants.{REMOTENESS}
+use Rattle.gm_game.specs.Records.{IsTrueTable}
+use Rattle.gm_table.specs.Tables.{IsTable, record_at}
+use Rattle.gm_engine.specs.Records.{records_of, times, Stand}
 
 -- one more at the end
 pub append_one : (xs more old new : List ℕ) (b : ℕ) → old ≡ xs ++ more → new ≡ old ++ b ∷ [] → new ≡ xs ++ (more ++ b ∷ [])
@@ -27,25 +32,25 @@ module _ (r : Rules) (w : Width) where
   pub long : (t : ℕ) (ys : List ℕ) → IsTrueTier r w t ys → length ys ≡ room r w t
   long t ys is = is.0
 
-  one : (t : ℕ) (ys : List ℕ) → IsTrueTier r w t ys → AreTrue r w (t ∷ []) ys
+  one : (t : ℕ) (ys : List ℕ) → IsTrueTier r w t ys → AreTrueTiers r w (t ∷ []) ys
   one t ys is = let l : length ys ≡ room r w t = long t ys is in let le : length ys ≤ room r w t = omega arith in
       (subst (IsTrueTier r w t) (sym (take_all (room r w t) ys le)) is, drop_of_length-le ys le)
 
   -- the records of one more tier come after those of others
-  pub one_more : (ts : List ℕ) (xs : List ℕ) (t : ℕ) (ys : List ℕ) → AreTrue r w ts xs → IsTrueTier r w t ys → AreTrue r w (ts ++ t ∷ []) (xs ++ ys)
-  one_more [] xs t ys known is = subst (λ (v : List ℕ). AreTrue r w (t ∷ []) (v ++ ys)) (sym known) (one t ys is)
+  pub one_more : (ts : List ℕ) (xs : List ℕ) (t : ℕ) (ys : List ℕ) → AreTrueTiers r w ts xs → IsTrueTier r w t ys → AreTrueTiers r w (ts ++ t ∷ []) (xs ++ ys)
+  one_more [] xs t ys known is = subst (λ (v : List ℕ). AreTrueTiers r w (t ∷ []) (v ++ ys)) (sym known) (one t ys is)
   one_more (u ∷ ts) xs t ys (first, others) is =
       let a : length (take (room r w u) xs) ≡ room r w u = long u (take (room r w u) xs) first in
       let b : length (take (room r w u) xs) ≡ min (room r w u) (length xs) = length-take (room r w u) xs in
       let le : room r w u ≤ length xs = omega arith in (
         subst (IsTrueTier r w u) (sym (take-append-le (room r w u) xs ys le)) first,
-        subst (AreTrue r w (ts ++ t ∷ [])) (sym (drop-append-le (room r w u) xs ys le)) (one_more ts (drop (room r w u) xs) t ys others is),
+        subst (AreTrueTiers r w (ts ++ t ∷ [])) (sym (drop-append-le (room r w u) xs ys le)) (one_more ts (drop (room r w u) xs) t ys others is),
       )
 
-  pub one_more_at : (ts : List ℕ) (k : ℕ) (xs ys : List ℕ) → k < length ts → AreTrue r w (take k ts) xs → IsTrueTier r w (slice_index_or ts k 0) ys
-      → AreTrue r w (take (k + 1) ts) (xs ++ ys)
+  pub one_more_at : (ts : List ℕ) (k : ℕ) (xs ys : List ℕ) → k < length ts → AreTrueTiers r w (take k ts) xs → IsTrueTier r w (slice_index_or ts k 0) ys
+      → AreTrueTiers r w (take (k + 1) ts) (xs ++ ys)
   one_more_at ts k xs ys within known is =
-      subst (λ (v : List ℕ). AreTrue r w v (xs ++ ys)) (sym (take_more ts k 0 within)) (one_more (take k ts) xs (slice_index_or ts k 0) ys known is)
+      subst (λ (v : List ℕ). AreTrueTiers r w v (xs ++ ys)) (sym (take_more ts k 0 within)) (one_more (take k ts) xs (slice_index_or ts k 0) ys known is)
 
   -- true records, from a table
   pub from_table : (tier : ℕ) (t : TableData) (more : List ℕ) → IsTable r t → t.tier ≡ tier → Stand w more t.records → IsTrueTier r w tier more
@@ -56,16 +61,16 @@ module _ (r : Rules) (w : Width) where
   )
 
   -- the records of these tiers from the k-th on are its own, and then those of the later tiers
-  pub first_of : (ts : List ℕ) (k : ℕ) (bytes : List ℕ) → k < length ts → AreTrue r w (drop k ts) bytes
+  pub first_of : (ts : List ℕ) (k : ℕ) (bytes : List ℕ) → k < length ts → AreTrueTiers r w (drop k ts) bytes
       → IsTrueTier r w (slice_index_or ts k 0) (take (room r w (slice_index_or ts k 0)) bytes)
-      × AreTrue r w (drop (k + 1) ts) (drop (room r w (slice_index_or ts k 0)) bytes)
+      × AreTrueTiers r w (drop (k + 1) ts) (drop (room r w (slice_index_or ts k 0)) bytes)
   first_of ts k bytes within known =
-      let (first, others) = subst (λ (v : List ℕ). AreTrue r w v bytes) (drop-cons ts k 0 within) known in
+      let (first, others) = subst (λ (v : List ℕ). AreTrueTiers r w v bytes) (drop-cons ts k 0 within) known in
       let next : suc k ≡ k + 1 = omega arith in
-      (first, subst (λ (m : ℕ). AreTrue r w (drop m ts) (drop (room r w (slice_index_or ts k 0)) bytes)) next others)
+      (first, subst (λ (m : ℕ). AreTrueTiers r w (drop m ts) (drop (room r w (slice_index_or ts k 0)) bytes)) next others)
 
   -- so there are at least the bytes of the tier
-  pub enough_for : (ts : List ℕ) (k : ℕ) (bytes : List ℕ) → k < length ts → AreTrue r w (drop k ts) bytes → room r w (slice_index_or ts k 0) ≤ length bytes
+  pub enough_for : (ts : List ℕ) (k : ℕ) (bytes : List ℕ) → k < length ts → AreTrueTiers r w (drop k ts) bytes → room r w (slice_index_or ts k 0) ≤ length bytes
   enough_for ts k bytes within known =
       let t = slice_index_or ts k 0 in
       let front = take (room r w t) bytes in
@@ -74,5 +79,5 @@ module _ (r : Rules) (w : Width) where
       omega arith
 
   -- after the last tier no bytes remain
-  pub none_left : (ts : List ℕ) (k : ℕ) (bytes : List ℕ) → length ts ≤ k → AreTrue r w (drop k ts) bytes → bytes ≡ []
-  none_left ts k bytes past known = subst (λ (v : List ℕ). AreTrue r w v bytes) (drop_of_length-le ts past) known
+  pub none_left : (ts : List ℕ) (k : ℕ) (bytes : List ℕ) → length ts ≤ k → AreTrueTiers r w (drop k ts) bytes → bytes ≡ []
+  none_left ts k bytes past known = subst (λ (v : List ℕ). AreTrueTiers r w v bytes) (drop_of_length-le ts past) known

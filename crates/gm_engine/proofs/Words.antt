@@ -1,8 +1,8 @@
 -- Records of four bytes each.
-use Rattle.gm_engine.proofs.Lower.{◌≡◌, ◌≤◌, ◌<◌, ◌+◌, ◌/◌, ◌%◌, ◌++◌, ℕ, zero, suc, List, [], ◌∷◌, Option, Some, None, length, map, take, drop, get_or, refl}
-use Rattle.gm_engine.proofs.Lower.{sym, ap, arith, ◌∙◌, take_more, map-append, append_assoc, append-nil, slice_get-get_or, Solved, unpacked, record_at}
-use Rattle.gm_engine.proofs.Lower.{words_of}
-use Rattle.std.proofs.Common.{◌*◌}
+use Rattle.gm_engine.proofs.Lower.{◌≡◌, ◌≤◌, ◌<◌, ◌+◌, ◌++◌, ℕ, suc, List, [], ◌∷◌, Option, Some, length, map, take, drop, get_or, sym, ap, arith, ◌∙◌, take_more, append_assoc, slice_get-get_or, Solved, unpacked, words_of}
+use Rattle.std.proofs.Common.{◌/◌, ◌%◌, zero, None, refl, ◌*◌}
+use Rattle.std.proofs.lemmas.List.{map-append, append-nil}
+use Rattle.gm_table.specs.Tables.{record_at}
 
 -- four bytes are one word, and the later bytes are the others
 pub words_next : (bytes : List ℕ) → 4 ≤ length bytes → words_of bytes ≡ words_of (take 4 bytes) ++ words_of (drop 4 bytes)

@@ -11,7 +11,7 @@ use Rattle.gm_toys.specs.Takeaway.{takeaway}
 use Rattle.gm_morris.specs.Morris.{morris_rules}
 use Rattle.gm_morris.specs.Texts.{position_text as nine_text, move_text as nine_move_text}
 use Rattle.gm_mutorere.specs.laws.RingTables.{ring_game}
-use Rattle.gm_pieces.specs.MoveTexts.{position_text, move_text}
+use Rattle.gm_pieces.specs.MoveTexts.{position_text_by, move_text_by}
 use Rattle.gm_squares.specs.Chess.{ending, chess_rules, board_text, step_text as man_move}
 use Rattle.gm_dao.specs.DaoRules.{dao_rules}
 use Rattle.gm_dao.specs.Texts.{position_text as dao_text, move_text as dao_move_text}
@@ -60,8 +60,8 @@ games =
     ∷ played Byte takeaway number_text step_text
     ∷ played Byte tapatan_rules (way_text 9 tapatan) (way_move_text tapatan)
     ∷ played Byte dodgem_rules dodgem_text dodgem_move
-    ∷ played Word (chess_rules false) (position_text (ending false) (board_text false)) (move_text (λ t m. man_move false m))
-    ∷ played Byte (chess_rules true) (position_text (ending true) (board_text true)) (move_text (λ t m. man_move true m))
+    ∷ played Word (chess_rules false) (position_text_by (ending false) (board_text false)) (move_text_by (λ t m. man_move false m))
+    ∷ played Byte (chess_rules true) (position_text_by (ending true) (board_text true)) (move_text_by (λ t m. man_move true m))
     ∷ []
 
 -- the property holds for the game with this number, if there is one

@@ -51,6 +51,6 @@ abbrev pub IsTrueTier : Rules → Width → ℕ → List ℕ → Type 0
 IsTrueTier r width tier bytes = (length bytes ≡ room r width tier) × IsTrueTable r REMOTENESS tier (records_of width bytes)
 
 -- the bytes stand for the records of the true tables of these tiers, one tier after another
-abbrev pub AreTrue : Rules → Width → List ℕ → List ℕ → Type 0
-AreTrue r width [] bytes = bytes ≡ []
-AreTrue r width (t ∷ ts) bytes = IsTrueTier r width t (take (room r width t) bytes) × AreTrue r width ts (drop (room r width t) bytes)
+abbrev pub AreTrueTiers : Rules → Width → List ℕ → List ℕ → Type 0
+AreTrueTiers r width [] bytes = bytes ≡ []
+AreTrueTiers r width (t ∷ ts) bytes = IsTrueTier r width t (take (room r width t) bytes) × AreTrueTiers r width ts (drop (room r width t) bytes)

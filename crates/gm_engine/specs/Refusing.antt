@@ -14,7 +14,7 @@ use Rattle.gm_tiers.specs.Search.{search_of}
 use Rattle.gm_tiers.specs.declared.tier_error.TierError.{TierError}
 use Rattle.gm_play.specs.Places.{IsAt}
 use Rattle.gm_json.specs.Asking.{AreAnswers, lines_of}
-use Rattle.gm_engine.specs.Records.{IsTrueTier, AreTrue, room, farthest}
+use Rattle.gm_engine.specs.Records.{IsTrueTier, AreTrueTiers, room, farthest}
 use Rattle.gm_engine.specs.declared.width.Width.{Width}
 use Rattle.gm_engine.specs.Saying.{Says}
 use Rattle.gm_engine.specs.declared.refusal.Refusal.{Refusal}
@@ -37,9 +37,9 @@ abbrev pub HaveTables : List TableData → List ℕ → Type 0
 HaveTables entries tiers = (tier : ℕ) → Contains tiers tier → IsHeld entries tier
 
 -- this number of items is refused if there is less room
-abbrev pub IsUnwritten : ℕ → ℕ → Refusal → Type 0
-IsUnwritten number room Room = room < number
-IsUnwritten number room _ = ⊥
+abbrev pub IsRoomRefusal : ℕ → ℕ → Refusal → Type 0
+IsRoomRefusal number room Room = room < number
+IsRoomRefusal number room _ = ⊥
 
 -- the tiers of the game have no order: the search for them finds too many, or one that is too large
 abbrev pub IsUnordered : Rules → Refusal → Type 0
@@ -63,7 +63,7 @@ IsTierUnchecked r width entries tier bytes _ = ⊥
 abbrev pub IsUnchecked : Rules → Width → List ℕ → List ℕ → Refusal → Type 0
 IsUnchecked r width tiers bytes Memory = Unit {0}
 IsUnchecked r width tiers bytes Order = AreDisordered r tiers
-IsUnchecked r width tiers bytes Records = AreTrue r width tiers bytes → ⊥
+IsUnchecked r width tiers bytes Records = AreTrueTiers r width tiers bytes → ⊥
 IsUnchecked r width tiers bytes _ = ⊥
 
 -- true records are never refused as records, and the order of their tiers only if it is wrong
@@ -108,19 +108,20 @@ IsUnsolvedGame r width places bytes Room = (tiers : List ℕ) × IsTierOrder r t
 IsUnsolvedGame r width places bytes e = IsUnordered r e
 
 -- the reasons why lines have no answers: the tier of a legal position has no table
-abbrev pub IsUnread : Rules → List TableData → Refusal → Type 0
-IsUnread r entries Memory = Unit {0}
-IsUnread r entries NotSolved = (p : Position) × (r.is_legal p ≡ true) × (IsHeld entries p.tier → ⊥)
-IsUnread r entries _ = ⊥
+abbrev pub IsNotHeldRefusal : Rules → List TableData → Refusal → Type 0
+IsNotHeldRefusal r entries Memory = Unit {0}
+IsNotHeldRefusal r entries NotSolved = (p : Position) × (r.is_legal p ≡ true) × (IsHeld entries p.tier → ⊥)
+IsNotHeldRefusal r entries _ = ⊥
 
 -- lines are refused only if the order of the tiers is wrong, if a legal position is of none of them, or if the answers take more room
-abbrev pub IsUnanswered : Rules → (Position → List ℕ) → (Position → ℕ → List ℕ) → ℕ → List ℕ → List ℕ → ℕ → Refusal → Type 0
-IsUnanswered r shown move_shown bits tiers lines room Memory = Unit {0}
-IsUnanswered r shown move_shown bits tiers lines room Order = AreDisordered r tiers
-IsUnanswered r shown move_shown bits tiers lines room NotSolved = (p : Position) × (r.is_legal p ≡ true) × (Contains tiers p.tier → ⊥)
-IsUnanswered r shown move_shown bits tiers lines room Room = (answers : List ℕ) × AreAnswers (Says r shown move_shown bits tiers) 1 (lines_of lines) answers ×
+abbrev pub AreLinesRefused : Rules → (Position → List ℕ) → (Position → ℕ → List ℕ) → ℕ → List ℕ → List ℕ → ℕ → Refusal → Type 0
+AreLinesRefused r shown move_shown bits tiers lines room Memory = Unit {0}
+AreLinesRefused r shown move_shown bits tiers lines room Order = AreDisordered r tiers
+AreLinesRefused r shown move_shown bits tiers lines room NotSolved = (p : Position) × (r.is_legal p ≡ true) × (Contains tiers p.tier → ⊥)
+AreLinesRefused r shown move_shown bits tiers lines room Room = (answers : List ℕ) × AreAnswers (Says r shown move_shown bits tiers) 1 (lines_of lines) answers
+    ×
     (room < length answers)
-IsUnanswered r shown move_shown bits tiers lines room _ = ⊥
+AreLinesRefused r shown move_shown bits tiers lines room _ = ⊥
 
 -- no canonical position has this index of the tier, or there is not enough room for its text
 abbrev pub IsUnshown : Rules → (Position → List ℕ) → ℕ → ℕ → ℕ → Refusal → Type 0

@@ -6,9 +6,9 @@ use Rattle.gm_tiers.specs.Orders.{IsTierOrder}
 use Rattle.gm_play.specs.Places.{IsAt}
 use Rattle.gm_json.specs.Asking.{AreAnswers, lines_of}
 use Rattle.gm_engine.specs.Games.{PlayedGame}
-use Rattle.gm_engine.specs.Records.{IsTrueTier, AreTrue, bytes_of}
+use Rattle.gm_engine.specs.Records.{IsTrueTier, AreTrueTiers, bytes_of}
 use Rattle.gm_engine.specs.Saying.{Says}
-use Rattle.gm_engine.specs.Refusing.{IsUnlisted, IsUnchecked, IsUnsolved, IsUnsolvedGame, IsUnanswered, IsUnshown}
+use Rattle.gm_engine.specs.Refusing.{IsUnlisted, IsUnchecked, IsUnsolved, IsUnsolvedGame, AreLinesRefused, IsUnshown}
 use Rattle.gm_engine.specs.declared.request.Request.{Request}
 use Rattle.gm_engine.specs.declared.request.Request.TheVariants.{Width, Size, Order as Tiers, Game, Tier, Check, Lines, Text}
 use Rattle.gm_engine.specs.declared.refusal.Refusal.{Refusal}
@@ -19,18 +19,18 @@ abbrev pub refused : ℕ
 refused = 18446744073709551360
 
 -- the numbers of the refusals
-abbrev pub number_of : Refusal → ℕ
-number_of Memory = 1
-number_of Order = 2
-number_of Records = 3
-number_of TooFar = 4
-number_of Room = 5
-number_of NoPosition = 6
-number_of NotSolved = 7
+abbrev pub refusal_number : Refusal → ℕ
+refusal_number Memory = 1
+refusal_number Order = 2
+refusal_number Records = 3
+refusal_number TooFar = 4
+refusal_number Room = 5
+refusal_number NoPosition = 6
+refusal_number NotSolved = 7
 
 -- the answer is a number with the first property, or a refusal for a reason with the second
 abbrev pub Replies : (ℕ → Type 0) → (Refusal → Type 0) → ℕ → Type 0
-Replies Holds Refuses result = ((result < refused) × Holds result) ⊎ ((e : Refusal) × (result ≡ refused + number_of e) × Refuses e)
+Replies Holds Refuses result = ((result < refused) × Holds result) ⊎ ((e : Refusal) × (result ≡ refused + refusal_number e) × Refuses e)
 
 -- the first n numbers, for the answer n, are the tiers of the game, child tiers first
 abbrev pub IsOrder : PlayedGame → List ℕ → List ℕ → ℕ → Type 0
@@ -38,7 +38,7 @@ IsOrder g before after = Replies (λ n. IsTierOrder g.rules (take n after)) (IsU
 
 -- the first n numbers, for the answer n, are the tiers of the game, child tiers first, and the bytes are their true records
 abbrev pub IsSolvedGame : PlayedGame → List ℕ → List ℕ → List ℕ → List ℕ → ℕ → Type 0
-IsSolvedGame g places room order out = Replies (λ n. IsTierOrder g.rules (take n order) × AreTrue g.rules g.width (take n order) out)
+IsSolvedGame g places room order out = Replies (λ n. IsTierOrder g.rules (take n order) × AreTrueTiers g.rules g.width (take n order) out)
     (IsUnsolvedGame g.rules g.width (length places) (length room))
 
 -- the bytes are the true records of the tier, and the answer is the number of its deliveries
@@ -48,12 +48,12 @@ IsSolved g solved tier before after = Replies (λ n. IsTrueTier g.rules g.width 
 
 -- the bytes are the true records of the tiers
 abbrev pub IsChecked : PlayedGame → List ℕ → List ℕ → ℕ → Type 0
-IsChecked g tiers records = Replies (λ n. (n ≡ 0) × AreTrue g.rules g.width tiers records) (IsUnchecked g.rules g.width tiers records)
+IsChecked g tiers records = Replies (λ n. (n ≡ 0) × AreTrueTiers g.rules g.width tiers records) (IsUnchecked g.rules g.width tiers records)
 
 -- the first n bytes, for the answer n, are the answers to the lines
-abbrev pub IsAnswered : PlayedGame → ℕ → List ℕ → List ℕ → List ℕ → List ℕ → ℕ → Type 0
-IsAnswered g bits tiers lines before after = Replies (λ n. AreAnswers (Says g.rules g.shown g.move_shown bits tiers) 1 (lines_of lines) (take n after))
-    (IsUnanswered g.rules g.shown g.move_shown bits tiers lines (length before))
+abbrev pub IsAskAnswered : PlayedGame → ℕ → List ℕ → List ℕ → List ℕ → List ℕ → ℕ → Type 0
+IsAskAnswered g bits tiers lines before after = Replies (λ n. AreAnswers (Says g.rules g.shown g.move_shown bits tiers) 1 (lines_of lines) (take n after))
+    (AreLinesRefused g.rules g.shown g.move_shown bits tiers lines (length before))
 
 -- the first n bytes, for the answer n, are the text of the canonical position with this index of the tier
 abbrev pub IsText : PlayedGame → ℕ → ℕ → List ℕ → List ℕ → ℕ → Type 0
@@ -66,9 +66,9 @@ AreGiven g Width = ⊤
 AreGiven g (Size tier) = ⊤
 AreGiven g (Tiers alloc) = ⊤
 AreGiven g (Game alloc) = ⊤
-AreGiven g (Tier alloc solved records tier) = AreTrue g.rules g.width solved.now records.now
+AreGiven g (Tier alloc solved records tier) = AreTrueTiers g.rules g.width solved.now records.now
 AreGiven g (Check alloc tiers records) = ⊤
-AreGiven g (Lines alloc solved records asked lines) = AreTrue g.rules g.width solved.now records.now
+AreGiven g (Lines alloc solved records asked lines) = AreTrueTiers g.rules g.width solved.now records.now
 AreGiven g (Text tier index) = ⊤
 
 -- this is the reply to a request, with the tiers and the bytes before and after
@@ -79,5 +79,5 @@ IsReply g (Tiers alloc) places order room out result = IsOrder g places order re
 IsReply g (Game alloc) places order room out result = IsSolvedGame g places room order out result
 IsReply g (Tier alloc solved records tier) places order room out result = IsSolved g solved.now tier room out result
 IsReply g (Check alloc tiers records) places order room out result = IsChecked g tiers.now records.now result
-IsReply g (Lines alloc solved records asked lines) places order room out result = IsAnswered g asked solved.now lines.now room out result
+IsReply g (Lines alloc solved records asked lines) places order room out result = IsAskAnswered g asked solved.now lines.now room out result
 IsReply g (Text tier index) places order room out result = IsText g tier index room out result

@@ -8,9 +8,9 @@ ghost use Rattle.gm_game.specs.declared.position.Position.{Position as PositionS
 ghost use Rattle.gm_play.specs.Reached.{AreClosed};
 ghost use Rattle.gm_play.specs.Places.{IsAt};
 ghost use Rattle.gm_json.specs.Asking.{AreAnswers, lines_of};
-ghost use Rattle.gm_engine.specs.Records.{IsTrueTier, AreTrue, room};
+ghost use Rattle.gm_engine.specs.Records.{IsTrueTier, AreTrueTiers, room};
 ghost use Rattle.gm_engine.specs.Saying.{Says, asked_of};
-ghost use Rattle.gm_engine.specs.Refusing.{IsNotNext, HaveTables, AreDisordered, IsUnordered, IsUnlisted, IsUnchecked, IsTierUnchecked, IsUnheld, IsUnread, IsTierUnsolved, IsUnsolved, AreUnsolved, IsUnsolvedGame, IsUnanswered, IsUnwritten, IsUnshown};
+ghost use Rattle.gm_engine.specs.Refusing.{IsNotNext, HaveTables, AreDisordered, IsUnordered, IsUnlisted, IsUnchecked, IsTierUnchecked, IsUnheld, IsNotHeldRefusal, IsTierUnsolved, IsUnsolved, AreUnsolved, IsUnsolvedGame, AreLinesRefused, IsRoomRefusal, IsUnshown};
 
 use crate::bytes::{add, list, pack};
 use crate::refusal::Refusal;
@@ -62,7 +62,7 @@ fn order_of<G: Game>(alloc: Global) -> Result<TierOrder<G>, Refusal>
 fn put_tiers(tiers: &[u64], out: &mut [u64]) -> Result<usize, Refusal>
     ensures few { IfOk result (λ n. n < 2 ^ 63) }
     ensures same { IfOk result (λ n. take n out.new ≡ tiers.now) }
-    ensures refused { IfErr result (IsUnwritten (length tiers.now) (length out.old)) }
+    ensures refused { IfErr result (IsRoomRefusal (length tiers.now) (length out.old)) }
 {
     let number = tiers.len();
     if number > out.len() {
@@ -144,7 +144,7 @@ pub fn check_tiers<G: Game>(
     tiers: &[u64],
     records: &[u8],
 ) -> Result<(), Refusal>
-    ensures known { OnOk result (AreTrue G.rules width tiers.now records.now) }
+    ensures known { OnOk result (AreTrueTiers G.rules width tiers.now records.now) }
     ensures refused { IfErr result (IsUnchecked G.rules width tiers.now records.now) }
 {
     let mut tables: Tables<G> = Tables::new(alloc);
@@ -194,7 +194,7 @@ fn hold_all<G: Game>(
     records: &[u8],
 ) -> Result<(), Refusal>
     requires closed { AreClosed G.rules tables.old }
-    requires known { AreTrue G.rules width tiers.now records.now }
+    requires known { AreTrueTiers G.rules width tiers.now records.now }
     ensures closed { OnOk result (AreClosed G.rules tables.new) }
     ensures held { OnOk result (HaveTables tables.new tiers.now) }
     ensures refused { IfErr result (IsUnheld (AreDisordered G.rules tiers.now)) }
@@ -243,7 +243,7 @@ pub fn solve_next<G: Game>(
     tier: u64,
     out: &mut [u8],
 ) -> Result<u64, Refusal>
-    requires known { AreTrue G.rules width solved.now records.now }
+    requires known { AreTrueTiers G.rules width solved.now records.now }
     ensures few { IfOk result (λ n. n < 2 ^ 63) }
     ensures known { OnOk result (IsTrueTier G.rules width tier out.new) }
     ensures deliveries { IfOk result (AreDeliveries G.rules tier) }
@@ -284,7 +284,8 @@ fn solve_and_hold<G: Game>(
     requires closed { AreClosed G.rules tables.old }
     ensures closed { OnOk result (AreClosed G.rules tables.new) }
     ensures held { OnOk result ((t : ℕ) → IsHeld tables.old t ⊎ (tier ≡ t) → IsHeld tables.new t) }
-    ensures known { (tiers : List ℕ) → AreTrue G.rules width tiers bytes.old.items → OnOk result (AreTrue G.rules width (tiers ++ tier ∷ []) bytes.new.items) }
+    ensures known { (tiers : List ℕ) → AreTrueTiers G.rules width tiers bytes.old.items → OnOk result
+        (AreTrueTiers G.rules width (tiers ++ tier ∷ []) bytes.new.items) }
     ensures refused { IfErr result (IsTierUnsolved G.rules width tables.old tier) }
 {
     let (table, _deliveries) = solve(alloc, width, tables, tier)?;
@@ -301,7 +302,7 @@ pub fn solve_game<G: Game>(
 ) -> Result<usize, Refusal>
     ensures few { IfOk result (λ n. n < 2 ^ 63) }
     ensures order { IfOk result (λ n. IsTierOrder G.rules (take n order.new)) }
-    ensures known { IfOk result (λ n. AreTrue G.rules width (take n order.new) out.new) }
+    ensures known { IfOk result (λ n. AreTrueTiers G.rules width (take n order.new) out.new) }
     ensures refused { IfErr result (IsUnsolvedGame G.rules width (length order.old) (length out.old)) }
 {
     let tiers = order_of::<G>(alloc)?;
@@ -314,7 +315,7 @@ pub fn solve_game<G: Game>(
 fn solve_tiers<G: Game>(alloc: Global, width: Width, tiers: &[u64]) -> Result<Vec<u8>, Refusal>
     requires small { (t : ℕ) → Contains tiers.now t → G.rules.tier_size t ≤ TIER_SIZE }
     requires children_first { ComeChildrenFirst G.rules tiers.now }
-    ensures known { IfOk result (λ bytes. AreTrue G.rules width tiers.now bytes.items) }
+    ensures known { IfOk result (λ bytes. AreTrueTiers G.rules width tiers.now bytes.items) }
     ensures refused { IfErr result (AreUnsolved G.rules width tiers.now) }
 {
     let mut tables: Tables<G> = Tables::new(alloc);
@@ -335,10 +336,10 @@ pub fn ask_lines<G: Shown>(
     lines: &[u8],
     out: &mut [u8],
 ) -> Result<usize, Refusal>
-    requires known { AreTrue G.Game.rules width solved.now records.now }
+    requires known { AreTrueTiers G.Game.rules width solved.now records.now }
     ensures few { IfOk result (λ n. n < 2 ^ 63) }
     ensures answers { IfOk result (λ n. AreAnswers (Says G.Game.rules G.shown G.move_shown asked solved.now) 1 (lines_of lines.now) (take n out.new)) }
-    ensures refused { IfErr result (IsUnanswered G.Game.rules G.shown G.move_shown asked solved.now lines.now (length out.old)) }
+    ensures refused { IfErr result (AreLinesRefused G.Game.rules G.shown G.move_shown asked solved.now lines.now (length out.old)) }
 {
     let mut tables: Tables<G> = Tables::new(alloc);
     hold_all(alloc, width, &mut tables, solved, records)?;
@@ -377,7 +378,7 @@ fn answers<G: Shown>(
     lines: &[u8],
 ) -> Result<Vec<u8>, Refusal>
     ensures answers { IfOk result (λ v. AreAnswers (Says G.Game.rules G.shown G.move_shown asked tiers.now) 1 (lines_of lines.now) v.items) }
-    ensures refused { IfErr result (IsUnread G.Game.rules closed.now.tables.now) }
+    ensures refused { IfErr result (IsNotHeldRefusal G.Game.rules closed.now.tables.now) }
 {
     let mut source = lines;
     let mut out: Vec<u8> = Vec::new(alloc);

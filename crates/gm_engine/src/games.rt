@@ -1,8 +1,8 @@
 //! The replies for the game with a number. Each game has a line in `reply_of` and one in specs/Games.antt.
 ghost use Rattle.std.specs.Prelude.{◌≡◌};
 ghost use Rattle.gm_engine.specs.Games.{IsFor, IsNoGame};
-ghost use Rattle.gm_engine.specs.Records.{AreTrue, bytes_of};
-ghost use Rattle.gm_engine.specs.Replies.{AreGiven, IsReply, IsAnswered, IsText, IsOrder, IsSolved, IsSolvedGame, IsChecked, refused};
+ghost use Rattle.gm_engine.specs.Records.{AreTrueTiers, bytes_of};
+ghost use Rattle.gm_engine.specs.Replies.{AreGiven, IsReply, IsAskAnswered, IsText, IsOrder, IsSolved, IsSolvedGame, IsChecked, refused};
 
 use crate::replies::{REFUSED, reply};
 use crate::request::Request;
@@ -98,7 +98,7 @@ pub fn solve(
     tier: u64,
     out: &mut [u8],
 ) -> u64
-    requires known { IsFor game (λ g. AreTrue g.rules g.width solved.now records.now) }
+    requires known { IsFor game (λ g. AreTrueTiers g.rules g.width solved.now records.now) }
     ensures solved { IsFor game (λ g. IsSolved g solved.now tier out.old out.new result) }
     ensures none { IsNoGame game → result ≡ refused }
 {
@@ -135,8 +135,8 @@ pub fn ask(
     lines: &[u8],
     out: &mut [u8],
 ) -> u64
-    requires known { IsFor game (λ g. AreTrue g.rules g.width solved.now records.now) }
-    ensures answered { IsFor game (λ g. IsAnswered g asked solved.now lines.now out.old out.new result) }
+    requires known { IsFor game (λ g. AreTrueTiers g.rules g.width solved.now records.now) }
+    ensures answered { IsFor game (λ g. IsAskAnswered g asked solved.now lines.now out.old out.new result) }
     ensures none { IsNoGame game → result ≡ refused }
 {
     let request = Request::Lines {

@@ -1,6 +1,6 @@
 //! Reasons for refusals.
 ghost use Rattle.std.specs.Prelude.{◌≡◌};
-ghost use Rattle.gm_engine.specs.Replies.{number_of};
+ghost use Rattle.gm_engine.specs.Replies.{refusal_number};
 
 /// The reason why there is no answer.
 #[derive(Clone, Copy, Debug, PartialEq, Eq)]
@@ -24,7 +24,7 @@ pub enum Refusal {
 impl Refusal {
     /// Returns the number of the refusal.
     pub fn number(&self) -> u32
-        ensures { result ≡ number_of self.now }
+        ensures { result ≡ refusal_number self.now }
     {
         match self {
             Refusal::Memory => 1,

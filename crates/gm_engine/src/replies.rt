@@ -1,8 +1,8 @@
 //! The answers of the exports, for any game: a number, or a refusal with its reason.
 ghost use Rattle.std.specs.Prelude.{◌≡◌, ◌+◌, ◌<◌, ◌^◌, IfOk, IfErr, OnOk};
 ghost use Rattle.gm_engine.specs.Games.{played};
-ghost use Rattle.gm_engine.specs.Records.{AreTrue};
-ghost use Rattle.gm_engine.specs.Replies.{AreGiven, IsReply, IsAnswered, number_of, refused};
+ghost use Rattle.gm_engine.specs.Records.{AreTrueTiers};
+ghost use Rattle.gm_engine.specs.Replies.{AreGiven, IsReply, IsAskAnswered, refusal_number, refused};
 
 use crate::engine::{ask_lines, check_tiers, put_order, put_text, solve_game, solve_next};
 use crate::refusal::Refusal;
@@ -18,7 +18,7 @@ pub const REFUSED: u64 = 0xffff_ffff_ffff_ff00;
 // Returns the number, or that of the refusal.
 fn number_or(done: Result<u64, Refusal>) -> u64
     ensures ok { IfOk done (λ n. result ≡ n) }
-    ensures refused { IfErr done (λ e. result ≡ refused + number_of e) }
+    ensures refused { IfErr done (λ e. result ≡ refused + refusal_number e) }
 {
     match done {
         Ok(number) => number,
@@ -29,7 +29,7 @@ fn number_or(done: Result<u64, Refusal>) -> u64
 // Returns the count, or the number of the refusal.
 fn count_or(done: Result<usize, Refusal>) -> u64
     ensures ok { IfOk done (λ n. result ≡ n) }
-    ensures refused { IfErr done (λ e. result ≡ refused + number_of e) }
+    ensures refused { IfErr done (λ e. result ≡ refused + refusal_number e) }
 {
     match done {
         Ok(count) => count as u64,
@@ -40,7 +40,7 @@ fn count_or(done: Result<usize, Refusal>) -> u64
 // Returns 0, or the number of the refusal.
 fn status_of(done: Result<(), Refusal>) -> u64
     ensures ok { OnOk done (result ≡ 0) }
-    ensures refused { IfErr done (λ e. result ≡ refused + number_of e) }
+    ensures refused { IfErr done (λ e. result ≡ refused + refusal_number e) }
 {
     match done {
         Ok(()) => 0,
@@ -58,8 +58,8 @@ fn lines_reply<G: Shown>(
     lines: &[u8],
     out: &mut [u8],
 ) -> u64
-    requires { AreTrue G.Game.rules width solved.now records.now }
-    ensures { IsAnswered (played width G.Game.rules G.shown G.move_shown) asked solved.now lines.now out.old out.new result }
+    requires { AreTrueTiers G.Game.rules width solved.now records.now }
+    ensures { IsAskAnswered (played width G.Game.rules G.shown G.move_shown) asked solved.now lines.now out.old out.new result }
 {
     count_or(ask_lines::<G>(alloc, width, solved, records, asked, lines, out))
 }

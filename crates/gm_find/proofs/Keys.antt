@@ -1,6 +1,9 @@
 -- Pairs of numbers in a set.
-use Rattle.gm_find.proofs.Lower.{◌≡◌, ℕ, Bool, true, nat_eq, List, refl, sym, ap, ◌∙◌, subst, eqb-true, eq-eqb, Contains, ◌&&◌, list_any, and_parts, and_from}
-use Rattle.gm_find.proofs.Lower.{any_in, any_from}
+use Rattle.gm_find.proofs.Lower.{◌≡◌, ℕ, Bool, true, List, refl, sym, ap, ◌∙◌, subst, eqb-true, Contains}
+use Rattle.std.proofs.Common.{nat_eq, eq-eqb, ◌&&◌}
+use Rattle.std.specs.List.{list_any}
+use Rattle.std.proofs.lemmas.Bool.{and_parts, and_from}
+use Rattle.gm_game.proofs.Lists.{any_in, any_from}
 
 -- the test of a key
 abbrev pub is_key : ℕ → ℕ → ℕ × ℕ → Bool

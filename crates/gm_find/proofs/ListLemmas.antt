@@ -1,7 +1,10 @@
 -- The elements of a list that have a property, with one element or list more.
-use Rattle.gm_find.proofs.Lower.{◌≡◌, ℕ, zero, suc, ◌<◌, ◌≤◌, ◌+◌, ◌-◌, inl, inr, List, [], ◌∷◌, ◌++◌, map, take, length, refl, sym, ap, ◌∙◌, subst, arith}
-use Rattle.gm_find.proofs.Lower.{length-append, Contains, range_with_len, IsAscending, contains_none, contains_first, contains_later, contains_cases, AreThose}
-use Rattle.gm_find.proofs.Lower.{Adds, IsFirst, append-nil, append_assoc, cases_lt, ascending_above, ascending_rest}
+use Rattle.gm_find.proofs.Lower.{◌≡◌, ℕ, zero, suc, ◌<◌, ◌+◌, ◌-◌, inl, inr, List, [], ◌∷◌, ◌++◌, map, take, length, refl, sym, ap, ◌∙◌, subst, arith, length-append, Contains, range_with_len, contains_none, contains_first, contains_later, contains_cases, AreThose, Adds, IsFirst}
+use Rattle.std.proofs.Common.{◌≤◌, append_assoc}
+use Rattle.gm_game.specs.Rules.{IsAscending}
+use Rattle.std.proofs.lemmas.List.{append-nil}
+use Rattle.std.proofs.lemmas.Bool.{cases_lt}
+use Rattle.gm_play.proofs.Wanted.{ascending_above, ascending_rest}
 
 module _ {A : Type 0} (P : A → Type 0) where
   -- one element more, which has the property or not

@@ -1,8 +1,22 @@
 -- What is known of sought positions.
-use Rattle.gm_find.proofs.Lower.{◌≡◌, ℕ, suc, ◌↔◌, inl, inr, eqb-true, Bool, true, false, List, ◌∷◌, [], length, refl, sym, ap, ◌∙◌, subst, arith, Option, None}
-use Rattle.gm_find.proofs.Lower.{Some, Contains, Position, Solved, Value, Win, IsGame, Rules, at, IsAscending, HasValue, IsTrueValue, HasValue_once, TableData}
-use Rattle.gm_find.proofs.Lower.{Aim, Keep, WinIn, Sought, AreThose, IsMatch, Achieves, ◌==◌, if◌then◌else◌, same_Some, Phase, WinLose, Ties, Lose, Draw, Tie}
-use Rattle.gm_find.proofs.Lower.{StandsAt, IsCanonical, IsHeld, Span, IsAskedFor, IsValueOf, level_of, place_for, kept_by, IsAchievedBy, HasOnlyMove}
+use Rattle.gm_find.proofs.Lower.{◌≡◌, ℕ, suc, ◌↔◌, inl, inr, eqb-true, Bool, true, List, ◌∷◌, [], length, refl, sym, ap, ◌∙◌, subst, arith, Contains, Position, Win, Rules, at, HasValue, IsTrueValue, AreThose, IsMatch, Achieves}
+use Rattle.std.proofs.Common.{false, Option, None, Some, ◌==◌, if◌then◌else◌}
+use Rattle.gm_game.specs.declared.position.Solved.{Solved}
+use Rattle.gm_game.specs.declared.position.Value.{Value}
+use Rattle.gm_game.specs.Laws.{IsGame}
+use Rattle.gm_game.specs.Rules.{IsAscending, IsCanonical}
+use Rattle.gm_game.proofs.Basic.{HasValue_once}
+use Rattle.gm_table.specs.Tables.{TableData, IsHeld}
+use Rattle.gm_find.specs.declared.only.Aim.{Aim}
+use Rattle.gm_find.specs.declared.only.Aim.TheVariants.{Keep, WinIn}
+use Rattle.gm_find.specs.declared.sought.Sought.{Sought}
+use Rattle.std.proofs.lemmas.Option.{same_Some}
+use Rattle.gm_game.specs.declared.position.Phase.{Phase}
+use Rattle.gm_game.specs.declared.position.Phase.TheVariants.{WinLose, Ties}
+use Rattle.gm_game.specs.declared.position.Value.TheVariants.{Lose, Draw, Tie}
+use Rattle.gm_game.specs.Places.{StandsAt}
+use Rattle.gm_find.specs.declared.sought.Span.{Span}
+use Rattle.gm_find.specs.Finding.{IsAskedFor, IsValueOf, level_of, place_for, kept_by, IsAchievedBy, HasOnlyMove}
 use Rattle.gm_play.specs.BestMoves.{wanted_from}
 use Rattle.gm_find.proofs.ListLemmas.{those_once, IsRun}
 

@@ -1,8 +1,14 @@
 -- Moves that achieve an aim, up to symmetry, and wins in which there is one at each turn.
-use Rattle.gm_find.proofs.Lower.{◌≡◌, ℕ, zero, suc, ◌<◌, ◌+◌, ◌-◌, ◌↔◌, ◌⊎◌, inl, inr, Bool, IsTrue, List, [], ◌∷◌, ◌++◌, take, get_or, length, refl, sym, ◌∙◌}
-use Rattle.gm_find.proofs.Lower.{subst, arith, Option, None, Some, Contains, is_some, take_more, Contains-push_cases, Contains-append_left, Contains-push}
-use Rattle.gm_find.proofs.Lower.{Position, Solved, Value, Win, Lose, Draw, Tie, Rules, HasValue, IsTrueValue, HasValue_once, Aim, Keep, Achieves, HasOnly}
-use Rattle.gm_find.proofs.Lower.{IsOnlyWin, IsOnlyAfter, IsOnlyLine, AgreesWith, HasOnlyResult}
+use Rattle.gm_find.proofs.Lower.{◌≡◌, ℕ, zero, suc, ◌<◌, ◌+◌, ◌-◌, ◌↔◌, inl, inr, Bool, List, [], ◌∷◌, ◌++◌, take, get_or, length, refl, sym, ◌∙◌, subst, arith, Contains, is_some, take_more, Contains-append_left, Position, Win, Rules, HasValue, IsTrueValue, Achieves, IsOnlyAfter}
+use Rattle.std.proofs.Common.{◌⊎◌, IsTrue, Option, None, Some}
+use Rattle.std.proofs.lemmas.List.Elements.{Contains-push_cases, Contains-push}
+use Rattle.gm_game.specs.declared.position.Solved.{Solved}
+use Rattle.gm_game.specs.declared.position.Value.{Value}
+use Rattle.gm_game.specs.declared.position.Value.TheVariants.{Lose, Draw, Tie}
+use Rattle.gm_game.proofs.Basic.{HasValue_once}
+use Rattle.gm_find.specs.declared.only.Aim.{Aim}
+use Rattle.gm_find.specs.declared.only.Aim.TheVariants.{Keep}
+use Rattle.gm_find.specs.Finding.{HasOnly, IsOnlyWin, IsOnlyLine, AgreesWith, HasOnlyResult}
 
 -- c is the canonical position of the result of one of these moves that achieves the aim
 abbrev pub IsAchievedAmong : Rules → Aim → Position → List ℕ → Position → Type 0

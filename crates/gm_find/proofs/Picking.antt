@@ -1,6 +1,6 @@
 -- Elements that are picked out of a list, with one element more.
-use Rattle.gm_find.proofs.Lower.{inl, inr, List, get_or, [], ◌∷◌, ◌++◌, refl, ap, subst, All, Contains, Contains-get_or, contains_none, contains_first}
-use Rattle.gm_find.proofs.Lower.{contains_later, contains_cases, ArePicked}
+use Rattle.gm_find.proofs.Lower.{inl, inr, List, get_or, [], ◌∷◌, ◌++◌, refl, ap, subst, All, Contains, Contains-get_or, contains_none, contains_first, contains_later, contains_cases}
+use Rattle.gm_find.specs.Samples.{ArePicked}
 
 module _ {A : Type 0} where
   pub picked_skip : (xs ys : List A) (x : A) → ArePicked xs ys → ArePicked (xs ++ x ∷ []) ys

@@ -1,8 +1,15 @@
 -- What a search for reached positions keeps.
-use Rattle.gm_find.proofs.Lower.{◌≡◌, ℕ, ◌⊎◌, inl, inr, true, List, [], ◌∷◌, ◌++◌, length, refl, sym, ap, ◌∙◌, subst, arith, Contains, ◌↔◌}
-use Rattle.gm_find.proofs.Lower.{Contains-append_left, Contains-push_cases, Contains-push, Position, IsGame, Rules, map_from, map_in, contains_none}
-use Rattle.gm_find.proofs.Lower.{contains_cases, contains_first, contains_later, at, IsSearched, key_of, IsPermutation, Contains-permutation, IsPermutation-sym}
-use Rattle.gm_find.proofs.Lower.{children, IsCanonicalChild, position_after, after_push, IsPlay, IsReachedByPlay, AreReached}
+use Rattle.gm_find.proofs.Lower.{◌≡◌, ℕ, inl, inr, true, List, [], ◌∷◌, ◌++◌, length, refl, sym, ap, ◌∙◌, subst, arith, Contains, ◌↔◌, Contains-append_left, Position, Rules, contains_none, contains_cases, contains_first, contains_later, at, IsSearched}
+use Rattle.std.proofs.Common.{◌⊎◌}
+use Rattle.std.proofs.lemmas.List.Elements.{Contains-push_cases, Contains-push}
+use Rattle.gm_game.specs.Laws.{IsGame}
+use Rattle.gm_game.proofs.Lists.{map_from, map_in}
+use Rattle.gm_find.specs.Reaching.{key_of, IsPlay, IsReachedByPlay, AreReachedKeys}
+use Rattle.std.specs.Prelude.{IsPermutation}
+use Rattle.std.proofs.lemmas.List.Sorted.{Contains-permutation, IsPermutation-sym}
+use Rattle.gm_game.specs.Rules.{children, IsCanonicalChild}
+use Rattle.gm_play.specs.Lines.{position_after}
+use Rattle.gm_play.proofs.Walking.{after_push}
 
 -- a line with one move more
 play_more : (r : Rules) (p : Position) (ms : List ℕ) (m : ℕ) → IsPlay r p ms → Contains (r.moves (position_after r p ms)) m → IsPlay r p (ms ++ m ∷ [])
@@ -127,7 +134,7 @@ module _ (r : Rules) (g : IsGame r) (keys : List (ℕ × ℕ)) where
         }
 
   -- all is found once nothing waits
-  pub all_searched : (waiting : List Position) → IsSearched r keys waiting [] → length waiting ≡ 0 → AreReached r keys
+  pub all_searched : (waiting : List Position) → IsSearched r keys waiting [] → length waiting ≡ 0 → AreReachedKeys r keys
   all_searched waiting h l c = (
     λ k. h.sound c (inl k),
     λ (ms, play, e). subst (λ (q : Position). Contains keys (key_of q)) e (reached_after r g keys r.initial ms closed g.initial_legal play

@@ -1,8 +1,15 @@
 -- What is reported of found positions.
-use Rattle.gm_find.proofs.Lower.{◌≡◌, ℕ, zero, suc, inl, inr, Bool, true, List, [], ◌∷◌, map, get_or, ap, subst, All, Contains, range_with_len, Contains-get_or}
-use Rattle.gm_find.proofs.Lower.{Position, Rules, at, contains_none, contains_first, contains_later, contains_cases, map_in, map_from, TableData, Sought}
-use Rattle.gm_find.proofs.Lower.{IsFirst, IsMatch, positions_in, all_positions, IsKnownAt, IsFound, position_of, Result, Ok, Err, IfOk, Contains-append_cases}
-use Rattle.gm_find.proofs.Lower.{All-contains, AreAllHeld, Found, Choice, First, Random, AreChosen}
+use Rattle.gm_find.proofs.Lower.{◌≡◌, ℕ, zero, suc, inl, inr, Bool, true, List, [], ◌∷◌, map, get_or, ap, subst, All, Contains, range_with_len, Contains-get_or, Position, Rules, at, contains_none, contains_first, contains_later, contains_cases, IsFirst, IsMatch, positions_in, all_positions, IsFound, found_position}
+use Rattle.gm_game.proofs.Lists.{map_in, map_from}
+use Rattle.gm_table.specs.Tables.{TableData}
+use Rattle.gm_find.specs.declared.sought.Sought.{Sought}
+use Rattle.gm_find.specs.Founds.{IsKnownAt, AreChosen}
+use Rattle.std.proofs.Common.{Result, Ok, Err, IfOk}
+use Rattle.std.proofs.lemmas.List.Elements.{Contains-append_cases, All-contains}
+use Rattle.gm_play.specs.Reached.{AreAllHeld}
+use Rattle.gm_find.specs.declared.found.Found.{Found}
+use Rattle.gm_find.specs.declared.sought.Choice.{Choice}
+use Rattle.gm_find.specs.declared.sought.Choice.TheVariants.{First, Random}
 use Rattle.gm_find.proofs.Picking.{picked_all}
 
 -- the first of those with a property have it, and are in the list
@@ -40,14 +47,14 @@ pub chosen_in : (r : Rules) (q : Sought) (reached : Bool) (choice : Choice) (tie
 chosen_in r q reached (First n) tiers xs are x has = (
   (All-contains (IsFound r) xs x are.each has).legal,
   tier_in r tiers x.position
-      (first_in (IsMatch r q reached) n (all_positions r tiers) (map position_of xs) are.positions x.position (map_from position_of xs x has)).1,
+      (first_in (IsMatch r q reached) n (all_positions r tiers) (map found_position xs) are.positions x.position (map_from found_position xs x has)).1,
 )
 chosen_in r q reached (Random n seed) tiers xs (all, are, sample, each) x has =
     let P : Position → Type 0 = λ p. Contains tiers p.tier in
     let within : All P all = λ k d inside. tier_in r tiers (get_or all k d)
     (first_in (IsMatch r q reached) _ (all_positions r tiers) all are (get_or all k d) (Contains-get_or all k d inside)).1 in (
       (All-contains (IsFound r) xs x each has).legal,
-      All-contains P (map position_of xs) x.position (picked_all P all (map position_of xs) sample.picked within) (map_from position_of xs x has),
+      All-contains P (map found_position xs) x.position (picked_all P all (map found_position xs) sample.picked within) (map_from found_position xs x has),
     )
 
 -- what holds where two things are reported

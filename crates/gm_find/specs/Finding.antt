@@ -1,7 +1,14 @@
 -- Positions that are sought.
 use Rattle.std.specs.Prelude.{◌≡◌, ℕ, zero, suc, List, [], ◌∷◌, map, length, Bool, true, IsTrue, Option, None, Some, ◌≤◌, ◌==◌, if◌then◌else◌, false}
-use Rattle.gm_find.specs.Lower.{Contains, flat_map, range_with_len, Position, Win, Rules, at, IsTrueValue, Phase, WinLose, Ties, Solved, Value, Lose, Draw, Tie}
-use Rattle.gm_find.specs.Lower.{IsCanonical, HasValue}
+use Rattle.std.specs.List.{Contains, flat_map, range_with_len}
+use Rattle.gm_game.specs.declared.position.Position.{Position}
+use Rattle.gm_game.specs.declared.position.Value.TheVariants.{Win, Lose, Draw, Tie}
+use Rattle.gm_game.specs.Rules.{Rules, at, IsCanonical}
+use Rattle.gm_game.specs.Values.{IsTrueValue, HasValue}
+use Rattle.gm_game.specs.declared.position.Phase.{Phase}
+use Rattle.gm_game.specs.declared.position.Phase.TheVariants.{WinLose, Ties}
+use Rattle.gm_game.specs.declared.position.Solved.{Solved}
+use Rattle.gm_game.specs.declared.position.Value.{Value}
 use Rattle.gm_play.specs.BestMoves.{wanted_from}
 use Rattle.gm_game.specs.Children.{canonical_children_of}
 use Rattle.gm_find.specs.declared.only.Aim.{Aim}

@@ -1,6 +1,12 @@
 -- What is reported of found positions.
 use Rattle.std.specs.Prelude.{◌≡◌, ◌-◌, ℕ, Bool, true, List, map, length, ◌^◌}
-use Rattle.gm_find.specs.Lower.{All, Position, Rules, IsTrueValue, AreAllHeld, IsBestMove, TableData}
+use Rattle.std.specs.List.{All}
+use Rattle.gm_game.specs.declared.position.Position.{Position}
+use Rattle.gm_game.specs.Rules.{Rules}
+use Rattle.gm_game.specs.Values.{IsTrueValue}
+use Rattle.gm_play.specs.Reached.{AreAllHeld}
+use Rattle.gm_play.specs.BestMoves.{IsBestMove}
+use Rattle.gm_table.specs.Tables.{TableData}
 use Rattle.gm_find.specs.declared.found.Found.{Found}
 use Rattle.gm_find.specs.declared.sought.Sought.{Sought}
 use Rattle.gm_find.specs.declared.sought.Choice.{Choice}
@@ -16,12 +22,12 @@ pub record IsFound (r : Rules) (x : Found) : Type 0 where
   pub best : IsBestMove r x.position x.best
   pub moves : x.moves ≡ length (r.moves x.position)
 
-abbrev pub position_of : Found → Position
-position_of x = x.position
+abbrev pub found_position : Found → Position
+found_position x = x.position
 
 -- the first positions that are sought, at most this many, and what is reported of each
 pub record AreFound (r : Rules) (q : Sought) (reached : Bool) (limit : ℕ) (tiers : List ℕ) (xs : List Found) : Type 0 where
-  pub positions : IsFirst (IsMatch r q reached) limit (all_positions r tiers) (map position_of xs)
+  pub positions : IsFirst (IsMatch r q reached) limit (all_positions r tiers) (map found_position xs)
   pub each : All (IsFound r) xs
 
 -- all positions that are sought, as far as a list can be long
@@ -32,7 +38,7 @@ AreAllSought r q reached tiers ps = IsFirst (IsMatch r q reached) (2 ^ 64 - 1) (
 abbrev pub AreChosen : Rules → Sought → Bool → Choice → List ℕ → List Found → Type 0
 AreChosen r q reached (First n) tiers xs = AreFound r q reached n tiers xs
 AreChosen r q reached (Random n seed) tiers xs =
-    (all : List Position) × AreAllSought r q reached tiers all × IsSample n all (map position_of xs) × All (IsFound r) xs
+    (all : List Position) × AreAllSought r q reached tiers all × IsSample n all (map found_position xs) × All (IsFound r) xs
 
 -- a legal position, with tables of every tier that play from it can come to
 abbrev pub IsKnownAt : Rules → List TableData → Position → Type 0

@@ -4,4 +4,3 @@ pub mod Finding
 pub mod Samples
 pub mod Founds
 pub mod Rows
-pub mod Lower

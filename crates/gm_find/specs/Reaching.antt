@@ -1,6 +1,9 @@
 -- The positions that play from the start reaches.
 use Rattle.std.specs.Prelude.{◌≡◌, ℕ, ◌↔◌, ◌⊎◌, List, [], ◌∷◌}
-use Rattle.gm_find.specs.Lower.{Contains, Position, Rules, IsCanonicalChild, position_after}
+use Rattle.std.specs.List.{Contains}
+use Rattle.gm_game.specs.declared.position.Position.{Position}
+use Rattle.gm_game.specs.Rules.{Rules, IsCanonicalChild}
+use Rattle.gm_play.specs.Lines.{position_after}
 
 -- these moves can be played from p one after another
 abbrev pub IsPlay : Rules → Position → List ℕ → Type 0
@@ -16,8 +19,8 @@ abbrev pub key_of : Position → ℕ × ℕ
 key_of p = (p.tier, p.index)
 
 -- these are the keys of exactly the positions that are reached
-abbrev pub AreReached : Rules → List (ℕ × ℕ) → Type 0
-AreReached r keys = (c : Position) → Contains keys (key_of c) ↔ IsReachedByPlay r c
+abbrev pub AreReachedKeys : Rules → List (ℕ × ℕ) → Type 0
+AreReachedKeys r keys = (c : Position) → Contains keys (key_of c) ↔ IsReachedByPlay r c
 
 -- a search in its midst: what is found or left to find is reached, the start among it; and so are the canonical children of all that is found and doesn't wait
 pub record IsSearched (r : Rules) (keys : List (ℕ × ℕ)) (waiting left : List Position) : Type 0 where

@@ -1,14 +1,18 @@
 -- Found positions as rows of text.
 use Rattle.std.specs.Prelude.{◌≡◌, ℕ, Bool, List, [], ◌++◌, Option, None, Some, codes}
-use Rattle.gm_find.specs.Lower.{flat_map, Position, Rules, decimal, text_of}
+use Rattle.std.specs.List.{flat_map}
+use Rattle.gm_game.specs.declared.position.Position.{Position}
+use Rattle.gm_game.specs.Rules.{Rules}
+use Rattle.std.specs.Fmt.{decimal}
+use Rattle.gm_game.specs.Texts.{text_of}
 use Rattle.gm_find.specs.declared.found.Found.{Found}
 use Rattle.gm_find.specs.declared.sought.Sought.{Sought}
 use Rattle.gm_find.specs.declared.sought.Choice.{Choice}
 use Rattle.gm_find.specs.Founds.{AreChosen}
 
 -- four fields of a line
-abbrev pub row : List ℕ → List ℕ → List ℕ → List ℕ → List ℕ
-row a b c d = (a ++ codes "\t") ++ (b ++ codes "\t") ++ (c ++ codes "\t") ++ (d ++ codes "\n")
+abbrev pub row_of_four : List ℕ → List ℕ → List ℕ → List ℕ → List ℕ
+row_of_four a b c d = (a ++ codes "\t") ++ (b ++ codes "\t") ++ (c ++ codes "\t") ++ (d ++ codes "\n")
 
 -- the text of a best move, and none if the game has ended
 abbrev pub best_text : (Position → ℕ → List ℕ) → Position → Option ℕ → List ℕ
@@ -17,7 +21,7 @@ best_text move_shown p (Some m) = move_shown p m
 
 -- a found position: its text, its value, its best move and the number of its moves
 abbrev pub found_row : (Position → List ℕ) → (Position → ℕ → List ℕ) → Found → List ℕ
-found_row shown move_shown x = row (shown x.position) (text_of x.value) (best_text move_shown x.position x.best) (decimal x.moves)
+found_row shown move_shown x = row_of_four (shown x.position) (text_of x.value) (best_text move_shown x.position x.best) (decimal x.moves)
 
 -- the rows of those of the positions that are sought that a choice takes
 abbrev pub IsFoundText : Rules → (Position → List ℕ) → (Position → ℕ → List ℕ) → Sought → Bool → Choice → List ℕ → List ℕ → Type 0

@@ -1,6 +1,6 @@
 //! The positions that are sought, or some of them.
 ghost use Rattle.std.specs.Prelude.{IfOk, is_some};
-ghost use Rattle.gm_find.specs.Lower.{All};
+ghost use Rattle.std.specs.List.{All};
 ghost use Rattle.gm_find.specs.Founds.{IsFound, AreChosen};
 
 use crate::found::{Found, find, look_up};

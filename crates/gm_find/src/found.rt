@@ -1,7 +1,7 @@
 //! Found positions, each with its value, its best move and the number of its moves.
 ghost use Rattle.std.specs.Prelude.{◌≡◌, map, IfOk, is_some};
-ghost use Rattle.gm_find.specs.Lower.{All};
-ghost use Rattle.gm_find.specs.Founds.{IsFound, AreFound, IsKnownAt, position_of};
+ghost use Rattle.std.specs.List.{All};
+ghost use Rattle.gm_find.specs.Founds.{IsFound, AreFound, IsKnownAt, found_position};
 
 use crate::positions::find_positions;
 use crate::reached::Reached;
@@ -46,7 +46,7 @@ pub(crate) fn look_up<G: Game>(
     positions: &[Position],
 ) -> Result<Vec<Found>, AllocError>
     requires { All (IsKnownAt G.rules tables.now) positions.now }
-    ensures positions { IfOk result (λ v. map position_of v.items ≡ positions.now) }
+    ensures positions { IfOk result (λ v. map found_position v.items ≡ positions.now) }
     ensures each { IfOk result (λ v. All (IsFound G.rules) v.items) }
 {
     let mut found = Vec::new(alloc);

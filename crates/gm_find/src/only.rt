@@ -1,6 +1,7 @@
 //! Whether exactly one move of a position achieves an aim.
 ghost use Rattle.std.specs.Prelude.{◌↔◌, ◌≡◌, ℕ, List, true, length, IsTrue};
-ghost use Rattle.gm_find.specs.Lower.{Contains, IsTrueValue};
+ghost use Rattle.std.specs.List.{Contains};
+ghost use Rattle.gm_game.specs.Values.{IsTrueValue};
 ghost use Rattle.gm_find.specs.Lists.{AreThose};
 ghost use Rattle.gm_find.specs.Finding.{Achieves, HasOnlyResult, HasOnly, HasOnlyFastest, HasMoves, AgreesWith, IsAchievedBy};
 

@@ -1,6 +1,8 @@
 //! Wins in which the winner has one move at each turn but the last.
 ghost use Rattle.std.specs.Prelude.{◌≡◌, ◌↔◌, IsTrue};
-ghost use Rattle.gm_find.specs.Lower.{Contains, Win, IsTrueValue};
+ghost use Rattle.std.specs.List.{Contains};
+ghost use Rattle.gm_game.specs.declared.position.Value.TheVariants.{Win};
+ghost use Rattle.gm_game.specs.Values.{IsTrueValue};
 ghost use Rattle.gm_find.specs.Finding.{IsOnlyLine, IsOnlyWin, IsOnlyAfter, IsOnlyDefence, AfterDefence};
 
 use crate::only::{Aim, achieves, has_only};

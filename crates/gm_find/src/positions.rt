@@ -1,6 +1,12 @@
 //! Positions of a value.
 ghost use Rattle.std.specs.Prelude.{◌≡◌, ◌↔◌, true, map, IsTrue, IfOk, OnOk, is_some, Some};
-ghost use Rattle.gm_find.specs.Lower.{Position, at, IsTrueValue, AreAllHeld, REMOTENESS, IsRecord, IsHeld};
+ghost use Rattle.gm_game.specs.declared.position.Position.{Position};
+ghost use Rattle.gm_game.specs.Rules.{at};
+ghost use Rattle.gm_game.specs.Values.{IsTrueValue};
+ghost use Rattle.gm_play.specs.Reached.{AreAllHeld};
+ghost use Rattle.gm_game.specs.declared.limits.TheConstants.{REMOTENESS};
+ghost use Rattle.gm_game.specs.Records.{IsRecord};
+ghost use Rattle.gm_table.specs.Tables.{IsHeld};
 ghost use Rattle.gm_find.specs.Lists.{Adds, IsFirst};
 ghost use Rattle.gm_find.specs.Finding.{IsMatch, positions_in, all_positions, place_for, level_of, IsValueOf, HasFittingMoves};
 

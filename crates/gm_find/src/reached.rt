@@ -1,6 +1,6 @@
 //! The positions that play from the start reaches.
 ghost use Rattle.std.specs.Prelude.{◌↔◌, IsTrue, IfOk, is_some};
-ghost use Rattle.gm_find.specs.Reaching.{IsReachedByPlay, AreReached};
+ghost use Rattle.gm_find.specs.Reaching.{IsReachedByPlay, AreReachedKeys};
 
 use crate::search::search;
 use gm_game::game::Game;
@@ -24,19 +24,19 @@ impl<G: Game> Drop for Reached<G> {
 
 impl<G: Game> Model for Reached<G> {
     ghost use Rattle.std.specs.Prelude.{ℕ, List};
-    ghost use Rattle.gm_find.specs.Reaching.{AreReached};
+    ghost use Rattle.gm_find.specs.Reaching.{AreReachedKeys};
 
     ghost Value = { List (ℕ × ℕ) };
 
     ghost view = { λ s. s.keys.keys };
 
-    ghost invariant = { λ s. AreReached G.rules s.keys.keys };
+    ghost invariant = { λ s. AreReachedKeys G.rules s.keys.keys };
 }
 
 impl<G: Game> Reached<G> {
     /// Finds all canonical positions that play from the start reaches: each of them once, with its canonical children.
     pub fn from_start(alloc: Global) -> Result<Self, AllocError>
-        ensures { IfOk result (AreReached G.rules) }
+        ensures { IfOk result (AreReachedKeys G.rules) }
     {
         Ok(Reached {
             keys: search::<G>(alloc)?,

@@ -1,6 +1,7 @@
 //! Found positions as rows of text.
 ghost use Rattle.std.specs.Prelude.{◌≡◌, ◌++◌, true, IfOk, OnOk, is_some};
-ghost use Rattle.gm_find.specs.Lower.{All, flat_map, IsBestMove};
+ghost use Rattle.std.specs.List.{All, flat_map};
+ghost use Rattle.gm_play.specs.BestMoves.{IsBestMove};
 ghost use Rattle.gm_find.specs.Founds.{IsFound};
 ghost use Rattle.gm_find.specs.Rows.{best_text as best_text_spec, found_row, IsFoundText};
 

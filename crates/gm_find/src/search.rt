@@ -1,7 +1,7 @@
 //! The search for the positions that play from the start reaches.
 ghost use Rattle.std.specs.Prelude.{◌≡◌, ◌∷◌, ◌++◌, [], List, true, IfOk, OnOk};
-ghost use Rattle.gm_find.specs.Lower.{Position};
-ghost use Rattle.gm_find.specs.Reaching.{AreReached, IsSearched};
+ghost use Rattle.gm_game.specs.declared.position.Position.{Position};
+ghost use Rattle.gm_find.specs.Reaching.{AreReachedKeys, IsSearched};
 
 use gm_game::children::canonical_children;
 use gm_game::game::Game;
@@ -11,7 +11,7 @@ use std::collections::HashSet;
 
 /// Finds all canonical positions that play reaches: that of the start, and the canonical children of each.
 pub(crate) fn search<G: Game>(alloc: Global) -> Result<HashSet<(u64, u64)>, AllocError>
-    ensures { IfOk result (λ s. AreReached G.rules s.keys) }
+    ensures { IfOk result (λ s. AreReachedKeys G.rules s.keys) }
 {
     let mut found = HashSet::new(alloc);
     let mut waiting = Vec::new(alloc);
@@ -26,7 +26,7 @@ fn fill<G: Game>(
 ) -> Result<(), AllocError>
     requires found { found.old.keys ≡ [] }
     requires waiting { waiting.old.items ≡ [] }
-    ensures { OnOk result (AreReached G.rules found.new.keys) }
+    ensures { OnOk result (AreReachedKeys G.rules found.new.keys) }
 {
     find::<G>(found, waiting, G::canonical(G::initial()))?;
     for _ in 0..usize::MAX {

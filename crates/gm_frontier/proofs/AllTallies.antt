@@ -1,6 +1,7 @@
 -- The tallies of all pieces of a level, as they grow by one.
-use Rattle.gm_frontier.proofs.Lower.{◌≡◌, ℕ, ◌+◌, ◌<◌, inl, inr, List, [], ◌∷◌, ◌++◌, map, length, refl, sym, ap, subst, ◌∙◌, arith, Contains, div_ceil, Rules}
-use Rattle.gm_frontier.proofs.Lower.{contains_none, LevelData, TallyData, AreTallies, AreAllTallies, numbers_from, Contains-push_cases, IsTallyOf, IsTile}
+use Rattle.gm_frontier.proofs.Lower.{◌≡◌, ℕ, ◌+◌, ◌<◌, inl, inr, List, [], ◌∷◌, ◌++◌, map, length, refl, sym, ap, subst, ◌∙◌, arith, Contains, div_ceil, Rules, contains_none, LevelData, TallyData, numbers_from}
+use Rattle.gm_frontier.specs.inner.Tallies.{AreTallies, AreAllTallies, IsTallyOf, IsTallyTile}
+use Rattle.std.proofs.lemmas.List.Elements.{Contains-push_cases}
 use Rattle.std.proofs.lemmas.List.{map_push}
 use Rattle.gm_frontier.proofs.TalliedLemmas.{numbers_push, tallies_in_order}
 
@@ -33,7 +34,7 @@ all_first level n width k tallies all first = record { alike = first.alike; piec
 
 -- the tallies of all pieces count into each tile
 pub all_count : (r : Rules) (level : LevelData) (n width lo hi : ℕ) (tallies : List TallyData) → 0 < n → AreAllTallies level n width tallies
-    → IsTile (r.tier_size level.place.tier) width lo hi → AreTallies r level lo hi tallies
+    → IsTallyTile (r.tier_size level.place.tier) width lo hi → AreTallies r level lo hi tallies
 all_count r level n width lo hi tallies some all tile = record {
   n = n;
   width = width;

@@ -1,14 +1,15 @@
 -- How many pairs there are into a range: none before the first level, and each level adds its own.
-use Rattle.gm_frontier.proofs.Lower.{◌≡◌, ℕ, zero, suc, ◌+◌, ◌<◌, ◌≤◌, inl, inr, Bool, true, false, List, [], ◌∷◌, ◌++◌, map, length, refl, sym, ap, subst}
-use Rattle.gm_frontier.proofs.Lower.{arith, Contains, flat_map, length-append, length-map, cases_lt, Contains-append_left, Contains-append_right}
-use Rattle.gm_frontier.proofs.Lower.{Contains-append_cases, Position, Phase, WinLose, Ties, Place, MOVES, Rules, at, IsCanonical, IsParent, IsGame}
-use Rattle.gm_frontier.proofs.Lower.{canonical_children_of, IsLastLevel, contains_first, contains_later, map_from, HasNoRepeats, no_longer, numbers_from}
-use Rattle.gm_frontier.proofs.Lower.{NoteData, IsLevel, positions, pairs_of, IsNumberBefore, canonical_children_listed}
+use Rattle.gm_frontier.proofs.Lower.{◌≡◌, ℕ, zero, suc, ◌+◌, ◌<◌, ◌≤◌, inl, inr, Bool, true, false, List, [], ◌∷◌, ◌++◌, map, length, refl, sym, ap, subst, arith, Contains, flat_map, length-append, length-map, cases_lt, Contains-append_cases, Position, Phase, WinLose, Ties, Place, Rules, at, IsCanonical, IsParent, IsGame, IsLastLevel, contains_first, contains_later, map_from, HasNoRepeats, numbers_from, NoteData, IsLevel, positions, pairs_of}
+use Rattle.std.proofs.lemmas.List.Elements.{Contains-append_left, Contains-append_right}
+use Rattle.gm_game.specs.declared.limits.TheConstants.{MOVES}
+use Rattle.gm_game.specs.Children.{canonical_children_of}
+use Rattle.gm_game.proofs.Counts.{no_longer}
+use Rattle.gm_frontier.specs.Counts.{IsNumberBefore}
+use Rattle.gm_game.proofs.ChildrenLemmas.{canonical_children_listed}
 use Rattle.std.proofs.Common.{◌*◌}
 use Rattle.gm_table.proofs.Distinct.{no_repeats_from, no_repeats_to, no_repeats_append, flat_map_has}
 use Rattle.gm_frontier.proofs.ForGame.{stands_now, now_stands, not_before_and_at, before_later, before_ties, ties_after, canonical_children_few}
-use Rattle.gm_frontier.proofs.PairLemmas.{near_of_pair, bare_pairs, length-bare_pairs, bare_pairs_once, in_bare_pairs, positions_once, canonical_notes}
-use Rattle.gm_frontier.proofs.PairLemmas.{level_pairs_exact}
+use Rattle.gm_frontier.proofs.PairLemmas.{near_of_pair, bare_pairs, length-bare_pairs, bare_pairs_once, in_bare_pairs, positions_once, canonical_notes, level_pairs_exact}
 
 -- with the pairs of one level there are so many more
 module _ (r : Rules) (g : IsGame r) (lo hi : ℕ) (place : Place) (notes : List NoteData) (level : IsLevel r place notes) (number : ℕ)

@@ -1,14 +1,19 @@
 -- Over all pieces and tiles each pair whose child is at the place comes once.
-use Rattle.gm_frontier.proofs.Lower.{◌≡◌, ◌≢◌, ℕ, ◌+◌, ◌/◌, ◌<◌, inl, inr, List, length, get_or, take, drop, refl, sym, ap, ap₂, subst, ◌∙◌, arith, Contains}
-use Rattle.gm_frontier.proofs.Lower.{flat_map, div_ceil, lt-div-mul-add, div-add-mod', length-drop, cases_lt, Position, Solved, Value, Lose, Draw, Tie, Win}
-use Rattle.gm_frontier.proofs.Lower.{Phase, WinLose, Ties, Place, Rules, at, IsParent, IsGame, HasValue, IsTrueValue, StandsAt, ListsExactly, map_in}
-use Rattle.gm_frontier.proofs.Lower.{HasNoRepeats, IsTrueValue_once, NoteData, IsNoteAt, phase_of, IsLevel, pairs_of, piece_of, tile_start, tile_end}
-use Rattle.gm_frontier.proofs.Lower.{numbers_from, ◌%◌, div-mul-add, length-take, get_or-drop, get_or-take, IsPairAt, tiled_pairs}
-use Rattle.std.proofs.Common.{◌*◌}
+use Rattle.gm_frontier.proofs.Lower.{◌≡◌, ◌≢◌, ℕ, ◌+◌, ◌/◌, ◌<◌, inl, inr, List, length, get_or, take, drop, refl, sym, ap, ap₂, subst, ◌∙◌, arith, Contains, flat_map, div_ceil, cases_lt, Position, Solved, Lose, Draw, Tie, Win, Phase, WinLose, Ties, Place, Rules, at, IsParent, IsGame, IsTrueValue, StandsAt, map_in, HasNoRepeats, NoteData, IsNoteAt, IsLevel, pairs_of, piece_of, tile_start, tile_end, numbers_from}
+use Rattle.std.proofs.Math.Nat.{lt-div-mul-add}
+use Rattle.std.proofs.lemmas.Nat.{div-add-mod', div-mul-add}
+use Rattle.std.proofs.lemmas.List.{length-drop, length-take, get_or-drop, get_or-take}
+use Rattle.gm_game.specs.declared.position.Value.{Value}
+use Rattle.gm_game.specs.Values.{HasValue}
+use Rattle.gm_game.specs.Numbers.{ListsExactly}
+use Rattle.gm_game.proofs.Checker.{IsTrueValue_once}
+use Rattle.gm_frontier.specs.Notes.{phase_of}
+use Rattle.std.proofs.Common.{◌%◌, ◌*◌}
+use Rattle.gm_frontier.specs.Pairs.{IsPairAt}
+use Rattle.gm_frontier.specs.inner.Tallies.{tiled_pairs}
 use Rattle.gm_frontier.proofs.CountLemmas.{numbers_have}
 use Rattle.gm_table.proofs.Distinct.{in_flat_map, flat_map_has, no_repeats_flat_map, no_repeats_before, no_repeats_to}
-use Rattle.gm_frontier.proofs.PairLemmas.{near_of_pair, in_pairs, pairs_have, pairs_once, in_piece, positions_once, canonical_notes, piece_positions_once}
-use Rattle.gm_frontier.proofs.PairLemmas.{piece_canonical}
+use Rattle.gm_frontier.proofs.PairLemmas.{near_of_pair, in_pairs, pairs_have, pairs_once, in_piece, positions_once, canonical_notes, piece_positions_once, piece_canonical}
 use Rattle.gm_frontier.proofs.SumLemmas.{numbers_once}
 use Rattle.gm_frontier.proofs.TileLemmas.{in_tile, tile_below}
 

@@ -1,7 +1,7 @@
 -- An exact count stays exact when a level is added, and when it turns to ties.
-use Rattle.gm_frontier.proofs.Lower.{◌≡◌, ℕ, ◌+◌, ◌<◌, ◌^◌, inl, inr, List, refl, sym, ap, subst, ◌∙◌, arith, Option, None, Some, Phase, WinLose, Ties, Place}
-use Rattle.gm_frontier.proofs.Lower.{Rules, IsGame, IsLastLevel, NoteData, LevelData, IsLevel, place_at, number_into, ExpectedData, IsExpected, IsNumberBefore}
-use Rattle.gm_frontier.proofs.Lower.{next_level, level_after}
+use Rattle.gm_frontier.proofs.Lower.{◌≡◌, ℕ, ◌+◌, ◌<◌, ◌^◌, inl, inr, List, refl, sym, ap, subst, ◌∙◌, arith, Option, None, Some, Phase, WinLose, Ties, Place, Rules, IsGame, IsLastLevel, NoteData, LevelData, IsLevel, number_into, IsExpected}
+use Rattle.gm_frontier.specs.Levels.{place_at}
+use Rattle.gm_frontier.specs.Counts.{ExpectedData, IsNumberBefore, next_level, level_after}
 use Rattle.gm_frontier.proofs.CountLemmas.{level_added, number_few, ties_begin}
 
 -- what the fields of an Expected show

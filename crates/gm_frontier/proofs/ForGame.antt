@@ -1,7 +1,11 @@
 -- Places and canonical children: facts over the definitions of the game's crate.
-use Rattle.gm_frontier.proofs.Lower.{◌≡◌, ℕ, ◌+◌, ◌≤◌, ◌⊎◌, inl, inr, true, List, [], ◌∷◌, map, length, refl, subst, arith, length-map, cases_lt, Position}
-use Rattle.gm_frontier.proofs.Lower.{Lose, Tie, Win, Phase, WinLose, Ties, MOVES, Rules, IsGame, canonical_children_of, StandsAt, IsNear, IsLastLevel}
-use Rattle.gm_frontier.proofs.Lower.{HasValue_once, children, set_of, StandsBefore, IsPlaceBefore, length_with_le}
+use Rattle.gm_frontier.proofs.Lower.{◌≡◌, ℕ, ◌+◌, ◌≤◌, ◌⊎◌, inl, inr, true, List, [], ◌∷◌, map, length, refl, subst, arith, length-map, cases_lt, Position, Lose, Tie, Win, Phase, WinLose, Ties, Rules, IsGame, StandsAt, IsLastLevel}
+use Rattle.gm_game.specs.declared.limits.TheConstants.{MOVES}
+use Rattle.gm_game.specs.Children.{canonical_children_of, set_of}
+use Rattle.gm_game.specs.Places.{IsNear, StandsBefore, IsPlaceBefore}
+use Rattle.gm_game.proofs.Basic.{HasValue_once}
+use Rattle.gm_game.specs.Rules.{children}
+use Rattle.gm_game.proofs.SetLemmas.{length_with_le}
 
 -- what is before the next level is before this one or at it
 pub stands_now : (r : Rules) (phase : Phase) (n : ℕ) (c : Position) → StandsBefore r phase (n + 1) c → StandsBefore r phase n c ⊎ StandsAt r phase n c

@@ -1,8 +1,10 @@
 -- What is gathered is a level, and not too long.
-use Rattle.gm_frontier.proofs.Lower.{◌≡◌, ℕ, ◌+◌, ◌<◌, ◌≤◌, inl, inr, List, [], ◌∷◌, ◌++◌, map, length, sym, ap, subst, ◌∙◌, arith, Contains, flat_map}
-use Rattle.gm_frontier.proofs.Lower.{length-map, Position, Place, TIER_SIZE, Rules, at, IsGame, contains_first, contains_later, map_from, no_longer, TableData}
-use Rattle.gm_frontier.proofs.Lower.{numbers_from, NoteData, RunData, positions, IsLevel, IsChildPart, AreRuns, AreTiles, notes_of_tier, mul-le-mul_left}
-use Rattle.gm_frontier.proofs.Lower.{CHILD_TIERS, IsTierOrChild}
+use Rattle.gm_frontier.proofs.Lower.{◌≡◌, ℕ, ◌+◌, ◌<◌, ◌≤◌, inl, inr, List, [], ◌∷◌, ◌++◌, map, length, sym, ap, subst, ◌∙◌, arith, Contains, flat_map, length-map, Position, Place, TIER_SIZE, Rules, at, IsGame, contains_first, contains_later, map_from, TableData, numbers_from, NoteData, RunData, positions, IsLevel, IsChildPart, AreRuns, notes_of_tier}
+use Rattle.gm_game.proofs.Counts.{no_longer}
+use Rattle.gm_frontier.specs.Levels.{AreTiles}
+use Rattle.std.proofs.Math.Nat.{mul-le-mul_left}
+use Rattle.gm_game.specs.declared.limits.TheConstants.{CHILD_TIERS}
+use Rattle.gm_game.specs.Rules.{IsTierOrChild}
 use Rattle.std.proofs.Common.{◌*◌}
 use Rattle.gm_table.proofs.Distinct.{flat_map_has}
 use Rattle.gm_frontier.proofs.CountLemmas.{length-numbers_from, numbers_have, flat_map_few}

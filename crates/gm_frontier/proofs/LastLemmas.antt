@@ -1,8 +1,11 @@
 -- A level is the last of its phase if it is empty and the child tiers have nothing from it on.
-use Rattle.gm_frontier.proofs.Lower.{◌≡◌, ℕ, ◌<◌, ◌≤◌, ◌↔◌, inl, inr, List, [], ◌∷◌, refl, sym, ap, subst, arith, Some, true, nat_lt, length, get_or, take}
-use Rattle.gm_frontier.proofs.Lower.{Contains, cases_lt, nat_tests, Position, Place, Rules, at, IsCanonical, IsGame, StandsAt, IsLastLevel, contains_none}
-use Rattle.gm_frontier.proofs.Lower.{contains_first, TableData, IsTable, table_of, AreTables, NoteData, positions, IsLevel, IsBelow, AreBelow, IsTrue}
-use Rattle.gm_frontier.proofs.Lower.{none_from_last, HasLevel, IsGreatestLevel, level_stands}
+use Rattle.gm_frontier.proofs.Lower.{◌≡◌, ℕ, ◌<◌, ◌≤◌, ◌↔◌, inl, inr, List, [], ◌∷◌, refl, sym, ap, subst, arith, Some, true, length, get_or, take, Contains, cases_lt, nat_tests, Position, Place, Rules, at, IsCanonical, IsGame, StandsAt, IsLastLevel, contains_none, contains_first, TableData, NoteData, positions, IsLevel, IsBelow}
+use Rattle.std.proofs.Common.{nat_lt, IsTrue}
+use Rattle.gm_table.specs.Tables.{IsTable, table_of, AreTables}
+use Rattle.gm_frontier.specs.Levels.{AreBelow}
+use Rattle.gm_game.proofs.Frontier.{none_from_last}
+use Rattle.gm_table.specs.Levels.{HasLevel, IsGreatestLevel}
+use Rattle.gm_table.proofs.PlaceLemmas.{level_stands}
 use Rattle.gm_table.proofs.Distinct.{stands_there}
 use Rattle.gm_frontier.proofs.PieceLemmas.{all_taken}
 

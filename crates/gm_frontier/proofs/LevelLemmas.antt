@@ -1,9 +1,9 @@
 -- A level is whole: its tier's runs, and then the child tiers' records, one list after another.
-use Rattle.gm_frontier.proofs.Lower.{◌≡◌, ◌≢◌, ℕ, ◌<◌, ◌≤◌, ◌↔◌, ◌⊎◌, inl, inr, Bool, true, List, [], ◌∷◌, ◌++◌, sym, ap, subst, ◌∙◌, arith, AllByRecursion}
-use Rattle.gm_frontier.proofs.Lower.{Contains, flat_map, Contains-append_left, Contains-append_right, Contains-append_cases, cases_lt, nat_tests, Position}
-use Rattle.gm_frontier.proofs.Lower.{Place, Rules, IsCanonical, IsAscending, IsGame, is_before, StandsAt, contains_none, contains_first, contains_later}
-use Rattle.gm_frontier.proofs.Lower.{contains_cases, NoteData, RunData, positions, IsInTier, AreInOrder, AreNotesOf, comes_first, IsRun, IsLevel, AreRuns}
-use Rattle.gm_frontier.proofs.Lower.{AreTiles, map-append, IsAtLevel, IsInRun}
+use Rattle.gm_frontier.proofs.Lower.{◌≡◌, ◌≢◌, ℕ, ◌<◌, ◌≤◌, ◌↔◌, ◌⊎◌, inl, inr, Bool, true, List, [], ◌∷◌, ◌++◌, sym, ap, subst, ◌∙◌, arith, AllByRecursion, Contains, flat_map, Contains-append_cases, cases_lt, nat_tests, Position, Place, Rules, IsCanonical, IsAscending, IsGame, is_before, StandsAt, contains_none, contains_first, contains_later, contains_cases, NoteData, RunData, positions, AreInOrder, comes_first, IsLevel, AreRuns}
+use Rattle.std.proofs.lemmas.List.Elements.{Contains-append_left, Contains-append_right}
+use Rattle.gm_frontier.specs.Levels.{IsInTier, AreNotesOf, IsRunOfNotes, AreTiles, IsInRun}
+use Rattle.std.proofs.lemmas.List.{map-append}
+use Rattle.gm_game.specs.Places.{IsAtLevel}
 use Rattle.gm_table.proofs.Distinct.{ascending_above}
 use Rattle.gm_frontier.proofs.OrderLemmas.{in_order_append}
 
@@ -72,11 +72,11 @@ tiles_ascend place from to [] h = omega arith
 tiles_ascend place from to (run ∷ runs) (p, l, m, rest) = let a = tiles_ascend place run.hi to runs rest in omega arith
 
 pub tiled_run : (r : Rules) (place : Place) (from to : ℕ) (runs : List RunData) → AreTiles place from to runs → AreRuns r runs
-    → IsRun r place from to (flat_map (λ run. run.notes) runs)
+    → IsRunOfNotes r place from to (flat_map (λ run. run.notes) runs)
 tiled_run r place from to [] tiles all = no_notes r place (IsInRun r place from to) is_before (λ c m. (let a = m.low in let b = m.high in omega arith))
 tiled_run r place from to (run ∷ runs) (same, low, up, rest) all =
-    let own : IsRun r place from run.hi run.notes = subst (λ (k : ℕ). IsRun r place k run.hi run.notes) low
-    (subst (λ (p : Place). IsRun r p run.lo run.hi run.notes) same (all run (contains_first run runs))) in
+    let own : IsRunOfNotes r place from run.hi run.notes = subst (λ (k : ℕ). IsRunOfNotes r place k run.hi run.notes) low
+    (subst (λ (p : Place). IsRunOfNotes r p run.lo run.hi run.notes) same (all run (contains_first run runs))) in
     let later = tiled_run r place run.hi to runs rest (λ x l. all x (contains_later run x runs l)) in
     let end = tiles_ascend place run.hi to runs rest in
     join_notes r place (IsInRun r place from run.hi) (IsInRun r place run.hi to) (IsInRun r place from to) is_before run.notes
@@ -131,7 +131,8 @@ first_below tier p q a b e = grind (arith, nat_tests)
 first_across : (tier : ℕ) (p q : Position) → p.tier ≡ tier → q.tier ≢ tier → comes_first tier p q ≡ true
 first_across tier p q a b = grind (arith, nat_tests)
 
-pub level_joined : (r : Rules) → IsGame r → (place : Place) (own : List NoteData) (notes_in : ℕ → List NoteData) → IsRun r place 0 (r.tier_size place.tier) own
+pub level_joined : (r : Rules) → IsGame r → (place : Place) (own : List NoteData) (notes_in : ℕ → List NoteData) → IsRunOfNotes r place 0
+    (r.tier_size place.tier) own
     → ((t : ℕ) → Contains (r.child_tiers place.tier) t → AreNotesOf r place (IsInTier r place t) is_before (notes_in t))
     → IsLevel r place (own ++ flat_map notes_in (r.child_tiers place.tier))
 level_joined r g place own notes_in run each =

@@ -1,6 +1,6 @@
 -- There is one list of notes of a level.
-use Rattle.gm_frontier.proofs.Lower.{◌≡◌, List, [], ◌∷◌, refl, ap₂, subst, Contains, Position, Solved, Place, Rules, IsTrueValue, contains_first}
-use Rattle.gm_frontier.proofs.Lower.{contains_later, IsTrueValue_once, NoteData, IsNoteAt, positions, IsLevel, comes_first}
+use Rattle.gm_frontier.proofs.Lower.{◌≡◌, List, [], ◌∷◌, refl, ap₂, subst, Contains, Position, Solved, Place, Rules, IsTrueValue, contains_first, contains_later, NoteData, IsNoteAt, positions, IsLevel, comes_first}
+use Rattle.gm_game.proofs.Checker.{IsTrueValue_once}
 use Rattle.gm_frontier.proofs.OrderLemmas.{in_order_same, first_one_way}
 
 same_notes : (r : Rules) (place : Place) (ms ns : List NoteData) → ((n : NoteData) → Contains ms n → IsNoteAt r place n)

@@ -1,7 +1,7 @@
 -- Lists of positions in an order: without repeats, and known by their members.
-use Rattle.gm_frontier.proofs.Lower.{◌≡◌, ℕ, ◌↔◌, ◌==◌, inl, inr, Bool, true, false, nat_lt, if◌then◌else◌, List, [], ◌∷◌, ◌++◌, refl, sym, ap₂, subst, ◌∙◌}
-use Rattle.gm_frontier.proofs.Lower.{arith, AllByRecursion, Contains, nat_tests, Position, is_before, contains_none, contains_first, contains_later}
-use Rattle.gm_frontier.proofs.Lower.{contains_cases, HasNoRepeats, AreInOrder, comes_first, before_itself, before_trans, all_there}
+use Rattle.gm_frontier.proofs.Lower.{◌≡◌, ℕ, ◌↔◌, inl, inr, Bool, true, false, if◌then◌else◌, List, [], ◌∷◌, ◌++◌, refl, sym, ap₂, subst, ◌∙◌, arith, AllByRecursion, Contains, nat_tests, Position, is_before, contains_none, contains_first, contains_later, contains_cases, HasNoRepeats, AreInOrder, comes_first}
+use Rattle.std.proofs.Common.{◌==◌, nat_lt}
+use Rattle.gm_game.proofs.SetLemmas.{before_itself, before_trans, all_there}
 
 -- of two positions at most one comes before the other
 abbrev pub IsOneWay : (Position → Position → Bool) → Type 0

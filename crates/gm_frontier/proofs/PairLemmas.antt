@@ -1,11 +1,10 @@
 -- The pairs of a level's notes: each pair whose child is at the place, once.
-use Rattle.gm_frontier.proofs.Lower.{◌≡◌, ℕ, zero, suc, ◌<◌, ◌≤◌, ◌↔◌, inl, inr, true, List, [], ◌∷◌, take, drop, map, filter, refl, sym, ap, ap₂, subst, ◌∙◌}
-use Rattle.gm_frontier.proofs.Lower.{arith, length, Contains, length-map, nat_tests, Position, Place, Rules, at, IsAscending, IsCanonical, IsParent, IsGame}
-use Rattle.gm_frontier.proofs.Lower.{StandsAt, IsNear, contains_none, contains_first, contains_later, contains_cases, map_from, map_in, HasNoRepeats, NoteData}
-use Rattle.gm_frontier.proofs.Lower.{positions, IsLevel, comes_first, is_within, pairs_of_note, pairs_of, piece_of, near_child, IsPairInto}
+use Rattle.gm_frontier.proofs.Lower.{◌≡◌, ℕ, zero, suc, ◌<◌, ◌≤◌, ◌↔◌, inl, inr, true, List, [], ◌∷◌, take, drop, map, filter, refl, sym, ap, ap₂, subst, ◌∙◌, arith, length, Contains, length-map, nat_tests, Position, Place, Rules, at, IsAscending, IsCanonical, IsParent, IsGame, StandsAt, contains_none, contains_first, contains_later, contains_cases, map_from, map_in, HasNoRepeats, NoteData, positions, IsLevel, comes_first, is_within, pairs_of_note, pairs_of, piece_of}
+use Rattle.gm_game.specs.Places.{IsNear}
+use Rattle.gm_game.proofs.Symmetry.{near_child}
+use Rattle.gm_frontier.specs.Counts.{IsPairInto}
 use Rattle.std.proofs.Common.{◌*◌}
-use Rattle.gm_table.proofs.Distinct.{in_filter, filter_has, in_flat_map, flat_map_has, no_repeats_map, no_repeats_before, same_image, no_repeats_filter}
-use Rattle.gm_table.proofs.Distinct.{no_repeats_flat_map, no_repeats_ascending}
+use Rattle.gm_table.proofs.Distinct.{in_filter, filter_has, in_flat_map, flat_map_has, no_repeats_map, no_repeats_before, same_image, no_repeats_filter, no_repeats_flat_map, no_repeats_ascending}
 use Rattle.gm_frontier.proofs.OrderLemmas.{in_order_once, first_one_way}
 
 within_from : (lo hi i : ℕ) → lo ≤ i → i < hi → is_within lo hi i ≡ true

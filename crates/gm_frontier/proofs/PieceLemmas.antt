@@ -1,8 +1,8 @@
 -- Parts and pieces of a list of notes.
-use Rattle.gm_frontier.proofs.Lower.{◌≡◌, ℕ, suc, ◌+◌, ◌-◌, ◌<◌, ◌≤◌, inl, inr, min, List, [], ◌∷◌, ◌++◌, length, get_or, take, drop, sym, ap, subst, ◌∙◌}
-use Rattle.gm_frontier.proofs.Lower.{arith, Some, Contains, flat_map, drop-cons, drop_all, take_more, take_all, length-drop, length-append}
-use Rattle.gm_frontier.proofs.Lower.{Contains-append_cases, get_or_from_slice_get, slice_get-get_or, cases_lt, contains_none, contains_cases, take-nil}
-use Rattle.gm_frontier.proofs.Lower.{get_or_append_left, take_min, flat_map_more, get_or-append_right, get_or_read, slice_get_within}
+use Rattle.gm_frontier.proofs.Lower.{◌≡◌, ℕ, suc, ◌+◌, ◌-◌, ◌<◌, ◌≤◌, inl, inr, min, List, [], ◌∷◌, ◌++◌, length, get_or, take, drop, sym, ap, subst, ◌∙◌, arith, Some, Contains, flat_map, drop_all, take_all, length-append, Contains-append_cases, slice_get-get_or, cases_lt, contains_none, contains_cases}
+use Rattle.std.proofs.Math.Seq.{drop-cons, take-nil}
+use Rattle.std.proofs.lemmas.List.{take_more, length-drop, get_or_append_left, take_min, flat_map_more, get_or-append_right, get_or_read}
+use Rattle.std.proofs.lemmas.Option.{get_or_from_slice_get, slice_get_within}
 use Rattle.std.specs.List.{slice_get}
 
 -- what is in a part is there in the parts from it on

@@ -1,7 +1,12 @@
 -- The note of an index that is read from a table.
-use Rattle.gm_frontier.proofs.Lower.{◌≡◌, ℕ, ◌<◌, List, length, get_or, sym, ap, subst, ◌∙◌, Option, Some, IsSome, slice_get, unwrap_or, Contains}
-use Rattle.gm_frontier.proofs.Lower.{slice_get-get_or, Contains-get_or, Position, Solved, Draw, Rules, at, solved, TableData, record_at, NoteData, IsNote}
-use Rattle.gm_frontier.proofs.Lower.{note_of, notes_at, IsRecorded, AreRecorded, option_map, slice_get-map}
+use Rattle.gm_frontier.proofs.Lower.{◌≡◌, ℕ, ◌<◌, List, length, get_or, sym, ap, subst, ◌∙◌, Option, Some, slice_get, Contains, slice_get-get_or, Position, Solved, Draw, Rules, at, TableData, NoteData}
+use Rattle.std.proofs.Common.{IsSome, unwrap_or, option_map}
+use Rattle.std.proofs.lemmas.List.Elements.{Contains-get_or}
+use Rattle.gm_game.specs.Records.{solved}
+use Rattle.gm_table.specs.Tables.{record_at}
+use Rattle.gm_frontier.specs.Notes.{IsNote}
+use Rattle.gm_frontier.specs.inner.Records.{note_of, notes_at, IsRecorded, AreRecorded}
+use Rattle.std.proofs.lemmas.Option.{slice_get-map}
 
 abbrev note : Position → Solved → NoteData
 note p s = record { position = p; solved = s }

@@ -1,10 +1,14 @@
 -- The notes of a table's records at a place are those of the positions that are there.
-use Rattle.gm_frontier.proofs.Lower.{◌≡◌, ◌≢◌, ℕ, ◌<◌, ◌↔◌, inl, inr, true, List, [], ◌∷◌, map, length, get_or, refl, sym, ap, subst, ◌∙◌, arith, Option, None}
-use Rattle.gm_frontier.proofs.Lower.{Some, IsSome, slice_get, unwrap_or, AllByRecursion, Contains, slice_get-get_or, nat_tests, Position, Solved, Value, Lose}
-use Rattle.gm_frontier.proofs.Lower.{Draw, Tie, Win, Phase, WinLose, Ties, Place, Rules, at, IsCanonical, IsAscending, IsGame, HasValue, IsTrueValue, solved}
-use Rattle.gm_frontier.proofs.Lower.{is_before, StandsAt, contains_first, contains_later, map_from, map_in, HasValue_once, TableData, IsTable, record_at}
-use Rattle.gm_frontier.proofs.Lower.{table_of, AreTables, IsNote, IsNoteAt, phase_of, positions, IsInTier, AreInOrder, AreNotesOf, IsChildPart, note_of}
-use Rattle.gm_frontier.proofs.Lower.{notes_at, IsRecorded, AreRecorded, IsHeld}
+use Rattle.gm_frontier.proofs.Lower.{◌≡◌, ◌≢◌, ℕ, ◌<◌, ◌↔◌, inl, inr, true, List, [], ◌∷◌, map, length, get_or, refl, sym, ap, subst, ◌∙◌, arith, Option, None, Some, slice_get, AllByRecursion, Contains, slice_get-get_or, nat_tests, Position, Solved, Lose, Draw, Tie, Win, Phase, WinLose, Ties, Place, Rules, at, IsCanonical, IsAscending, IsGame, IsTrueValue, is_before, StandsAt, contains_first, contains_later, map_from, map_in, TableData, IsNoteAt, positions, AreInOrder, IsChildPart}
+use Rattle.std.proofs.Common.{IsSome, unwrap_or}
+use Rattle.gm_game.specs.declared.position.Value.{Value}
+use Rattle.gm_game.specs.Values.{HasValue}
+use Rattle.gm_game.specs.Records.{solved}
+use Rattle.gm_game.proofs.Basic.{HasValue_once}
+use Rattle.gm_table.specs.Tables.{IsTable, record_at, table_of, AreTables, IsHeld}
+use Rattle.gm_frontier.specs.Notes.{IsNote, phase_of}
+use Rattle.gm_frontier.specs.Levels.{IsInTier, AreNotesOf}
+use Rattle.gm_frontier.specs.inner.Records.{note_of, notes_at, IsRecorded, AreRecorded}
 use Rattle.gm_table.proofs.Distinct.{ascending_above}
 
 -- what the place of a position says of its value

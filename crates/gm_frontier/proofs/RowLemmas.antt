@@ -1,8 +1,10 @@
 -- The pairs that an iterator has left, when it takes the next note.
-use Rattle.gm_frontier.proofs.Lower.{◌≡◌, ℕ, suc, ◌+◌, ◌-◌, ◌<◌, ◌≤◌, List, [], ◌∷◌, ◌++◌, length, take, drop, get_or, refl, sym, ap, subst, ◌∙◌, arith, Option}
-use Rattle.gm_frontier.proofs.Lower.{None, Some, drop-cons, take_all, drop_all, get_or_from_slice_get, Rules, NoteData, pairs_of, pairs_of_note, piece_of}
-use Rattle.gm_frontier.proofs.Lower.{stretch, MatchOption, add-one, drop_more, row_pairs}
-use Rattle.std.proofs.Common.{◌*◌}
+use Rattle.gm_frontier.proofs.Lower.{◌≡◌, ℕ, suc, ◌+◌, ◌-◌, ◌<◌, ◌≤◌, List, [], ◌∷◌, ◌++◌, length, take, drop, get_or, refl, sym, ap, subst, ◌∙◌, arith, Option, None, Some, take_all, drop_all, Rules, NoteData, pairs_of, pairs_of_note, piece_of}
+use Rattle.std.proofs.Math.Seq.{drop-cons}
+use Rattle.std.proofs.lemmas.Option.{get_or_from_slice_get}
+use Rattle.gm_frontier.specs.inner.Rows.{stretch, row_pairs}
+use Rattle.std.proofs.Common.{MatchOption, add-one, ◌*◌}
+use Rattle.std.proofs.lemmas.List.{drop_more}
 use Rattle.std.specs.List.{slice_get}
 
 -- the first of a stretch, and the others

@@ -1,8 +1,8 @@
 -- Sums over lists without repeats, and over the pieces of a list.
-use Rattle.gm_frontier.proofs.Lower.{◌≡◌, ℕ, zero, suc, ◌+◌, ◌<◌, ◌≤◌, ◌↔◌, ◌⊎◌, inl, inr, List, [], ◌∷◌, ◌++◌, length, get_or, take, drop, refl, sym, ap}
-use Rattle.gm_frontier.proofs.Lower.{subst, ◌∙◌, arith, sum_by, Contains, take_more, drop_all, sum_by-cons, contains_none, contains_first, contains_later}
-use Rattle.gm_frontier.proofs.Lower.{contains_cases, HasNoRepeats, numbers_from, NoteData, piece_of, drop-drop, take-append-drop, sum_by-append}
-use Rattle.std.proofs.Common.{◌*◌}
+use Rattle.gm_frontier.proofs.Lower.{◌≡◌, ℕ, zero, suc, ◌+◌, ◌<◌, ◌≤◌, ◌↔◌, ◌⊎◌, inl, inr, List, [], ◌∷◌, ◌++◌, length, get_or, take, drop, refl, sym, ap, subst, ◌∙◌, arith, sum_by, Contains, drop_all, contains_none, contains_first, contains_later, contains_cases, HasNoRepeats, numbers_from, NoteData, piece_of}
+use Rattle.std.proofs.lemmas.List.{take_more, take-append-drop}
+use Rattle.std.proofs.lemmas.List.Sums.{sum_by-cons, sum_by-append}
+use Rattle.std.proofs.Common.{drop-drop, ◌*◌}
 
 -- ys is zs with x at some place
 data IsWithOne {X : Type 0} (x : X) : List X → List X → Type 0 where

@@ -1,10 +1,12 @@
 -- The tallies of a level's pieces add up to the number of its pairs.
-use Rattle.gm_frontier.proofs.Lower.{◌≡◌, ℕ, zero, suc, ◌+◌, ◌/◌, ◌<◌, ◌≤◌, ◌^◌, ◌⊎◌, inl, inr, Bool, false, if◌then◌else◌, filter, None, Some, slice_get, List}
-use Rattle.gm_frontier.proofs.Lower.{[], ◌∷◌, ◌++◌, map, length, get_or, take, refl, sym, ap, subst, ◌∙◌, arith, sum_by, Contains, div_ceil, length-append}
-use Rattle.gm_frontier.proofs.Lower.{sum_by-cons, div_ceil_times, cases_lt, nat_tests, Place, TIER_SIZE, Rules, IsGame, ListsExactly, contains_none}
-use Rattle.gm_frontier.proofs.Lower.{contains_first, contains_later, map_from, map_in, HasNoRepeats, NoteData, LevelData, IsLevel, is_within, pairs_with}
-use Rattle.gm_frontier.proofs.Lower.{pairs_of_note, pairs_of, piece_of, TallyData, IsTally, AreCounts, AreTallies, tile_start, tile_end, number_into}
-use Rattle.gm_frontier.proofs.Lower.{numbers_from, mul-div_cancel, flat_map-append}
+use Rattle.gm_frontier.proofs.Lower.{◌≡◌, ℕ, zero, suc, ◌+◌, ◌/◌, ◌<◌, ◌≤◌, ◌^◌, ◌⊎◌, inl, inr, Bool, false, if◌then◌else◌, filter, None, Some, slice_get, List, [], ◌∷◌, ◌++◌, map, length, get_or, take, refl, sym, ap, subst, ◌∙◌, arith, sum_by, Contains, div_ceil, length-append, cases_lt, nat_tests, Place, TIER_SIZE, Rules, IsGame, contains_none, contains_first, contains_later, map_from, map_in, HasNoRepeats, NoteData, LevelData, IsLevel, is_within, pairs_of_note, pairs_of, piece_of, TallyData, IsTally, AreCounts, tile_start, tile_end, number_into, numbers_from}
+use Rattle.std.proofs.lemmas.List.Sums.{sum_by-cons}
+use Rattle.std.proofs.lemmas.Grind.{div_ceil_times}
+use Rattle.gm_game.specs.Numbers.{ListsExactly}
+use Rattle.gm_frontier.specs.Pairs.{pairs_with}
+use Rattle.gm_frontier.specs.inner.Tallies.{AreTallies}
+use Rattle.std.proofs.Math.Nat.{mul-div_cancel}
+use Rattle.std.proofs.lemmas.List.Concat.{flat_map-append}
 use Rattle.std.proofs.Common.{◌*◌}
 use Rattle.gm_frontier.proofs.CountLemmas.{notes_few, numbers_have}
 use Rattle.gm_table.proofs.Distinct.{no_repeats_from, no_repeats_to}

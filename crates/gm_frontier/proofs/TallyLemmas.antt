@@ -1,6 +1,7 @@
 -- Counting pairs by tile.
-use Rattle.gm_frontier.proofs.Lower.{◌≡◌, ◌≢◌, ℕ, ◌+◌, ◌/◌, ◌<◌, ◌≤◌, ◌^◌, inl, inr, ◌==◌, Bool, true, if◌then◌else◌, List, [], ◌∷◌, length, get_or, refl, sym}
-use Rattle.gm_frontier.proofs.Lower.{ap, ◌∙◌, arith, cases_Bool, NoteData, tile_count, eqb-true, eq-eqb, get_or-set_same, get_or-set_other, set}
+use Rattle.gm_frontier.proofs.Lower.{◌≡◌, ◌≢◌, ℕ, ◌+◌, ◌/◌, ◌<◌, ◌≤◌, ◌^◌, inl, inr, Bool, true, if◌then◌else◌, List, [], ◌∷◌, length, get_or, refl, sym, ap, ◌∙◌, arith, NoteData, tile_count}
+use Rattle.std.proofs.Common.{◌==◌, eqb-true, eq-eqb, get_or-set_same, get_or-set_other, set}
+use Rattle.std.proofs.lemmas.Bool.{cases_Bool}
 
 -- one more pair
 pub count_first : (width k : ℕ) (x : NoteData × ℕ) (xs : List (NoteData × ℕ)) → x.1 / width ≡ k → tile_count width k (x ∷ xs) ≡ tile_count width k xs + 1

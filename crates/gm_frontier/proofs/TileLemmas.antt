@@ -1,8 +1,10 @@
 -- The pairs into a tile, counted among all pairs of some notes, and read from a list of pieces.
-use Rattle.gm_frontier.proofs.Lower.{◌≡◌, ◌≢◌, ℕ, suc, ◌+◌, ◌/◌, ◌<◌, ◌≤◌, ◌^◌, ◌↔◌, inl, inr, Bool, true, false, if◌then◌else◌, min, List, [], ◌∷◌, ◌++◌, map}
-use Rattle.gm_frontier.proofs.Lower.{filter, length, get_or, refl, sym, ap, subst, ◌∙◌, arith, Contains, div_ceil, lt-div-mul-add, div-add-mod', length-append}
-use Rattle.gm_frontier.proofs.Lower.{div_ceil_times, cases_Bool, nat_tests, TIER_SIZE, Rules, IsGame, NoteData, LevelData, IsLevel, is_within, pairs_with}
-use Rattle.gm_frontier.proofs.Lower.{pairs_of_note, pairs_of, piece_of, tile_count, tile_start, tile_end, number_into, AreCounts, div_below, le-div}
+use Rattle.gm_frontier.proofs.Lower.{◌≡◌, ◌≢◌, ℕ, suc, ◌+◌, ◌/◌, ◌<◌, ◌≤◌, ◌^◌, ◌↔◌, inl, inr, Bool, true, false, if◌then◌else◌, min, List, [], ◌∷◌, ◌++◌, map, filter, length, get_or, refl, sym, ap, subst, ◌∙◌, arith, Contains, div_ceil, length-append, nat_tests, TIER_SIZE, Rules, IsGame, NoteData, LevelData, IsLevel, is_within, pairs_of_note, pairs_of, piece_of, tile_count, tile_start, tile_end, number_into, AreCounts}
+use Rattle.std.proofs.Math.Nat.{lt-div-mul-add}
+use Rattle.std.proofs.lemmas.Nat.{div-add-mod', div_below, le-div}
+use Rattle.std.proofs.lemmas.Grind.{div_ceil_times}
+use Rattle.std.proofs.lemmas.Bool.{cases_Bool}
+use Rattle.gm_frontier.specs.Pairs.{pairs_with}
 use Rattle.std.proofs.Common.{◌*◌}
 use Rattle.gm_frontier.proofs.CountLemmas.{notes_few}
 use Rattle.gm_frontier.proofs.PairLemmas.{in_pairs, piece_positions_once, piece_canonical}

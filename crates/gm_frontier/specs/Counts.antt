@@ -1,6 +1,13 @@
 -- How many pairs there are into a range, up to a level.
 use Rattle.std.specs.Prelude.{◌≡◌, ℕ, ◌+◌, ◌<◌, ◌≤◌, ◌⊎◌, Option, None, Some}
-use Rattle.gm_frontier.specs.Lower.{Position, Phase, WinLose, Ties, Place, TIER_SIZE, Rules, IsParent, StandsBefore, IsLastLevel, AreThere}
+use Rattle.gm_game.specs.declared.position.Position.{Position}
+use Rattle.gm_game.specs.declared.position.Phase.{Phase}
+use Rattle.gm_game.specs.declared.position.Phase.TheVariants.{WinLose, Ties}
+use Rattle.gm_game.specs.declared.position.Place.{Place}
+use Rattle.gm_game.specs.declared.limits.TheConstants.{TIER_SIZE}
+use Rattle.gm_game.specs.Rules.{Rules, IsParent}
+use Rattle.gm_game.specs.Places.{StandsBefore, IsLastLevel}
+use Rattle.gm_game.specs.Numbers.{AreThere}
 
 -- a pair of the tier into this range: a child, and the index of a parent
 pub record IsPairInto (r : Rules) (tier lo hi : ℕ) (c : Position) (index : ℕ) : Type 0 where

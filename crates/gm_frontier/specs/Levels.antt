@@ -1,6 +1,13 @@
 -- Levels, and the runs that they are made of.
 use Rattle.std.specs.Prelude.{◌≡◌, ℕ, ◌<◌, ◌≤◌, ◌↔◌, Bool, List, [], ◌∷◌, map, length, nat_lt, ◌==◌, if◌then◌else◌, true, false}
-use Rattle.gm_frontier.specs.Lower.{Contains, Position, Phase, Place, TIER_SIZE, Rules, IsCanonical, AllByRecursion, is_before, StandsAt, IsAtLevel}
+use Rattle.std.specs.List.{Contains, AllByRecursion}
+use Rattle.gm_game.specs.declared.position.Position.{Position}
+use Rattle.gm_game.specs.declared.position.Phase.{Phase}
+use Rattle.gm_game.specs.declared.position.Place.{Place}
+use Rattle.gm_game.specs.declared.limits.TheConstants.{TIER_SIZE}
+use Rattle.gm_game.specs.Rules.{Rules, IsCanonical}
+use Rattle.gm_game.specs.Children.{is_before}
+use Rattle.gm_game.specs.Places.{StandsAt, IsAtLevel}
 use Rattle.gm_frontier.specs.Notes.{NoteData, IsNoteAt}
 
 -- what a run shows: the notes of a place in an index range
@@ -52,8 +59,8 @@ comes_first tier p q =
     if p.tier == tier then (if q.tier == tier then nat_lt p.index q.index else true) else (if q.tier == tier then false else is_before p q)
 
 -- all notes of the place in an index range of its tier, ascending
-abbrev pub IsRun : Rules → Place → ℕ → ℕ → List NoteData → Type 0
-IsRun r place lo hi notes = AreNotesOf r place (IsInRun r place lo hi) is_before notes
+abbrev pub IsRunOfNotes : Rules → Place → ℕ → ℕ → List NoteData → Type 0
+IsRunOfNotes r place lo hi notes = AreNotesOf r place (IsInRun r place lo hi) is_before notes
 
 -- all notes of the place in its tier and the child tiers, the tier's own first
 abbrev pub IsLevel : Rules → Place → List NoteData → Type 0
@@ -66,7 +73,7 @@ pub record IsChildPart (r : Rules) (place : Place) (t : ℕ) (notes : List NoteD
 
 -- each of these runs has all notes of its place in its range
 abbrev pub AreRuns : Rules → List RunData → Type 0
-AreRuns r runs = (run : RunData) → Contains runs run → IsRun r run.place run.lo run.hi run.notes
+AreRuns r runs = (run : RunData) → Contains runs run → IsRunOfNotes r run.place run.lo run.hi run.notes
 
 -- the runs are of one place, and their ranges follow one another from one index up to another
 abbrev pub AreTiles : Place → ℕ → ℕ → List RunData → Type 0
@@ -74,7 +81,7 @@ AreTiles place from to [] = from ≡ to
 AreTiles place from to (run ∷ runs) = (run.place ≡ place) × (run.lo ≡ from) × (from ≤ run.hi) × AreTiles place run.hi to runs
 
 -- a level of a tier within the limit, and how many notes it has
-pub record IsWhole (r : Rules) (l : LevelData) (len : ℕ) : Type 0 where
+pub record IsWholeLevel (r : Rules) (l : LevelData) (len : ℕ) : Type 0 where
   pub level : IsLevel r l.place l.notes
   pub small : r.tier_size l.place.tier ≤ TIER_SIZE
   pub count : len ≡ length l.notes

@@ -1,9 +1,5 @@
 pub mod Notes
 pub mod Levels
 pub mod Pairs
-pub mod Tallies
 pub mod Counts
-pub mod Parts
-pub mod Records
-pub mod Rows
-pub mod Lower
+pub mod inner

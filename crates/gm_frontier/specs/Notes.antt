@@ -1,6 +1,15 @@
 -- Notes: positions with their values.
 use Rattle.std.specs.Prelude.{◌≡◌, List, ◌≢◌}
-use Rattle.gm_frontier.specs.Lower.{flat_map, Position, Draw, Phase, WinLose, Ties, Place, Rules, IsCanonical, Solved, Value, Lose, Tie, Win, IsTrueValue}
+use Rattle.std.specs.List.{flat_map}
+use Rattle.gm_game.specs.declared.position.Position.{Position}
+use Rattle.gm_game.specs.declared.position.Value.TheVariants.{Draw, Lose, Tie, Win}
+use Rattle.gm_game.specs.declared.position.Phase.{Phase}
+use Rattle.gm_game.specs.declared.position.Phase.TheVariants.{WinLose, Ties}
+use Rattle.gm_game.specs.declared.position.Place.{Place}
+use Rattle.gm_game.specs.Rules.{Rules, IsCanonical}
+use Rattle.gm_game.specs.declared.position.Solved.{Solved}
+use Rattle.gm_game.specs.declared.position.Value.{Value}
+use Rattle.gm_game.specs.Values.{IsTrueValue}
 
 -- what a note shows
 pub record NoteData : Type 0 where

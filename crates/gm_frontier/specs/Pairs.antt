@@ -1,6 +1,8 @@
 -- The pairs of a level: a note, and the index of a parent in the level's tier.
 use Rattle.std.specs.Prelude.{ℕ, Bool, List, map, filter, take, drop, nat_lt, ◌*◌, ◌&&◌, nat_le}
-use Rattle.gm_frontier.specs.Lower.{flat_map, Place, Rules, IsParent}
+use Rattle.std.specs.List.{flat_map}
+use Rattle.gm_game.specs.declared.position.Place.{Place}
+use Rattle.gm_game.specs.Rules.{Rules, IsParent}
 use Rattle.gm_frontier.specs.Notes.{NoteData, IsNoteAt}
 
 -- whether an index is in the range

@@ -36,7 +36,7 @@ impl<G: Game> Expected<G> {
     ghost use Rattle.gm_game.specs.declared.position.Phase.TheVariants.{WinLose, Ties};
     ghost use Rattle.gm_frontier.specs.Levels.{place_at};
     ghost use Rattle.gm_frontier.specs.Counts.{ExpectedData, IsExpected, with_level};
-    ghost use Rattle.gm_frontier.specs.Tallies.{number_into, AreTallies};
+    ghost use Rattle.gm_frontier.specs.inner.Tallies.{number_into, AreTallies};
 
     /// Returns the count before the first level: no pairs into the indexes of the tier from `lo` up to `hi`.
     pub fn start(tier: u64, lo: u64, hi: u64) -> Self

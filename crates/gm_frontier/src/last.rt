@@ -1,6 +1,6 @@
 //! The end of a phase.
 ghost use Rattle.std.specs.Prelude.{◌≡◌, ◌↔◌, IsTrue};
-ghost use Rattle.gm_frontier.specs.Lower.{IsHeld, AreHeld};
+ghost use Rattle.gm_table.specs.Tables.{IsHeld, AreHeld};
 ghost use Rattle.gm_frontier.specs.Levels.{IsBelow, AreBelow};
 
 use gm_game::game::Game;

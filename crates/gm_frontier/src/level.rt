@@ -1,6 +1,6 @@
 //! All notes of one place in a tier and its child tiers.
 ghost use Rattle.std.specs.Prelude.{ℕ, ◌≡◌, ◌<◌, ◌≤◌, length, slice_get, Some, IfOk, IsSome, ◌↔◌, [], IfSome};
-ghost use Rattle.gm_frontier.specs.Lower.{div_ceil};
+ghost use Rattle.std.specs.Int.{div_ceil};
 
 use crate::last::{Last, are_below};
 use crate::note::Note;
@@ -26,13 +26,13 @@ pub struct Level<'a, G: Game> {
 
 impl<'a, G: Game> Model for Level<'a, G> {
     ghost use Rattle.gm_frontier.specs.Notes.{joined};
-    ghost use Rattle.gm_frontier.specs.Levels.{LevelData, IsWhole};
+    ghost use Rattle.gm_frontier.specs.Levels.{LevelData, IsWholeLevel};
 
     ghost Value = { LevelData };
 
     ghost view = { λ l. record { place = l.place; notes = joined l.parts.items } };
 
-    ghost invariant = { λ l. IsWhole G.rules (record { place = l.place; notes = joined l.parts.items }) l.len };
+    ghost invariant = { λ l. IsWholeLevel G.rules (record { place = l.place; notes = joined l.parts.items }) l.len };
 }
 
 impl<'a, G: Game> Level<'a, G> {
@@ -41,7 +41,7 @@ impl<'a, G: Game> Level<'a, G> {
     ghost use Rattle.gm_game.specs.Places.{IsLastLevel};
     ghost use Rattle.gm_frontier.specs.Levels.{IsLevel, AreTiles, AreBelow};
     ghost use Rattle.gm_frontier.specs.Pairs.{pairs_of, piece_of, IsPairAt};
-    ghost use Rattle.gm_frontier.specs.Tallies.{number_into, tiled_pairs, IsTallyOf, IsTile, AreTallies, AreAllTallies};
+    ghost use Rattle.gm_frontier.specs.inner.Tallies.{number_into, tiled_pairs, IsTallyOf, IsTallyTile, AreTallies, AreAllTallies};
 
     /// Gathers the notes of a place: those of the tier from runs that tile it, in order, and those of its child tiers from their tables.
     pub fn gather(
@@ -165,7 +165,7 @@ impl<'a, G: Game> Level<'a, G> {
         requires piece_size { 0 < n }
         requires width { 0 < width }
         ensures all { IfOk result (λ tallies. AreAllTallies self.now n width tallies.items) }
-        ensures tiles { IfOk result (λ tallies. (lo hi : ℕ) → IsTile (G.rules.tier_size self.now.place.tier) width lo hi
+        ensures tiles { IfOk result (λ tallies. (lo hi : ℕ) → IsTallyTile (G.rules.tier_size self.now.place.tier) width lo hi
             → AreTallies G.rules self.now lo hi tallies.items) }
     {
         let mut tallies = Vec::new(alloc);

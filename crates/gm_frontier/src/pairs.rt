@@ -1,8 +1,8 @@
 //! The pairs of a level's notes, one after another.
 ghost use Rattle.std.specs.Prelude.{◌≡◌, ◌≤◌, length};
-ghost use Rattle.gm_frontier.specs.Lower.{YieldsFirst, item_count};
+ghost use Rattle.std.specs.Iterator.{YieldsFirst, item_count};
 ghost use Rattle.gm_frontier.specs.Pairs.{pairs_of};
-ghost use Rattle.gm_frontier.specs.Rows.{stretch};
+ghost use Rattle.gm_frontier.specs.inner.Rows.{stretch};
 
 use crate::level::Level;
 use crate::note::Note;
@@ -25,7 +25,7 @@ impl<'a, G: Game> Model for Pairs<'a, G> {
     ghost use Rattle.std.specs.Prelude.{ℕ, List, ◌++◌, ◌≤◌, length};
     ghost use Rattle.gm_frontier.specs.Notes.{NoteData};
     ghost use Rattle.gm_frontier.specs.Pairs.{pairs_of};
-    ghost use Rattle.gm_frontier.specs.Rows.{stretch};
+    ghost use Rattle.gm_frontier.specs.inner.Rows.{stretch};
 
     ghost Value = { List (NoteData × ℕ) };
 

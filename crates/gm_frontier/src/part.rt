@@ -1,9 +1,10 @@
 //! The parts that a level is made of.
 ghost use Rattle.std.specs.Prelude.{◌≡◌, ℕ, ◌<◌, ◌^◌, length, slice_get, Some, ◌++◌, OnOk};
-ghost use Rattle.gm_frontier.specs.Lower.{Contains, flat_map, IsHeld};
+ghost use Rattle.std.specs.List.{Contains, flat_map};
+ghost use Rattle.gm_table.specs.Tables.{IsHeld};
 ghost use Rattle.gm_frontier.specs.Notes.{joined};
 ghost use Rattle.gm_frontier.specs.Levels.{IsChildPart, AreRuns};
-ghost use Rattle.gm_frontier.specs.Records.{notes_at, notes_of_tier, AreRecorded};
+ghost use Rattle.gm_frontier.specs.inner.Records.{notes_at, notes_of_tier, AreRecorded};
 
 use crate::note::Note;
 use crate::run::Run;
@@ -54,7 +55,7 @@ impl<'a, G: Game> Model for Part<'a, G> {
 
     ghost Value = { List NoteData };
 
-    ghost use Rattle.gm_frontier.specs.Parts.{notes_from, IsSource};
+    ghost use Rattle.gm_frontier.specs.inner.Parts.{notes_from, IsSource};
 
     ghost view = { λ p. notes_from p.source };
 

@@ -19,7 +19,7 @@ pub(crate) struct Row<G: Game> {
 impl<G: Game> Model for Row<G> {
     ghost use Rattle.std.specs.Prelude.{ℕ, List, drop};
     ghost use Rattle.gm_frontier.specs.Notes.{NoteData};
-    ghost use Rattle.gm_frontier.specs.Rows.{row_pairs};
+    ghost use Rattle.gm_frontier.specs.inner.Rows.{row_pairs};
 
     ghost Value = { List (NoteData × ℕ) };
 

@@ -16,21 +16,21 @@ pub struct Run<G: Game> {
 }
 
 impl<G: Game> Model for Run<G> {
-    ghost use Rattle.gm_frontier.specs.Levels.{RunData, IsRun};
+    ghost use Rattle.gm_frontier.specs.Levels.{RunData, IsRunOfNotes};
 
     ghost Value = { RunData };
 
     ghost view = { λ r. record { place = r.place; lo = r.lo; hi = r.hi; notes = r.notes.items } };
 
-    ghost invariant = { λ r. IsRun G.rules r.place r.lo r.hi r.notes.items };
+    ghost invariant = { λ r. IsRunOfNotes G.rules r.place r.lo r.hi r.notes.items };
 }
 
 impl<G: Game> Run<G> {
-    ghost use Rattle.gm_frontier.specs.Levels.{IsRun};
+    ghost use Rattle.gm_frontier.specs.Levels.{IsRunOfNotes};
 
     /// Makes a run of the notes of the place with indexes from `lo` up to `hi`.
     pub fn of(place: Place, lo: u64, hi: u64, list: Vec<Note<G>>) -> Self
-        requires { IsRun G.rules place lo hi list.items }
+        requires { IsRunOfNotes G.rules place lo hi list.items }
         ensures { result ≡ record { place = place; lo = lo; hi = hi; notes = list.items } }
     {
         Run {
@@ -44,7 +44,7 @@ impl<G: Game> Run<G> {
     /// Returns the notes, ascending by index.
     pub fn list(&self) -> &[Note<G>]
         ensures value { result.now ≡ self.now.notes }
-        ensures run { IsRun G.rules self.now.place self.now.lo self.now.hi self.now.notes }
+        ensures run { IsRunOfNotes G.rules self.now.place self.now.lo self.now.hi self.now.notes }
     {
         self.notes.as_slice()
     }

@@ -1,9 +1,9 @@
 //! How many pairs a piece of a level has into each tile of its tier.
 ghost use Rattle.std.specs.Prelude.{◌≡◌, ℕ, ◌+◌, ◌/◌, ◌<◌, ◌≤◌, ◌^◌, length, slice_index, IfOk, vec_len};
-ghost use Rattle.gm_frontier.specs.Lower.{Contains};
+ghost use Rattle.std.specs.List.{Contains};
 ghost use Rattle.gm_frontier.specs.Notes.{NoteData};
 ghost use Rattle.gm_frontier.specs.Pairs.{pairs_of, piece_of};
-ghost use Rattle.gm_frontier.specs.Tallies.{AreCounts, AreTallies, tile_count, number_into};
+ghost use Rattle.gm_frontier.specs.inner.Tallies.{AreCounts, AreTallies, tile_count, number_into};
 
 use crate::level::Level;
 use crate::pairs::Pairs;
@@ -26,7 +26,7 @@ pub struct Tally<G: Game> {
 }
 
 impl<G: Game> Model for Tally<G> {
-    ghost use Rattle.gm_frontier.specs.Tallies.{TallyData, IsTally};
+    ghost use Rattle.gm_frontier.specs.inner.Tallies.{TallyData, IsTally};
 
     ghost Value = { TallyData };
 
@@ -76,7 +76,7 @@ pub(crate) fn tallied<G: Game>(level: &Level<G>, tallies: &[Tally<G>], lo: u64, 
 }
 
 impl<G: Game> Tally<G> {
-    ghost use Rattle.gm_frontier.specs.Tallies.{IsTally};
+    ghost use Rattle.gm_frontier.specs.inner.Tallies.{IsTally};
 
     /// Makes a tally of counts that are right: one for each tile.
     pub fn of(level: &Level<G>, piece: usize, n: usize, width: u64, counts: Vec<u64>) -> Self

@@ -1,12 +1,13 @@
 -- The parents of a canonical position, from the boards before its board, and the laws of a game on boards.
-use Rattle.gm_game.proofs.Lower.{◌≡◌, ℕ, ◌≤◌, ◌<◌, ◌^◌, true, List, [], map, length, ◌⊎◌, inl, inr, refl, sym, ap, ◌∙◌, subst, arith, ◌↔◌, length-map, Position}
-use Rattle.gm_game.proofs.Lower.{PARENTS, at, IsAscending, IsParent, IsGame, put_all}
+use Rattle.gm_game.proofs.Lower.{◌≡◌, ℕ, ◌≤◌, ◌<◌, ◌^◌, true, List, [], map, length, ◌⊎◌, inl, inr, refl, sym, ap, ◌∙◌, subst, arith, ◌↔◌, Position, at, IsGame, put_all}
+use Rattle.std.proofs.lemmas.List.{length-map}
+use Rattle.gm_game.specs.declared.limits.TheConstants.{PARENTS}
+use Rattle.gm_game.specs.Rules.{IsAscending, IsParent}
 use Rattle.std.specs.List.{Contains}
 use Rattle.gm_game.specs.Boards.{BoardGame, position_of, board_of, least_index, least_image, rules_of, IsBoardGame, IsNumbered, IsSymmetric, IsBefore}
 use Rattle.gm_game.proofs.Lists.{map_in, map_from}
 use Rattle.gm_game.proofs.Putting.{put_all_ascending, put_all_from, put_all_later, put_all_few}
-use Rattle.gm_game.proofs.BoardLaws.{legal_board, legal_below, board_back, position_legal, least_image_is, least_image_same, canonical_child_from}
-use Rattle.gm_game.proofs.BoardLaws.{canonical_child_to, own_tier, image_child, canonical_board, canonical_legal, from_canonical, to_canonical}
+use Rattle.gm_game.proofs.BoardLaws.{legal_board, legal_below, board_back, position_legal, least_image_is, least_image_same, canonical_child_from, canonical_child_to, own_tier, image_child, canonical_board, canonical_legal, from_canonical, to_canonical}
 
 is_parent : {B S : Type 0} (r : BoardGame B S) → IsBoardGame r → IsNumbered r → IsSymmetric r → (c : Position) (t : ℕ) (b : B)
     → (rules_of r).is_legal c ≡ true → (rules_of r).canonical c ≡ c → IsBefore r t (board_of r c) b → IsParent (rules_of r) c t (least_index r b)

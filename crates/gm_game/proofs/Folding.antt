@@ -1,8 +1,8 @@
 -- The least and the greatest with one more record at the end, and how large they can be.
-use Rattle.gm_game.proofs.Lower.{◌≡◌, ℕ, zero, suc, ◌<◌, ◌≤◌, ◌+◌, ◌^◌, min, max, Bool, true, false, ◌&&◌, List, [], ◌∷◌, ◌++◌, map, take, length, get_or}
-use Rattle.gm_game.proofs.Lower.{Contains, IfSome, refl, ap, ◌∙◌, subst, arith, Option, None, Some, is_some, list_all, Position, Value, Lose, Draw, Tie, Win}
-use Rattle.gm_game.proofs.Lower.{End, Solved, Rules, children, IsGame, solved, lost_in, tied_in, won_in, lesser, greater, least_of, all_won, from_end}
-use Rattle.gm_game.proofs.Lower.{IsEvaluated, evaluate, evaluated, map_more, map-append}
+use Rattle.gm_game.proofs.Lower.{◌≡◌, ℕ, zero, suc, ◌<◌, ◌≤◌, ◌+◌, ◌^◌, Bool, true, false, ◌&&◌, List, [], ◌∷◌, ◌++◌, map, take, length, get_or, Contains, refl, ap, ◌∙◌, subst, arith, Option, None, Some, is_some, list_all, Position, Value, Lose, Draw, Tie, Win, End, Solved, Rules, children, IsGame, solved, lost_in, tied_in, won_in, lesser, greater, least_of, all_won, from_end, IsEvaluated, evaluated}
+use Rattle.std.proofs.Common.{min, max, IfSome}
+use Rattle.gm_game.specs.Evaluation.{evaluate}
+use Rattle.std.proofs.lemmas.List.{map_more, map-append}
 use Rattle.gm_game.proofs.Lists.{contains_first, contains_later, map_in}
 use Rattle.gm_game.proofs.Symmetry.{child_legal}
 use Rattle.gm_game.proofs.Evaluated.{evaluated_true}

@@ -1,6 +1,7 @@
 -- The least of a list of numbers.
-use Rattle.gm_game.proofs.Lower.{◌≡◌, ℕ, ◌≤◌, min, List, [], ◌∷◌, ◌⊎◌, inl, inr, refl, sym, ◌∙◌, subst, arith, le_antisymm, fold}
-use Rattle.std.specs.List.{Contains}
+use Rattle.gm_game.proofs.Lower.{◌≡◌, ℕ, ◌≤◌, List, [], ◌∷◌, ◌⊎◌, inl, inr, refl, sym, ◌∙◌, subst, arith}
+use Rattle.std.proofs.Common.{min, le_antisymm}
+use Rattle.std.specs.List.{fold, Contains}
 use Rattle.gm_game.proofs.Lists.{contains_cases, contains_later}
 
 pub least_le_first : (a : ℕ) (xs : List ℕ) → fold min a xs ≤ a

@@ -1,8 +1,11 @@
 -- What a mask picks from an ascending list.
-use Rattle.gm_game.proofs.Lower.{◌≡◌, ◌≢◌, ℕ, zero, suc, ◌+◌, ◌≤◌, ◌⊎◌, inl, inr, ⊎_elim, Bool, true, false, List, [], ◌∷◌, refl, ap, sym, subst, ◌∙◌, arith}
-use Rattle.gm_game.proofs.Lower.{if◌then◌else◌, true≢false, ◌==◌, Some, slice_get, AllByRecursion, Position, is_before, is_same, with_position, AreAscending}
-use Rattle.gm_game.proofs.Lower.{bit_at, Decides-eqb, bit_at-zero, picked_from}
-use Rattle.std.specs.List.{Contains}
+use Rattle.gm_game.proofs.Lower.{◌≡◌, ◌≢◌, ℕ, zero, suc, ◌+◌, ◌≤◌, ◌⊎◌, inl, inr, ⊎_elim, Bool, true, false, List, [], ◌∷◌, refl, ap, sym, subst, ◌∙◌, arith, Some, slice_get, Position, is_before, is_same, with_position, AreAscending}
+use Rattle.std.proofs.Common.{if◌then◌else◌, true≢false, ◌==◌}
+use Rattle.std.specs.List.{AllByRecursion, Contains}
+use Rattle.std.specs.Int.{bit_at}
+use Rattle.std.proofs.lemmas.Bool.Decides.{Decides-eqb}
+use Rattle.std.proofs.lemmas.Nat.Bits.{bit_at-zero}
+use Rattle.gm_game.specs.inner.Masks.{picked_from}
 use Rattle.gm_game.proofs.Lists.{contains_first, contains_later, contains_cases}
 use Rattle.gm_game.proofs.SetLemmas.{has_none, before_itself, before_trans, before_not_same, all_there, is_same_itself, with_by}
 

@@ -1,6 +1,12 @@
 -- What makes a text plain: each of its characters, and a number in decimal.
-use Rattle.gm_game.proofs.Lower.{◌≡◌, ℕ, ◌<◌, ◌≤◌, ◌^◌, true, List, [], ◌∷◌, ◌++◌, map, refl, ◌∙◌, arith, and_from, nat_tests, decimal_is_IsNumeral, decimal}
-use Rattle.gm_game.proofs.Lower.{AllDigits, list_all-append, digit_from_value, is_plain, IsPlain}
+use Rattle.gm_game.proofs.Lower.{◌≡◌, ℕ, ◌<◌, ◌≤◌, ◌^◌, true, List, [], ◌∷◌, ◌++◌, map, refl, ◌∙◌, arith, nat_tests}
+use Rattle.std.proofs.lemmas.Bool.{and_from}
+use Rattle.std.proofs.lemmas.Fmt.{decimal_is_IsNumeral}
+use Rattle.std.specs.Fmt.{decimal}
+use Rattle.std.specs.Str.Parse.{AllDigits}
+use Rattle.std.proofs.lemmas.List.Folds.{list_all-append}
+use Rattle.std.proofs.lemmas.Str.Parse.{digit_from_value}
+use Rattle.gm_game.specs.Shown.{is_plain, IsPlain}
 
 pub plain_in : (c : ℕ) → 32 ≤ c → c ≤ 126 → is_plain c ≡ true
 plain_in c low high = grind (arith, nat_tests)

@@ -1,7 +1,10 @@
 -- Numbers put into an ascending list, one at a time.
-use Rattle.gm_game.proofs.Lower.{◌≡◌, ℕ, ◌+◌, ◌<◌, ◌≤◌, true, false, ltb, eqb, List, [], ◌∷◌, length, get_or, zero, suc, lt-ltb, ◌⊎◌, inl, inr, refl, sym}
-use Rattle.gm_game.proofs.Lower.{subst, arith, nat_tests, cases_lt, cases_eq, IsAscending, put, put_all, insert}
-use Rattle.std.specs.List.{Contains}
+use Rattle.gm_game.proofs.Lower.{◌≡◌, ℕ, ◌+◌, ◌<◌, ◌≤◌, true, false, List, [], ◌∷◌, length, get_or, zero, suc, ◌⊎◌, inl, inr, refl, sym, subst, arith, nat_tests, cases_lt, put_all}
+use Rattle.std.proofs.Common.{ltb, eqb, lt-ltb}
+use Rattle.std.proofs.lemmas.Bool.{cases_eq}
+use Rattle.gm_game.specs.Rules.{IsAscending}
+use Rattle.gm_game.specs.Ascending.{put}
+use Rattle.std.specs.List.{insert, Contains}
 use Rattle.gm_game.proofs.Lists.{contains_first, contains_later, contains_cases}
 
 -- put, where what is before the place is less and what is at it is greater

@@ -1,8 +1,11 @@
 -- Sets of positions as ascending lists.
-use Rattle.gm_game.proofs.Lower.{◌≡◌, ℕ, zero, suc, ◌+◌, ◌≤◌, ◌⊎◌, inl, inr, ⊎_elim, Bool, true, false, List, [], ◌∷◌, take, length, refl, ap, sym, subst, ◌∙◌}
-use Rattle.gm_game.proofs.Lower.{arith, cond, if◌then◌else◌, true≢false, Some, slice_get, AllByRecursion, nat_tests, Position, at, is_before, is_same}
-use Rattle.gm_game.proofs.Lower.{false_from_ne_true, with_position, place_in, set_of, AreAscending, prefix_len, Decides, IsEquivalence, is_member}
-use Rattle.std.specs.List.{Contains, insert as insert_at, IsDistinct}
+use Rattle.gm_game.proofs.Lower.{◌≡◌, ℕ, zero, suc, ◌+◌, ◌≤◌, ◌⊎◌, inl, inr, ⊎_elim, Bool, true, false, List, [], ◌∷◌, take, length, refl, ap, sym, subst, ◌∙◌, arith, Some, slice_get, nat_tests, Position, at, is_before, is_same, false_from_ne_true, with_position, AreAscending}
+use Rattle.std.proofs.Common.{cond, if◌then◌else◌, true≢false}
+use Rattle.std.specs.List.{AllByRecursion, prefix_len, Contains, insert as insert_at, IsDistinct}
+use Rattle.gm_game.specs.Children.{place_in, set_of}
+use Rattle.std.specs.Bool.{Decides}
+use Rattle.std.specs.Cmp.{IsEquivalence}
+use Rattle.std.specs.Set.{is_member}
 use Rattle.std.proofs.lemmas.Map.Made.{length-le_from_is_member, is_member-Decides}
 use Rattle.gm_game.proofs.Lists.{contains_first, contains_later, contains_cases}
 

@@ -1,6 +1,6 @@
 -- A position's record is the one that any list of its canonical children gives.
-use Rattle.gm_game.proofs.Lower.{◌≡◌, ℕ, ◌↔◌, List, map, Contains, refl, ap, ◌∙◌, subst, arith, Option, None, Some, Position, Solved, Rules, children}
-use Rattle.gm_game.proofs.Lower.{IsCanonicalChild, lost_in, tied_in, least_of, all_won, from_children, settled_by}
+use Rattle.gm_game.proofs.Lower.{◌≡◌, ℕ, ◌↔◌, List, map, Contains, refl, ap, ◌∙◌, subst, arith, Option, None, Some, Position, Solved, Rules, children, IsCanonicalChild, lost_in, tied_in, least_of, all_won, settled_by}
+use Rattle.gm_game.specs.Records.{from_children}
 use Rattle.gm_game.proofs.Lists.{map_in, map_from}
 use Rattle.gm_game.proofs.Within.{IsWithin, least_in, least_from, all_won_in, all_won_from}
 use Rattle.gm_game.proofs.Settled.{settled_open}

@@ -4,7 +4,6 @@ pub mod Laws
 pub mod Shown
 pub mod Values
 pub mod Children
-pub mod Masks
 pub mod Records
 pub mod Places
 pub mod Numbers
@@ -12,3 +11,4 @@ pub mod Settling
 pub mod Evaluation
 pub mod Ascending
 pub mod Boards
+pub mod inner

@@ -1,8 +1,7 @@
 //! Looking ahead: values by the definitions themselves, over raw positions.
 ghost use Rattle.std.specs.Prelude.{◌≡◌, ℕ, true, ◌+◌, ◌<◌, ◌^◌, IfSome};
 ghost use Rattle.gm_game.specs.Evaluation.{evaluated, IsEvaluated, choose as choose_spec};
-ghost use Rattle.gm_game.specs.Records.{solved, lesser as lesser_spec, greater as greater_spec, lost_in as lost_in_spec, won_in as won_in_spec};
-ghost use Rattle.gm_game.specs.Records.{tied_in as tied_in_spec};
+ghost use Rattle.gm_game.specs.Records.{solved, lesser as lesser_spec, greater as greater_spec, lost_in as lost_in_spec, won_in as won_in_spec, tied_in as tied_in_spec};
 
 use crate::evaluate::of_end;
 use crate::game::Game;

@@ -1,5 +1,7 @@
 -- Blocks of a tier, one after another.
-use Rattle.gm_immediate.proofs.Lower.{◌≡◌, ℕ, zero, suc, ◌+◌, List, [], ◌∷◌, ◌++◌, length, slice_get, Some, subst, arith, AllZip, ◌-◌, ◌≤◌, ◌∙◌, range_with_len}
+use Rattle.gm_immediate.proofs.Lower.{◌≡◌, ℕ, ◌+◌, List, [], ◌∷◌, ◌++◌, length, Some, subst, arith, AllZip, ◌-◌, ◌≤◌, ◌∙◌}
+use Rattle.std.proofs.Common.{zero, suc, slice_get}
+use Rattle.std.specs.List.{range_with_len}
 
 -- an item that goes with the numbers from n on has the property of its number
 pub zip_at : {X : Type 0} (R : ℕ → X → Type 0) (n : ℕ) (xs : List X) → AllZip R (range_with_len n (length xs)) xs → (k : ℕ) (x : X)

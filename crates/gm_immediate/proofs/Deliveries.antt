@@ -1,9 +1,18 @@
 -- Deliveries into ranges of a tier.
-use Rattle.gm_immediate.proofs.Lower.{◌≡◌, ℕ, ◌+◌, ◌<◌, ◌≤◌, ◌⊎◌, ◌↔◌, inl, inr, Bool, true, List, [], ◌++◌, length, map, filter, refl, ap, sym, subst, arith}
-use Rattle.gm_immediate.proofs.Lower.{length-append, Contains, cases_lt, length-map, Position, Draw, Rules, at, IsInner, IsCanonicalChild, AreHoles, IsGame}
-use Rattle.gm_immediate.proofs.Lower.{HasValue, AreThere, AreOnce, contains_none, no_repeats_to, no_repeats_append, IsDelivery, AreDeliveries, IsDeliveryIn}
-use Rattle.gm_immediate.proofs.Lower.{map_from, map_in, no_repeats_from, no_repeats_map, no_repeats_filter, in_filter, filter_has, Option, REMOTENESS, Solved}
-use Rattle.gm_immediate.proofs.Lower.{IsTrueTable, HasValue_once, IsTooFar, canonical_record}
+use Rattle.gm_immediate.proofs.Lower.{◌≡◌, ℕ, ◌+◌, ◌<◌, ◌≤◌, inl, inr, true, List, [], ◌++◌, length, refl, ap, sym, subst, arith, length-append, Contains, Position, Rules, at, IsGame, AreThere, IsDeliveryIn, Option, REMOTENESS, Solved, IsTooFar}
+use Rattle.std.proofs.Common.{◌⊎◌, ◌↔◌, Bool, map, filter}
+use Rattle.std.proofs.lemmas.Bool.{cases_lt}
+use Rattle.std.proofs.lemmas.List.{length-map}
+use Rattle.gm_game.specs.declared.position.Value.TheVariants.{Draw}
+use Rattle.gm_game.specs.Rules.{IsInner, IsCanonicalChild, AreHoles}
+use Rattle.gm_game.specs.Values.{HasValue}
+use Rattle.gm_immediate.specs.inner.Gathered.{AreOnce}
+use Rattle.gm_game.proofs.Lists.{contains_none, map_from, map_in}
+use Rattle.gm_table.proofs.Distinct.{no_repeats_to, no_repeats_append, no_repeats_from, no_repeats_map, no_repeats_filter, in_filter, filter_has}
+use Rattle.gm_table.specs.Solving.{IsDelivery, AreDeliveries}
+use Rattle.gm_game.specs.Records.{IsTrueTable}
+use Rattle.gm_game.proofs.Basic.{HasValue_once}
+use Rattle.gm_table.proofs.ValueLemmas.{canonical_record}
 use Rattle.std.proofs.lemmas.List.Elements.{Contains-append_left, Contains-append_right, Contains-append_cases}
 
 -- things of one of two kinds that have nothing in common

@@ -1,9 +1,13 @@
 -- Each position of a list once.
-use Rattle.gm_immediate.proofs.Lower.{◌≡◌, ℕ, ◌+◌, ◌%◌, ◌<◌, ◌≤◌, inl, inr, Bool, true, false, List, [], ◌∷◌, ◌++◌, length, length-append, take, get_or, set}
-use Rattle.gm_immediate.proofs.Lower.{get_or-set_other, get_or-set_same, sym, subst, ◌∙◌, arith, Contains, take_more, cases_eq, Position, HasSame}
-use Rattle.gm_immediate.proofs.Lower.{contains_none, contains_first, no_repeats_append, AreMarked}
+use Rattle.gm_immediate.proofs.Lower.{◌≡◌, ℕ, ◌+◌, ◌<◌, ◌≤◌, inl, inr, true, List, [], ◌∷◌, ◌++◌, length, length-append, get_or, sym, subst, ◌∙◌, arith, Contains, Position}
+use Rattle.std.proofs.Common.{◌%◌, Bool, false, take, set, get_or-set_other, get_or-set_same}
+use Rattle.std.proofs.lemmas.List.{take_more, length-set}
+use Rattle.std.proofs.lemmas.Bool.{cases_eq}
+use Rattle.gm_game.specs.Children.{HasSame}
+use Rattle.gm_game.proofs.Lists.{contains_none, contains_first}
+use Rattle.gm_table.proofs.Distinct.{no_repeats_append}
+use Rattle.gm_immediate.specs.inner.Gathered.{AreMarked}
 use Rattle.std.proofs.lemmas.List.Elements.{Contains-push_cases, Contains-append_left, Contains-append_right}
-use Rattle.std.proofs.lemmas.List.{length-set}
 use Rattle.gm_game.proofs.Counts.{HasNoRepeats}
 
 -- of the first n positions of a list each stands once in `once`, and is marked

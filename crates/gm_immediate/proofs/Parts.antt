@@ -1,9 +1,17 @@
 -- True records of parts of a tier.
-use Rattle.gm_immediate.proofs.Lower.{◌≡◌, ℕ, zero, suc, ◌+◌, ◌-◌, ◌<◌, ◌≤◌, inl, inr, List, [], ◌∷◌, ◌++◌, length, length-append, replicate, get_or, min}
-use Rattle.gm_immediate.proofs.Lower.{Option, None, Some, Result, slice_get, refl, sym, ap, subst, ◌∙◌, arith, AllZip, range_with_len, REMOTENESS, Solved}
-use Rattle.gm_immediate.proofs.Lower.{Rules, at, AreHoles, IsTrueValue, IsRecord, IsTrueTable, append_cases, slice_get-get_or, length-replicate, block_in}
-use Rattle.gm_immediate.proofs.Lower.{ArePart, IsGame, AreThere, AreDeliveries, IsDeliveryIn, IsFound, MOVES, Stop, IsBlock, AreFound}
-use Rattle.std.proofs.Common.{◌*◌}
+use Rattle.gm_immediate.proofs.Lower.{◌≡◌, ℕ, ◌+◌, ◌-◌, ◌<◌, ◌≤◌, inl, inr, List, [], ◌∷◌, ◌++◌, length, length-append, get_or, Option, Some, refl, sym, ap, subst, ◌∙◌, arith, AllZip, REMOTENESS, Solved, Rules, at, block_in, IsGame, AreThere, IsDeliveryIn, IsBlockFound}
+use Rattle.std.proofs.Common.{zero, suc, replicate, min, None, Result, slice_get, ◌*◌}
+use Rattle.std.specs.List.{range_with_len}
+use Rattle.gm_game.specs.Rules.{AreHoles}
+use Rattle.gm_game.specs.Values.{IsTrueValue}
+use Rattle.gm_game.specs.Records.{IsRecord, IsTrueTable}
+use Rattle.gm_table.proofs.Dealt.{append_cases}
+use Rattle.std.proofs.lemmas.Option.{slice_get-get_or}
+use Rattle.std.proofs.lemmas.List.{length-replicate}
+use Rattle.gm_table.specs.Solving.{ArePart, AreDeliveries}
+use Rattle.gm_game.specs.declared.limits.TheConstants.{MOVES}
+use Rattle.gm_immediate.specs.declared.stop.Stop.{Stop}
+use Rattle.gm_immediate.specs.OnePass.{IsBlock, AreFound}
 use Rattle.gm_immediate.proofs.BlockLemmas.{zip_at}
 use Rattle.gm_immediate.proofs.Deliveries.{deliveries_start, deliveries_join, deliveries_holes, deliveries_whole}
 
@@ -39,12 +47,12 @@ part_whole r tier records long part = record {
 
 -- what passes over all blocks find, by the numbers of their places
 pub found_by_zip : (r : Rules) (tier rows : ℕ) (found : List (Result (List (Option Solved) × ℕ) Stop))
-    → (length found ≡ rows * 32) × AllZip (λ place x. IsFound r tier (block_in rows place) x) (range_with_len 0 (length found)) found
+    → (length found ≡ rows * 32) × AllZip (λ place x. IsBlockFound r tier (block_in rows place) x) (range_with_len 0 (length found)) found
     → AreFound r tier rows found
 found_by_zip r tier rows found (many, zip) = record {
   many = many;
-  each = λ place x e. subst (λ (k : ℕ). IsFound r tier (block_in rows k) x) (let same : 0 + place ≡ place = omega arith in same)
-      (zip_at (λ k y. IsFound r tier (block_in rows k) y) 0 found zip place x e);
+  each = λ place x e. subst (λ (k : ℕ). IsBlockFound r tier (block_in rows k) x) (let same : 0 + place ≡ place = omega arith in same)
+      (zip_at (λ k y. IsBlockFound r tier (block_in rows k) y) 0 found zip place x e);
 }
 
 -- ---- a range, one index after another
@@ -169,8 +177,8 @@ joined_deliveries r g tier k all number h enough =
 -- what was found at a place
 pub found_at : (r : Rules) (tier rows : ℕ) (found : List (Result (List (Option Solved) × ℕ) Stop)) (place block : ℕ)
     (x : Result (List (Option Solved) × ℕ) Stop) → AreFound r tier rows found → place < rows * 32 → block_in rows place ≡ block → x ≡ get_or found place x
-    → IsFound r tier block x
+    → IsBlockFound r tier block x
 found_at r tier rows found place block x are below is e =
     let many = are.many in
     let inside : place < length found = omega arith in
-    subst (λ (k : ℕ). IsFound r tier k x) is (are.each place x (slice_get-get_or found place x inside ∙ ap Some (sym e)))
+    subst (λ (k : ℕ). IsBlockFound r tier k x) is (are.each place x (slice_get-get_or found place x inside ∙ ap Some (sym e)))

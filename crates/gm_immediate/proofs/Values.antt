@@ -1,11 +1,26 @@
 -- The value of a position whose canonical children the tables know.
-use Rattle.gm_immediate.proofs.Lower.{◌≡◌, ℕ, ◌+◌, ◌<◌, ◌≤◌, ◌↔◌, inl, inr, true, not, List, [], ◌∷◌, length, map, filter, Option, None, Some, IsSome, IfSome}
-use Rattle.gm_immediate.proofs.Lower.{refl, sym, ap, subst, ◌∙◌, arith, Contains, REMOTENESS, Position, Solved, Draw, Rules, IsInner, IsCanonicalChild, IsGame}
-use Rattle.gm_immediate.proofs.Lower.{HasValue, IsTrueValue, HasValue_once, contains_first, Summary, TableData, AreHeld, value_in, IsTooFar, is_decided}
-use Rattle.gm_immediate.proofs.Lower.{filter-map, length-map, length-filter_both, Value, Lose, Tie, Win, AreResults, lost_in, won_in, tied_in, lesser, greater}
-use Rattle.gm_immediate.proofs.Lower.{least_of, all_won, settle, solved, IsKnown, contains_later, map_in, near_child, CacheData, IsSumOf, other_record}
-use Rattle.gm_immediate.proofs.Lower.{other_table, IsSummary, AreTables, map_same, other_held, other_none, other_value, settled_results, known_value}
-use Rattle.gm_immediate.proofs.Lower.{IsGathered}
+use Rattle.gm_immediate.proofs.Lower.{◌≡◌, ℕ, ◌+◌, ◌<◌, ◌≤◌, inl, inr, true, List, [], ◌∷◌, length, Option, Some, refl, sym, ap, subst, ◌∙◌, arith, Contains, REMOTENESS, Position, Solved, Rules, IsGame, IsTooFar}
+use Rattle.std.proofs.Common.{◌↔◌, not, map, filter, None, IsSome, IfSome}
+use Rattle.gm_game.specs.declared.position.Value.TheVariants.{Draw, Lose, Tie, Win}
+use Rattle.gm_game.specs.Rules.{IsInner, IsCanonicalChild}
+use Rattle.gm_game.specs.Values.{HasValue, IsTrueValue}
+use Rattle.gm_game.proofs.Basic.{HasValue_once}
+use Rattle.gm_game.proofs.Lists.{contains_first, contains_later, map_in}
+use Rattle.gm_table.specs.declared.summary.Summary.{Summary}
+use Rattle.gm_table.specs.Tables.{TableData, AreHeld, value_in, AreTables}
+use Rattle.gm_table.specs.inner.Shorts.{is_decided, IsSummary}
+use Rattle.rayon.proofs.ToStd.{filter-map}
+use Rattle.std.proofs.lemmas.List.{length-map}
+use Rattle.std.proofs.lemmas.List.Filters.{length-filter_both}
+use Rattle.gm_game.specs.declared.position.Value.{Value}
+use Rattle.gm_game.specs.Children.{AreResults}
+use Rattle.gm_game.specs.Records.{lost_in, won_in, tied_in, lesser, greater, least_of, all_won, settle, solved, IsKnown}
+use Rattle.gm_game.proofs.Symmetry.{near_child}
+use Rattle.gm_table.specs.inner.Caches.{CacheData, IsSumOf, other_record, other_table}
+use Rattle.gm_table.proofs.CacheLemmas.{map_same, other_held, other_none, other_value}
+use Rattle.gm_table.proofs.CheckLemmas.{settled_results}
+use Rattle.gm_table.proofs.ValueLemmas.{known_value}
+use Rattle.gm_immediate.specs.inner.Gathered.{IsGathered}
 use Rattle.gm_game.proofs.Settled.{known_since, known_record, value_from_children}
 
 -- there is no number, or it is within the limit

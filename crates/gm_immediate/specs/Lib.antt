@@ -1,3 +1,2 @@
-pub mod Gathered
 pub mod OnePass
-pub mod Lower
+pub mod inner

@@ -1,6 +1,13 @@
 -- What one pass over a tier finds, whole or in parts.
 use Rattle.std.specs.Prelude.{◌≡◌, ℕ, ◌+◌, ◌*◌, ◌<◌, ◌≤◌, suc, min, List, length, Option, Some, Result, Ok, Err, slice_get}
-use Rattle.gm_immediate.specs.Lower.{REMOTENESS, MOVES, Position, Rules, IsTrueTable, AreThere, ArePart, block_in, IsTooFar, Solved, IsParent, IsDelivery}
+use Rattle.gm_game.specs.declared.limits.TheConstants.{REMOTENESS, MOVES}
+use Rattle.gm_game.specs.declared.position.Position.{Position}
+use Rattle.gm_game.specs.Rules.{Rules, IsParent}
+use Rattle.gm_game.specs.Records.{IsTrueTable}
+use Rattle.gm_game.specs.Numbers.{AreThere}
+use Rattle.gm_table.specs.Solving.{ArePart, IsTooFar, IsDelivery}
+use Rattle.gm_table.specs.inner.Dealing.{block_in}
+use Rattle.gm_game.specs.declared.position.Solved.{Solved}
 use Rattle.gm_immediate.specs.declared.stop.Stop.{Stop}
 use Rattle.gm_immediate.specs.declared.stop.Stop.TheVariants.{OutOfMemory, Stays, TooFar}
 
@@ -35,14 +42,14 @@ pub record IsBlock (r : Rules) (tier k : ℕ) (records : List (Option Solved)) (
   pub few : number ≤ MOVES * length records
 
 -- what a pass over block k finds
-abbrev pub IsFinding : Rules → ℕ → ℕ → Result (List (Option Solved) × ℕ) Stop → Type 0
-IsFinding r tier k (Ok found) = IsBlock r tier k found.0 found.1
-IsFinding r tier k (Err stop) = IsStop r tier stop
+abbrev pub IsBlockFinding : Rules → ℕ → ℕ → Result (List (Option Solved) × ℕ) Stop → Type 0
+IsBlockFinding r tier k (Ok found) = IsBlock r tier k found.0 found.1
+IsBlockFinding r tier k (Err stop) = IsStop r tier stop
 
-pub record IsFound (r : Rules) (tier k : ℕ) (x : Result (List (Option Solved) × ℕ) Stop) : Type 0 where
-  pub finding : IsFinding r tier k x
+pub record IsBlockFound (r : Rules) (tier k : ℕ) (x : Result (List (Option Solved) × ℕ) Stop) : Type 0 where
+  pub finding : IsBlockFinding r tier k x
 
 -- what passes over all blocks find, each at the place at which its block is settled
 pub record AreFound (r : Rules) (tier rows : ℕ) (found : List (Result (List (Option Solved) × ℕ) Stop)) : Type 0 where
   pub many : length found ≡ rows * 32
-  pub each : (place : ℕ) (x : Result (List (Option Solved) × ℕ) Stop) → slice_get found place ≡ Some x → IsFound r tier (block_in rows place) x
+  pub each : (place : ℕ) (x : Result (List (Option Solved) × ℕ) Stop) → slice_get found place ≡ Some x → IsBlockFound r tier (block_in rows place) x

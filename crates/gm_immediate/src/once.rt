@@ -1,7 +1,9 @@
 //! Each position of a list once.
 ghost use Rattle.std.specs.Prelude.{◌≡◌, ◌%◌, ◌<◌, ◌≤◌, ◌↔◌, IsTrue, length};
-ghost use Rattle.gm_immediate.specs.Lower.{Contains, MOVES, HasSame};
-ghost use Rattle.gm_immediate.specs.Gathered.{IsOnce, AreMarked};
+ghost use Rattle.std.specs.List.{Contains};
+ghost use Rattle.gm_game.specs.declared.limits.TheConstants.{MOVES};
+ghost use Rattle.gm_game.specs.Children.{HasSame};
+ghost use Rattle.gm_immediate.specs.inner.Gathered.{IsOnce, AreMarked};
 
 use arrayvec::ArrayVec;
 use gm_game::limits::MOVES;

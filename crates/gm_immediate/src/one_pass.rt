@@ -1,7 +1,10 @@
 //! One pass over a tier, block by block of its indexes.
 ghost use Rattle.std.specs.Prelude.{◌≡◌, ◌*◌, ◌≤◌, IfOk, IfErr, OnOk};
-ghost use Rattle.gm_immediate.specs.Lower.{AreHeld, block_in, AreDeliveries, IsTooFar, TIER_SIZE};
-ghost use Rattle.gm_immediate.specs.OnePass.{IsStop, AreTrue, IsFound, AreFound};
+ghost use Rattle.gm_table.specs.Tables.{AreHeld};
+ghost use Rattle.gm_table.specs.inner.Dealing.{block_in};
+ghost use Rattle.gm_table.specs.Solving.{AreDeliveries, IsTooFar};
+ghost use Rattle.gm_game.specs.declared.limits.TheConstants.{TIER_SIZE};
+ghost use Rattle.gm_immediate.specs.OnePass.{IsStop, AreTrue, IsBlockFound, AreFound};
 
 use crate::observer::Observer;
 use crate::range::settle_range;
@@ -45,7 +48,7 @@ impl<'a, G: Game, O: Observer> OnePass<'a, G, O> {
 
     // Settles the block that belongs to a place.
     fn settle_block(&self, alloc: Global, place: u32) -> Result<(Packed, u64), Stop>
-        ensures { IsFound G.rules self.now.tier (block_in self.now.dealing.rows place) result }
+        ensures { IsBlockFound G.rules self.now.tier (block_in self.now.dealing.rows place) result }
     {
         let (lo, hi) = self.dealing.range(place);
         settle_range::<G>(alloc, self.tables, self.tier, lo, hi)
@@ -53,7 +56,7 @@ impl<'a, G: Game, O: Observer> OnePass<'a, G, O> {
 
     // Settles the block that belongs to a place, and reports its indexes to the observer.
     fn settle_and_report(&self, alloc: Global, place: u32) -> Result<(Packed, u64), Stop>
-        ensures { IsFound G.rules self.now.tier (block_in self.now.dealing.rows place) result }
+        ensures { IsBlockFound G.rules self.now.tier (block_in self.now.dealing.rows place) result }
     {
         let found = self.settle_block(alloc, place);
         let (lo, hi) = self.dealing.range(place);
@@ -126,7 +129,7 @@ impl<'a, G: Game + Send + Sync, O: Observer> OnePass<'a, G, O> {
             .with_min_len((blocks as usize).div_ceil(workers))
             .map(
                 |place: u32| -> Result<(Packed, u64), Stop>
-                    ensures { IsFound G.rules self.entry.now.tier (block_in self.entry.now.dealing.rows place) result }
+                    ensures { IsBlockFound G.rules self.entry.now.tier (block_in self.entry.now.dealing.rows place) result }
                 { self.settle_and_report(alloc, place) },
             )
             .collect(rt, alloc)

@@ -1,7 +1,13 @@
 //! One position of a tier.
 ghost use Rattle.std.specs.Prelude.{◌≡◌, ◌≤◌, ◌+◌, None, Some, IfOk, IfErr};
-ghost use Rattle.gm_immediate.specs.Lower.{MOVES, REMOTENESS, AreThere, AreResults, AreHeld, IsRecord, IsCanonical, IsInner, IsTrueValue};
-ghost use Rattle.gm_immediate.specs.Gathered.{AreOnce};
+ghost use Rattle.gm_game.specs.declared.limits.TheConstants.{MOVES, REMOTENESS};
+ghost use Rattle.gm_game.specs.Numbers.{AreThere};
+ghost use Rattle.gm_game.specs.Children.{AreResults};
+ghost use Rattle.gm_table.specs.Tables.{AreHeld};
+ghost use Rattle.gm_game.specs.Records.{IsRecord};
+ghost use Rattle.gm_game.specs.Rules.{IsCanonical, IsInner};
+ghost use Rattle.gm_game.specs.Values.{IsTrueValue};
+ghost use Rattle.gm_immediate.specs.inner.Gathered.{AreOnce};
 ghost use Rattle.gm_immediate.specs.OnePass.{IsDeliveryIn, IsStop};
 
 use crate::once::list_once;

@@ -1,6 +1,9 @@
 //! A range of a tier.
 ghost use Rattle.std.specs.Prelude.{◌≡◌, ◌≤◌, ◌+◌, ◌*◌, IfOk, IfErr, length};
-ghost use Rattle.gm_immediate.specs.Lower.{MOVES, TIER_SIZE, AreThere, AreHeld, ArePart};
+ghost use Rattle.gm_game.specs.declared.limits.TheConstants.{MOVES, TIER_SIZE};
+ghost use Rattle.gm_game.specs.Numbers.{AreThere};
+ghost use Rattle.gm_table.specs.Tables.{AreHeld};
+ghost use Rattle.gm_table.specs.Solving.{ArePart};
 ghost use Rattle.gm_immediate.specs.OnePass.{IsDeliveryIn, IsStop};
 
 use crate::position::{ChildLists, settle_position};

@@ -1,6 +1,8 @@
 //! A tier in which no move stays, settled in one pass.
 ghost use Rattle.std.specs.Prelude.{◌≡◌, ◌≤◌, IfOk, IfErr, OnOk};
-ghost use Rattle.gm_immediate.specs.Lower.{TIER_SIZE, AreHeld, IsTable, IsTooFar, AreDeliveries};
+ghost use Rattle.gm_game.specs.declared.limits.TheConstants.{TIER_SIZE};
+ghost use Rattle.gm_table.specs.Tables.{AreHeld, IsTable};
+ghost use Rattle.gm_table.specs.Solving.{IsTooFar, AreDeliveries};
 ghost use Rattle.gm_immediate.specs.OnePass.{IsStaying, IsStop};
 
 use crate::observer::Observer;

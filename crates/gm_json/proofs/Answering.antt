@@ -1,7 +1,14 @@
 -- The answer about a position, put together.
-use Rattle.gm_json.proofs.Lower.{◌≡◌, ℕ, Bool, true, false, List, refl, sym, ap, ◌∙◌, if◌then◌else◌, Members, member, compact_text, Position, Solved, Rules}
-use Rattle.gm_json.proofs.Lower.{MoveValue, AreMovesOf, move_trees, position_members, extras, object, chosen, Asked, answer_members, IsPositionJson, IsTold}
-use Rattle.gm_json.proofs.Lower.{None, Some, inl, inr, subst, IsAnswer, IsAskedAs, IsAskedAsNone, error_tree, without_return}
+use Rattle.gm_json.proofs.Lower.{◌≡◌, ℕ, Bool, true, false, List, refl, sym, ap, ◌∙◌, if◌then◌else◌, Members, member, compact_text, Position, Rules, MoveValue, move_trees, position_members, None, Some, inl, inr, subst, IsAnswer}
+use Rattle.gm_game.specs.declared.position.Solved.{Solved}
+use Rattle.gm_play.specs.PlayTexts.{AreMovesOf}
+use Rattle.gm_json.specs.Extras.{extras}
+use Rattle.serde_json.specs.Data.{object}
+use Rattle.gm_play.specs.Firsts.{chosen}
+use Rattle.gm_json.specs.declared.asked.Asked.{Asked}
+use Rattle.gm_json.specs.Answers.{answer_members, IsPositionJson, IsReported, error_tree}
+use Rattle.gm_json.specs.Places.{IsAskedAs, IsAskedAsNone}
+use Rattle.gm_play.specs.Dialogue.{without_return}
 use Rattle.std.specs.Prelude.{codes, ◌↔◌}
 
 not_both : (b : Bool) → b ≡ true → b ≡ false → ⊥
@@ -10,7 +17,7 @@ not_both false e h = let z : ⊥ = cc in z
 
 module _ (r : Rules) (shown : Position → List ℕ) (move_shown : Position → ℕ → List ℕ) (asked : Asked) (tiers out : List ℕ) (p : Position)
     (legal : r.is_legal p ≡ true) where
-  pub with_moves : (xs : List MoveValue) → AreMovesOf r asked.distinct p xs → IsTold r shown move_shown asked tiers p xs out → IsPositionJson r shown
+  pub with_moves : (xs : List MoveValue) → AreMovesOf r asked.distinct p xs → IsReported r shown move_shown asked tiers p xs out → IsPositionJson r shown
       move_shown asked tiers (shown p) out
   with_moves xs found told = record {
     position = p;
@@ -34,7 +41,7 @@ module _ (r : Rules) (shown : Position → List ℕ) (move_shown : Position → 
       (move_trees r shown move_shown p zs) tail in
       ap (told xs) e ∙ sym (ap (told ys) e)
 
-  pub without_moves : (xs : List MoveValue) → asked.values ≡ true → IsTold r shown move_shown asked tiers p xs out → IsPositionJson r shown move_shown asked
+  pub without_moves : (xs : List MoveValue) → asked.values ≡ true → IsReported r shown move_shown asked tiers p xs out → IsPositionJson r shown move_shown asked
       tiers (shown p) out
   without_moves xs e told = record {
     position = p;

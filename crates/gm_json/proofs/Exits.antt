@@ -1,5 +1,8 @@
 -- What is known at the exits of a service.
-use Rattle.gm_json.proofs.Lower.{◌≡◌, ℕ, List, [], take, Option, Some, None, OnOk, sym, subst, Consumes, Keeps, Result, Ok, Err, IfErr, OnErr, IsErrAnd}
+use Rattle.gm_json.proofs.Lower.{◌≡◌, ℕ, List, [], take, Option, Some, None, sym, subst, Consumes}
+use Rattle.std.proofs.Common.{OnOk, Result, Ok, Err, IfErr, OnErr}
+use Rattle.std.specs.Io.KnownBytes.{Keeps}
+use Rattle.std.specs.Result.{IsErrAnd}
 
 -- an error that is passed on broke what it broke
 pub passed : {T E : Type 0} → (r : Result T E) (Q : E → Type 0) (e : E) → IsErrAnd r (λ y. y ≡ e) → Q e → IfErr r Q

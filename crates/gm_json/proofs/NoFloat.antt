@@ -1,5 +1,9 @@
 -- The trees of found positions have no float.
-use Rattle.gm_json.proofs.Lower.{◌≡◌, ℕ, false, List, Option, None, Some, refl, Data, Position, has_float, Found, found_tree, move_or_null}
+use Rattle.gm_json.proofs.Lower.{◌≡◌, ℕ, false, List, Option, None, Some, refl, Data, Position}
+use Rattle.serde_json.specs.Written.{has_float}
+use Rattle.gm_find.specs.declared.found.Found.{Found}
+use Rattle.gm_json.specs.Founds.{found_tree}
+use Rattle.gm_json.specs.Words.{move_or_null}
 
 module _ (shown : Position → List ℕ) (move_shown : Position → ℕ → List ℕ) where
   best_no_float : (p : Position) (o : Option ℕ) → has_float (move_or_null move_shown p o) ≡ false

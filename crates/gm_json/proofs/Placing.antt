@@ -1,7 +1,8 @@
 -- The words of a line that names a tier and an index.
-use Rattle.gm_json.proofs.Lower.{◌≡◌, ◌<◌, ◌==◌, ◌+◌, ◌++◌, ◌∷◌, [], List, ℕ, Bool, Option, Some, None, inl, inr, length, take, drop, get_or, suc, true, false}
-use Rattle.gm_json.proofs.Lower.{refl, sym, ap, ap₂, subst, ◌∙◌, arith, length-append, decimal, Position, at, IsPlaceLine}
-use Rattle.std.proofs.Common.{◌%◌, ◌^◌, ◌≤◌, ◌-◌}
+use Rattle.gm_json.proofs.Lower.{◌≡◌, ◌<◌, ◌==◌, ◌+◌, ◌++◌, ◌∷◌, [], List, ℕ, Bool, Option, Some, None, inl, inr, length, take, drop, get_or, true, false, refl, sym, ap, ap₂, subst, ◌∙◌, arith, length-append, Position, at}
+use Rattle.std.proofs.Common.{suc, ◌%◌, ◌^◌, ◌≤◌, ◌-◌}
+use Rattle.std.specs.Fmt.{decimal}
+use Rattle.gm_json.specs.Places.{IsPlaceLine}
 use Rattle.std.proofs.Math.ListN.{get_or-append}
 use Rattle.std.proofs.Math.Seq.{drop-append-add, drop-cons, get_or-append_seam, take-append_seam}
 use Rattle.std.proofs.lemmas.Bool.{cases_Bool, cases_lt, eqb-true, lt-ltb}

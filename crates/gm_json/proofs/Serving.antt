@@ -1,9 +1,11 @@
 -- A service in its midst.
-use Rattle.gm_json.proofs.Lower.{◌≡◌, ℕ, ◌+◌, ◌≤◌, ◌<◌, true, false, List, [], ◌∷◌, ◌++◌, length, take, codes, Option, refl, sym, ap, subst, ◌∙◌, append_assoc}
-use Rattle.gm_json.proofs.Lower.{arith, ◌==◌, length-take, length-append, Consumes, Keeps, GoesOn, Midst, kept_bytes, block_bytes, IsOfOutput, inl, inr}
-use Rattle.gm_json.proofs.Lower.{Appends, IsAtEnd, Consumes-trans, Consumes-kept, Consumes-nil, Appends-trans, Appends-nil, Appends-kept, AskError, OutOfMemory}
-use Rattle.gm_json.proofs.Lower.{NotHeld, ReadFailed, WriteFailed, OutputClosed, AppendsPart, lines_from, lines_of, AreAnswers, IsServed, IsUnread}
-use Rattle.gm_json.proofs.Lower.{IsUnanswered, IsUnwritten, IsBroken, IsOfLine, IsLineDone, IsCut, IsLineBroken}
+use Rattle.gm_json.proofs.Lower.{◌≡◌, ℕ, ◌+◌, ◌≤◌, ◌<◌, true, false, List, [], ◌∷◌, ◌++◌, length, take, codes, Option, refl, sym, ap, subst, ◌∙◌, append_assoc, arith, ◌==◌, length-take, length-append, Consumes, GoesOn, Midst, kept_bytes, block_bytes, IsAskOutputError, inl, inr}
+use Rattle.std.specs.Io.KnownBytes.{Keeps, Appends, IsAtEnd}
+use Rattle.std.proofs.KnownBytes.{Consumes-trans, Consumes-kept, Consumes-nil, Appends-trans, Appends-nil, Appends-kept}
+use Rattle.gm_json.specs.declared.ask_error.AskError.{AskError}
+use Rattle.gm_json.specs.declared.ask_error.AskError.TheVariants.{OutOfMemory, NotHeld, ReadFailed, WriteFailed, OutputClosed}
+use Rattle.gm_play.specs.Sessions.{AppendsPart}
+use Rattle.gm_json.specs.Asking.{lines_from, lines_of, AreAnswers, IsServed, IsServiceUnread, IsUnanswered, IsServiceUnwritten, IsServiceBroken, IsOfLine, IsLineDone, IsCut, IsLineBroken}
 use Rattle.std.proofs.Common.{append-nil}
 use Rattle.gm_json.proofs.Splitting.{lines_more, lines_next, lines_end, lines_none, none_kept, kept_push, kept_full, one_begun}
 
@@ -84,7 +86,7 @@ module _ (Says : List ℕ → ℕ → List ℕ → Type 0) where
     so_far = ap lines_of (sym (append-nil (h.bytes ++ h.block))) ∙ h.goes_on [] ∙ append_assoc h.lines h.later (lines_from h.line [])
 
     -- the output fails at the answers that are pending
-    pub unwritten : (w2 : Option (List ℕ)) → AppendsPart w1 w2 pending → IsUnwritten Says r0 r1 w0 w2
+    pub unwritten : (w2 : Option (List ℕ)) → AppendsPart w1 w2 pending → IsServiceUnwritten Says r0 r1 w0 w2
     unwritten w2 (done, rest, e, written) = record {
       bytes = h.bytes;
       lines = h.lines;
@@ -215,14 +217,15 @@ module _ (Says : List ℕ → ℕ → List ℕ → Type 0) where
       writes = subst (Appends w0 w2) (append_assoc h.text h.done pending) (Appends-trans w0 w1 w2 (h.text ++ h.done) pending h.writes written);
     }
 
-    cut : (w2 : Option (List ℕ)) → (b == 10) ≡ true → IsCut Says kept number pending w1 w2 → IsUnwritten Says r0 r1 w0 w2
+    cut : (w2 : Option (List ℕ)) → (b == 10) ≡ true → IsCut Says kept number pending w1 w2 → IsServiceUnwritten Says r0 r1 w0 w2
     cut w2 e (inl part) = unwritten number kept pending (b ∷ ahead) r0 r1 w0 w1 h w2 part
     cut w2 e (inr (out, is, part)) =
         let all = pending ++ (out ++ codes "\n") in
         let done = line_done w1 [] all (number + 1) e refl refl (out, [], is, refl, Appends-nil w1) in
         unwritten (number + 1) [] all ahead r0 r1 w0 w1 done w2 part
 
-    pub line_broken : (w2 : Option (List ℕ)) (e : AskError) → (b == 10) ≡ true → IsLineBroken Says e kept number pending w1 w2 → IsBroken Says e r0 r1 w0 w2
+    pub line_broken : (w2 : Option (List ℕ)) (e : AskError) → (b == 10) ≡ true → IsLineBroken Says e kept number pending w1 w2 → IsServiceBroken Says e r0 r1 w0
+        w2
     line_broken w2 OutOfMemory e written = inr (unanswered w2 e written)
     line_broken w2 NotHeld e written = unanswered w2 e written
     line_broken w2 ReadFailed e broken = absurd broken
@@ -230,7 +233,8 @@ module _ (Says : List ℕ → ℕ → List ℕ → Type 0) where
     line_broken w2 OutputClosed e broken = cut w2 e broken
 
   -- the output fails, of whatever kind the failure is
-  pub broken_output : (e : AskError) (r0 r1 w0 w1 : Option (List ℕ)) → IsOfOutput e → IsUnwritten Says r0 r1 w0 w1 → IsBroken Says e r0 r1 w0 w1
+  pub broken_output : (e : AskError) (r0 r1 w0 w1 : Option (List ℕ)) → IsAskOutputError e → IsServiceUnwritten Says r0 r1 w0 w1 → IsServiceBroken Says e r0 r1
+      w0 w1
   broken_output OutOfMemory r0 r1 w0 w1 k h = absurd k
   broken_output NotHeld r0 r1 w0 w1 k h = absurd k
   broken_output ReadFailed r0 r1 w0 w1 k h = absurd k
@@ -261,7 +265,7 @@ module _ (Says : List ℕ → ℕ → List ℕ → Type 0) where
         }
 
     -- the input fails
-    pub read_fails : IsUnread Says r0 r2 w0 w1
+    pub read_fails : IsServiceUnread Says r0 r2 w0 w1
     read_fails = record {
       bytes = h.bytes;
       lines = h.lines;
@@ -296,7 +300,7 @@ module _ (Says : List ℕ → ℕ → List ℕ → Type 0) where
         writes = Appends-kept w0 w1 w2 h.text h.writes kept_out;
       }
 
-      last_unwritten : (out : List ℕ) → Says kept number out → AppendsPart w1 w2 (out ++ codes "\n") → IsUnwritten Says r0 r2 w0 w2
+      last_unwritten : (out : List ℕ) → Says kept number out → AppendsPart w1 w2 (out ++ codes "\n") → IsServiceUnwritten Says r0 r2 w0 w2
       last_unwritten out is (done, rest, e, written) = record {
         bytes = h.bytes;
         lines = h.lines;
@@ -318,7 +322,7 @@ module _ (Says : List ℕ → ℕ → List ℕ → Type 0) where
         writes = Appends-trans w0 w1 w2 h.text done h.writes written;
       }
 
-      pub last_refused : (e : AskError) → IsOfLine e → Keeps w1 w2 → IsBroken Says e r0 r2 w0 w2
+      pub last_refused : (e : AskError) → IsOfLine e → Keeps w1 w2 → IsServiceBroken Says e r0 r2 w0 w2
       last_refused OutOfMemory k kept_out = inr (last_unanswered kept_out)
       last_refused NotHeld k kept_out = last_unanswered kept_out
       last_refused ReadFailed k kept_out = absurd k
@@ -341,7 +345,7 @@ module _ (Says : List ℕ → ℕ → List ℕ → Type 0) where
           }
 
       pub last_failed : (e : AskError) (none all : List ℕ) → none ≡ [] → (out : List ℕ) × Says kept number out × (all ≡ none ++ (out ++ codes "\n")) →
-          IsOfOutput e → AppendsPart w1 w2 all → IsBroken Says e r0 r2 w0 w2
+          IsAskOutputError e → AppendsPart w1 w2 all → IsServiceBroken Says e r0 r2 w0 w2
       last_failed e none all n (out, is, a) k part = broken_output e r0 r2 w0 w2 k
           (last_unwritten out is (subst (AppendsPart w1 w2) (a ∙ ap (λ (l : List ℕ). l ++ (out ++ codes "\n")) n) part))
 
@@ -357,7 +361,7 @@ module _ (Says : List ℕ → ℕ → List ℕ → Type 0) where
   line_unsaid line n answers all w1 w2 (out, is, a) part = inr (out, is, subst (AppendsPart w1 w2) a part)
 
   -- the answers are cut, of whatever kind the failure is
-  pub line_cut : (e : AskError) (line : List ℕ) (n : ℕ) (answers : List ℕ) (w1 w2 : Option (List ℕ)) → IsOfOutput e → IsCut Says line n answers w1 w2 →
+  pub line_cut : (e : AskError) (line : List ℕ) (n : ℕ) (answers : List ℕ) (w1 w2 : Option (List ℕ)) → IsAskOutputError e → IsCut Says line n answers w1 w2 →
       IsLineBroken Says e line n answers w1 w2
   line_cut OutOfMemory line n answers w1 w2 k h = absurd k
   line_cut NotHeld line n answers w1 w2 k h = absurd k

@@ -1,6 +1,6 @@
 -- Bytes as lines, of which fronts are kept.
-use Rattle.gm_json.proofs.Lower.{◌≡◌, ℕ, ◌≤◌, ◌<◌, Bool, true, false, List, [], ◌∷◌, ◌++◌, length, take, refl, sym, ap, ◌∙◌, arith, ◌==◌, if◌then◌else◌}
-use Rattle.gm_json.proofs.Lower.{take_all, length-take, length-append, kept_bytes, take-append-le}
+use Rattle.gm_json.proofs.Lower.{◌≡◌, ℕ, ◌≤◌, ◌<◌, Bool, true, false, List, [], ◌∷◌, ◌++◌, length, take, refl, sym, ap, ◌∙◌, arith, ◌==◌, if◌then◌else◌, length-take, length-append, kept_bytes}
+use Rattle.std.proofs.lemmas.List.{take_all, take-append-le}
 use Rattle.gm_json.specs.Asking.{lines_from}
 
 -- a byte of a line, the byte that ends it, and the end of all

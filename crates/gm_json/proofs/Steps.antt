@@ -1,7 +1,11 @@
 -- The lines of a line of play.
-use Rattle.gm_json.proofs.Lower.{◌≡◌, ℕ, List, [], ◌∷◌, ◌++◌, refl, sym, ap, ◌∙◌, append-nil, Position, Solved, Rules, AreBest, text, line_of, step_tree}
-use Rattle.gm_json.proofs.Lower.{steps_from, IsTrueValue, after_best, after_true, AreSteps}
-use Rattle.std.proofs.lemmas.List.{append_assoc}
+use Rattle.gm_json.proofs.Lower.{◌≡◌, ℕ, List, [], ◌∷◌, ◌++◌, refl, sym, ap, ◌∙◌, Position, Rules, AreBest, text, line_of, step_tree, steps_from}
+use Rattle.std.proofs.lemmas.List.{append-nil, append_assoc}
+use Rattle.gm_game.specs.declared.position.Solved.{Solved}
+use Rattle.gm_game.specs.Values.{IsTrueValue}
+use Rattle.gm_play.specs.PlayTexts.{after_best}
+use Rattle.gm_play.proofs.Rows.{after_true}
+use Rattle.gm_json.specs.Lines.{AreSteps}
 
 module _ (r : Rules) (shown : Position → List ℕ) (move_shown : Position → ℕ → List ℕ) where
   pub steps_true : (ms : List ℕ) (p : Position) (s : Solved) → AreBest r p ms → IsTrueValue r p s → AreSteps r shown move_shown p ms

@@ -1,8 +1,16 @@
 -- Objects and arrays, written part by part.
-use Rattle.gm_json.proofs.Lower.{◌≡◌, ℕ, ◌<◌, ◌≤◌, Bool, true, List, [], ◌∷◌, ◌++◌, refl, sym, ap, ap₂, ◌∙◌, append_assoc, arith, list_all, utf8_lossy, quoted}
-use Rattle.gm_json.proofs.Lower.{Data, Members, member, comma_if, compact_text, items_text, members_text, value_word, is_clear, member_text, item_text, zero}
-use Rattle.gm_json.proofs.Lower.{suc, IsAscii, and_parts, utf8_lossy-IsUtf8, IsUtf8-from_ascii, escape, Items, item, Value, Lose, Draw, Tie, Win, key_text, ◌+◌}
-use Rattle.gm_json.proofs.Lower.{length, get_or, drop, map, items_of, drop_more, drop_all, escape_byte_plain}
+use Rattle.gm_json.proofs.Lower.{◌≡◌, ℕ, ◌<◌, ◌≤◌, Bool, true, List, [], ◌∷◌, ◌++◌, refl, sym, ap, ap₂, ◌∙◌, append_assoc, arith, utf8_lossy, quoted, Data, Members, member, comma_if, compact_text, items_text, members_text, value_word, member_text, item_text, key_text, ◌+◌, length, get_or, drop, map, items_of, drop_more, drop_all}
+use Rattle.std.specs.List.{list_all}
+use Rattle.gm_json.specs.inner.Parts.{is_clear}
+use Rattle.std.proofs.Common.{zero, suc}
+use Rattle.std.specs.Str.{IsAscii}
+use Rattle.std.proofs.lemmas.Bool.{and_parts}
+use Rattle.std.proofs.lemmas.Str.{utf8_lossy-IsUtf8, IsUtf8-from_ascii}
+use Rattle.json.specs.Print.{escape}
+use Rattle.serde_json.specs.Data.{Items, item}
+use Rattle.gm_game.specs.declared.position.Value.{Value}
+use Rattle.gm_game.specs.declared.position.Value.TheVariants.{Lose, Draw, Tie, Win}
+use Rattle.json.proofs.Printed.Strings.{escape_byte_plain}
 
 -- ---- strings
 -- what the test of a byte says

@@ -1,7 +1,16 @@
 -- The answer to a line that should be the text of a position.
 use Rattle.std.specs.Prelude.{◌≡◌, ℕ, ◌⊎◌, true, false, List, take, codes, if◌then◌else◌}
-use Rattle.gm_json.specs.Lower.{Data, string, object, Members, member, no_members, compact_text, Position, Solved, Rules, IsTrueValue, MoveValue, chosen}
-use Rattle.gm_json.specs.Lower.{AreMoveValues, BeginsBest, IsReadAs, without_return}
+use Rattle.serde_json.specs.Data.{Data, string, object, Members, member, no_members}
+use Rattle.serde_json.specs.Written.{compact_text}
+use Rattle.gm_game.specs.declared.position.Position.{Position}
+use Rattle.gm_game.specs.declared.position.Solved.{Solved}
+use Rattle.gm_game.specs.Rules.{Rules}
+use Rattle.gm_game.specs.Values.{IsTrueValue}
+use Rattle.gm_play.specs.declared.move_values.MoveValue.{MoveValue}
+use Rattle.gm_play.specs.Firsts.{chosen}
+use Rattle.gm_play.specs.MoveValues.{AreMoveValues, BeginsBest}
+use Rattle.gm_play.specs.PlayTexts.{IsReadAs}
+use Rattle.gm_play.specs.Dialogue.{without_return}
 use Rattle.gm_json.specs.declared.asked.Asked.{Asked}
 use Rattle.gm_json.specs.Words.{whole, text}
 use Rattle.gm_json.specs.Moves.{move_trees, position_members}
@@ -31,7 +40,7 @@ module _ (r : Rules) (shown : Position → List ℕ) (move_shown : Position → 
 
   module _ (tiers : List ℕ) where
     -- what is reported of a position with its true value, these moves of it, and more
-    pub record IsTold (p : Position) (xs : List MoveValue) (out : List ℕ) : Type 0 where
+    pub record IsReported (p : Position) (xs : List MoveValue) (out : List ℕ) : Type 0 where
       pub value : Solved
       pub is_true : IsTrueValue r p value
       pub best : List ℕ

@@ -1,6 +1,7 @@
 -- A service that reads positions, one on each line, and answers each line with a line.
 use Rattle.std.specs.Prelude.{◌≡◌, ℕ, ◌+◌, ◌≤◌, ◌==◌, ◌⊎◌, List, [], ◌∷◌, ◌++◌, length, take, codes, if◌then◌else◌, Option}
-use Rattle.gm_json.specs.Lower.{Appends, Consumes, Keeps, IsAtEnd, AppendsPart}
+use Rattle.std.specs.Io.KnownBytes.{Appends, Consumes, Keeps, IsAtEnd}
+use Rattle.gm_play.specs.Sessions.{AppendsPart}
 use Rattle.gm_json.specs.declared.ask_error.AskError.{AskError}
 use Rattle.gm_json.specs.declared.ask_error.AskError.TheVariants.{OutOfMemory, NotHeld, ReadFailed, WriteFailed, OutputClosed}
 
@@ -42,7 +43,7 @@ module _ (Says : List ℕ → ℕ → List ℕ → Type 0) where
     pub writes : Appends before after text
 
   -- the input failed: each line that ended in the bytes before was answered, and the one that had begun was not
-  pub record IsUnread (old new before after : Option (List ℕ)) : Type 0 where
+  pub record IsServiceUnread (old new before after : Option (List ℕ)) : Type 0 where
     pub bytes : List ℕ
     pub lines : List (List ℕ)
     pub begun : List ℕ
@@ -66,7 +67,7 @@ module _ (Says : List ℕ → ℕ → List ℕ → Type 0) where
     pub writes : Appends before after text
 
   -- the output failed: each line that ended before the last read was answered; of the answers to lines that ended in what it gave a first part was written
-  pub record IsUnwritten (old new before after : Option (List ℕ)) : Type 0 where
+  pub record IsServiceUnwritten (old new before after : Option (List ℕ)) : Type 0 where
     -- before the last read
     pub bytes : List ℕ
     pub lines : List (List ℕ)
@@ -94,12 +95,12 @@ module _ (Says : List ℕ → ℕ → List ℕ → Type 0) where
   IsUnbegun old new before after = Keeps old new × Keeps before after
 
   -- the service ended before its input did
-  abbrev pub IsBroken : AskError → Option (List ℕ) → Option (List ℕ) → Option (List ℕ) → Option (List ℕ) → Type 0
-  IsBroken OutOfMemory old new before after = IsUnbegun old new before after ⊎ IsUnanswered old new before after
-  IsBroken NotHeld old new before after = IsUnanswered old new before after
-  IsBroken ReadFailed old new before after = IsUnread old new before after
-  IsBroken WriteFailed old new before after = IsUnwritten old new before after
-  IsBroken OutputClosed old new before after = IsUnwritten old new before after
+  abbrev pub IsServiceBroken : AskError → Option (List ℕ) → Option (List ℕ) → Option (List ℕ) → Option (List ℕ) → Type 0
+  IsServiceBroken OutOfMemory old new before after = IsUnbegun old new before after ⊎ IsUnanswered old new before after
+  IsServiceBroken NotHeld old new before after = IsUnanswered old new before after
+  IsServiceBroken ReadFailed old new before after = IsServiceUnread old new before after
+  IsServiceBroken WriteFailed old new before after = IsServiceUnwritten old new before after
+  IsServiceBroken OutputClosed old new before after = IsServiceUnwritten old new before after
 
   -- a line is answered after these answers: a first part of all that is written, and the rest is left
   abbrev pub IsLineDone : List ℕ → ℕ → List ℕ → List ℕ → Option (List ℕ) → Option (List ℕ) → Type 0
@@ -120,12 +121,12 @@ module _ (Says : List ℕ → ℕ → List ℕ → Type 0) where
   IsLineBroken OutputClosed line n answers before after = IsCut line n answers before after
 
 -- the output failed
-abbrev pub IsOfOutput : AskError → Type 0
-IsOfOutput OutOfMemory = ⊥
-IsOfOutput NotHeld = ⊥
-IsOfOutput ReadFailed = ⊥
-IsOfOutput WriteFailed = Unit {0}
-IsOfOutput OutputClosed = Unit {0}
+abbrev pub IsAskOutputError : AskError → Type 0
+IsAskOutputError OutOfMemory = ⊥
+IsAskOutputError NotHeld = ⊥
+IsAskOutputError ReadFailed = ⊥
+IsAskOutputError WriteFailed = Unit {0}
+IsAskOutputError OutputClosed = Unit {0}
 
 -- a line could not be answered
 abbrev pub IsOfLine : AskError → Type 0
@@ -136,9 +137,9 @@ IsOfLine WriteFailed = ⊥
 IsOfLine OutputClosed = ⊥
 
 -- the numbers of the errors
-abbrev pub number_of : AskError → ℕ
-number_of OutOfMemory = 1
-number_of NotHeld = 2
-number_of ReadFailed = 3
-number_of WriteFailed = 4
-number_of OutputClosed = 5
+abbrev pub ask_error_number : AskError → ℕ
+ask_error_number OutOfMemory = 1
+ask_error_number NotHeld = 2
+ask_error_number ReadFailed = 3
+ask_error_number WriteFailed = 4
+ask_error_number OutputClosed = 5

@@ -1,7 +1,14 @@
 -- What is reported of a position besides its value and its moves.
 use Rattle.std.specs.Prelude.{◌≡◌, ℕ, ◌+◌, Bool, true, false, List, [], ◌∷◌, ◌++◌, map, codes, if◌then◌else◌, zero, suc}
-use Rattle.gm_json.specs.Lower.{flat_map, Data, array, object, Members, member, no_members, items_of, members_text, Position, Rules, BestLine, IsBestLine}
-use Rattle.gm_json.specs.Lower.{IsWhole, at, is_same}
+use Rattle.std.specs.List.{flat_map}
+use Rattle.serde_json.specs.Data.{Data, array, object, Members, member, no_members}
+use Rattle.serde_json.specs.View.{items_of}
+use Rattle.serde_json.specs.Written.{members_text}
+use Rattle.gm_game.specs.declared.position.Position.{Position}
+use Rattle.gm_game.specs.Rules.{Rules, at}
+use Rattle.gm_play.specs.declared.best_line.BestLine.{BestLine}
+use Rattle.gm_play.specs.BestLines.{IsBestLine, IsWhole}
+use Rattle.gm_play.specs.Firsts.{is_same}
 use Rattle.gm_json.specs.declared.asked.With.{With}
 use Rattle.gm_json.specs.Words.{whole, text}
 

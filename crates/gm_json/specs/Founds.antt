@@ -1,6 +1,13 @@
 -- Found positions, as JSON trees.
 use Rattle.std.specs.Prelude.{◌≡◌, ℕ, Bool, List, codes}
-use Rattle.gm_json.specs.Lower.{flat_map, Data, string, object, member, no_members, Position, Rules, value_word, Found, Sought, AreChosen}
+use Rattle.std.specs.List.{flat_map}
+use Rattle.serde_json.specs.Data.{Data, string, object, member, no_members}
+use Rattle.gm_game.specs.declared.position.Position.{Position}
+use Rattle.gm_game.specs.Rules.{Rules}
+use Rattle.gm_play.specs.PlayTexts.{value_word}
+use Rattle.gm_find.specs.declared.found.Found.{Found}
+use Rattle.gm_find.specs.declared.sought.Sought.{Sought}
+use Rattle.gm_find.specs.Founds.{AreChosen}
 use Rattle.gm_find.specs.declared.sought.Choice.{Choice}
 use Rattle.gm_json.specs.Words.{whole, text, move_or_null, line_of}
 

@@ -1,5 +1,4 @@
 pub mod Words
-pub mod Parts
 pub mod Moves
 pub mod Lines
 pub mod Founds
@@ -7,5 +6,4 @@ pub mod Extras
 pub mod Places
 pub mod Answers
 pub mod Asking
-pub mod Midst
-pub mod Lower
+pub mod inner

@@ -1,7 +1,15 @@
 -- Lines of best play, as JSON trees.
 use Rattle.std.specs.Prelude.{◌≡◌, ℕ, List, [], ◌∷◌, ◌++◌, codes}
-use Rattle.gm_json.specs.Lower.{Data, null, string, object, member, no_members, Position, Solved, Rules, IsTrueValue, BestLine, IsBestLine, IsWhole, value_word}
-use Rattle.gm_json.specs.Lower.{IsReadAs, LineEnd, Over, Again, Cut, after_best}
+use Rattle.serde_json.specs.Data.{Data, null, string, object, member, no_members}
+use Rattle.gm_game.specs.declared.position.Position.{Position}
+use Rattle.gm_game.specs.declared.position.Solved.{Solved}
+use Rattle.gm_game.specs.Rules.{Rules}
+use Rattle.gm_game.specs.Values.{IsTrueValue}
+use Rattle.gm_play.specs.declared.best_line.BestLine.{BestLine}
+use Rattle.gm_play.specs.BestLines.{IsBestLine, IsWhole}
+use Rattle.gm_play.specs.PlayTexts.{value_word, IsReadAs, after_best}
+use Rattle.gm_play.specs.declared.best_line.LineEnd.{LineEnd}
+use Rattle.gm_play.specs.declared.best_line.LineEnd.TheVariants.{Over, Again, Cut}
 use Rattle.gm_json.specs.Words.{whole, text, line_of}
 
 -- the tree with the place where the last position has come before

@@ -1,7 +1,16 @@
 -- What the moves of a position are worth, as a JSON tree.
 use Rattle.std.specs.Prelude.{◌≡◌, ℕ, Bool, List, map, codes}
-use Rattle.gm_json.specs.Lower.{Data, string, array, object, Members, member, no_members, items_of, compact_text, Position, Solved, Rules, IsTrueValue}
-use Rattle.gm_json.specs.Lower.{MoveValue, chosen, AreMoveValues, BeginsBest, value_word, IsReadAs}
+use Rattle.serde_json.specs.Data.{Data, string, array, object, Members, member, no_members}
+use Rattle.serde_json.specs.View.{items_of}
+use Rattle.serde_json.specs.Written.{compact_text}
+use Rattle.gm_game.specs.declared.position.Position.{Position}
+use Rattle.gm_game.specs.declared.position.Solved.{Solved}
+use Rattle.gm_game.specs.Rules.{Rules}
+use Rattle.gm_game.specs.Values.{IsTrueValue}
+use Rattle.gm_play.specs.declared.move_values.MoveValue.{MoveValue}
+use Rattle.gm_play.specs.Firsts.{chosen}
+use Rattle.gm_play.specs.MoveValues.{AreMoveValues, BeginsBest}
+use Rattle.gm_play.specs.PlayTexts.{value_word, IsReadAs}
 use Rattle.gm_json.specs.Words.{whole, text}
 
 module _ (r : Rules) (shown : Position → List ℕ) (move_shown : Position → ℕ → List ℕ) where

@@ -1,6 +1,9 @@
 -- Lines that name a position by its tier and its index, and the position that a line asks about.
 use Rattle.std.specs.Prelude.{◌≡◌, ℕ, ◌<◌, ◌^◌, ◌⊎◌, true, List, ◌++◌, codes}
-use Rattle.gm_json.specs.Lower.{decimal, Position, Rules, IsReadAs, IsNoPosition}
+use Rattle.std.specs.Fmt.{decimal}
+use Rattle.gm_game.specs.declared.position.Position.{Position}
+use Rattle.gm_game.specs.Rules.{Rules}
+use Rattle.gm_play.specs.PlayTexts.{IsReadAs, IsNoPosition}
 
 -- the line that names a tier and an index
 abbrev pub place_line : ℕ → ℕ → List ℕ

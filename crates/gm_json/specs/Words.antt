@@ -1,6 +1,9 @@
 -- Texts and values in JSON.
 use Rattle.std.specs.Prelude.{ℕ, List, ◌++◌, codes, Option, None, Some}
-use Rattle.gm_json.specs.Lower.{utf8_lossy, Data, null, string, compact_text, Position, number, unsigned}
+use Rattle.std.specs.Str.Lossy.{utf8_lossy}
+use Rattle.serde_json.specs.Data.{Data, null, string, number, unsigned}
+use Rattle.serde_json.specs.Written.{compact_text}
+use Rattle.gm_game.specs.declared.position.Position.{Position}
 
 abbrev pub whole : ℕ → Data
 whole n = number (unsigned n)

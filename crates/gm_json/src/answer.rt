@@ -1,8 +1,13 @@
 //! The answer to one line that should ask about a position.
 ghost use Rattle.std.specs.Prelude.{◌≡◌, ◌++◌, ◌∷◌, true, false, take, IfOk, IfErr, OnOk, IsErrOf, ◌↔◌};
-ghost use Rattle.gm_json.specs.Lower.{All, Position, Members, compact_text, members_text, IsNotHeld, IsMoveOf};
+ghost use Rattle.std.specs.List.{All};
+ghost use Rattle.gm_game.specs.declared.position.Position.{Position};
+ghost use Rattle.serde_json.specs.Data.{Members};
+ghost use Rattle.serde_json.specs.Written.{compact_text, members_text};
+ghost use Rattle.gm_play.specs.Refusals.{IsNotHeld};
+ghost use Rattle.gm_play.specs.PlayTexts.{IsMoveOf};
 ghost use Rattle.gm_play.specs.Dialogue.{without_return as without_return_spec};
-ghost use Rattle.gm_json.specs.Answers.{IsAnswer, IsPositionJson, IsTold, answer_members, read_bytes, error_tree};
+ghost use Rattle.gm_json.specs.Answers.{IsAnswer, IsPositionJson, IsReported, answer_members, read_bytes, error_tree};
 ghost use Rattle.gm_json.specs.Asking.{IsOfLine};
 ghost use Rattle.gm_json.specs.Places.{IsAskedAs};
 
@@ -79,7 +84,7 @@ fn whole_json<G: Shown>(
     list: &[MoveValue],
 ) -> Result<Vec<u8>, AllocError>
     requires { All (IsMoveOf G.Game.rules known.now.position) list.now }
-    ensures { IfOk result (λ out. IsTold G.Game.rules G.shown G.move_shown asked tiers.now known.now.position list.now out.items) }
+    ensures { IfOk result (λ out. IsReported G.Game.rules G.shown G.move_shown asked tiers.now known.now.position list.now out.items) }
 {
     let mut out = Vec::new(alloc);
     push_front::<G>(alloc, &mut out, asked, known.position, known.value(), list)?;

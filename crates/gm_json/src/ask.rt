@@ -1,9 +1,12 @@
 //! A service that reads positions, one per line, and answers each with a line of JSON.
 ghost use Rattle.std.specs.Prelude.{◌≡◌, ◌+◌, ◌≤◌, ◌∷◌, ◌++◌, [], List, ℕ, Option, codes, length, IfOk, OnOk, IfErr, IsErrOf, ◌<◌, ◌^◌, OnErr};
-ghost use Rattle.gm_json.specs.Lower.{Appends, Consumes, Keeps, IsAtEnd, Position, AppendsPart, IsNotHeld};
+ghost use Rattle.std.specs.Io.KnownBytes.{Appends, Consumes, Keeps, IsAtEnd};
+ghost use Rattle.gm_game.specs.declared.position.Position.{Position};
+ghost use Rattle.gm_play.specs.Sessions.{AppendsPart};
+ghost use Rattle.gm_play.specs.Refusals.{IsNotHeld};
 ghost use Rattle.gm_json.specs.Answers.{IsAnswer};
-ghost use Rattle.gm_json.specs.Asking.{IsServed, IsBroken, IsLineDone, IsLineBroken, IsOfOutput, IsOfLine};
-ghost use Rattle.gm_json.specs.Midst.{GoesOn, Midst};
+ghost use Rattle.gm_json.specs.Asking.{IsServed, IsServiceBroken, IsLineDone, IsLineBroken, IsAskOutputError, IsOfLine};
+ghost use Rattle.gm_json.specs.inner.Midst.{GoesOn, Midst};
 
 use crate::answer::ask_line;
 use crate::ask_error::AskError;
@@ -54,7 +57,8 @@ pub fn ask<G: Shown, R: Read, W: Write>(
 ) -> Result<(), AskError>
     ensures ok { OnOk result (IsServed (IsAnswer G.Game.rules G.shown G.move_shown asked tiers.now) (R.remaining input.old) (R.remaining input.new)
         (W.contents output.old) (W.contents output.new)) }
-    ensures err { IfErr result (λ e. IsBroken (IsAnswer G.Game.rules G.shown G.move_shown asked tiers.now) e (R.remaining input.old) (R.remaining input.new)
+    ensures err { IfErr result (λ e. IsServiceBroken (IsAnswer G.Game.rules G.shown G.move_shown asked tiers.now) e (R.remaining input.old)
+        (R.remaining input.new)
         (W.contents output.old) (W.contents output.new)) }
     ensures not_held { IsErrOf result AskError.NotHeld → ((p : Position) × IsNotHeld G.Game.rules tables.now.tables.now p) }
 {
@@ -98,7 +102,8 @@ fn serve<G: Shown, R: Read, W: Write>(
     requires answers { hand.old.answers.items ≡ [] }
     ensures ok { OnOk result (IsServed (IsAnswer G.Game.rules G.shown G.move_shown asked tiers.now) (R.remaining input.old) (R.remaining input.new)
         (W.contents output.old) (W.contents output.new)) }
-    ensures err { IfErr result (λ e. IsBroken (IsAnswer G.Game.rules G.shown G.move_shown asked tiers.now) e (R.remaining input.old) (R.remaining input.new)
+    ensures err { IfErr result (λ e. IsServiceBroken (IsAnswer G.Game.rules G.shown G.move_shown asked tiers.now) e (R.remaining input.old)
+        (R.remaining input.new)
         (W.contents output.old) (W.contents output.new)) }
     ensures not_held { IsErrOf result AskError.NotHeld → ((p : Position) × IsNotHeld G.Game.rules tables.now.tables.now p) }
 {
@@ -131,7 +136,7 @@ fn answer_block<G: Shown, W: Write>(
         (W.contents output.new)) }
     ensures err { (r0 r1 r2 w0 : Option (List ℕ)) → GoesOn (IsAnswer G.Game.rules G.shown G.move_shown asked tiers.now) hand.old.number hand.old.line.items
         r0 r1 w0 (W.contents output.old) → Consumes r1 r2 block.now
-        → IfErr result (λ e. IsBroken (IsAnswer G.Game.rules G.shown G.move_shown asked tiers.now) e r0 r2 w0 (W.contents output.new)) }
+        → IfErr result (λ e. IsServiceBroken (IsAnswer G.Game.rules G.shown G.move_shown asked tiers.now) e r0 r2 w0 (W.contents output.new)) }
     ensures empty { OnOk result (hand.new.answers.items ≡ []) }
     ensures number { OnOk result (hand.new.number ≤ hand.old.number + length block.now) }
     ensures not_held { IsErrOf result AskError.NotHeld → ((p : Position) × IsNotHeld G.Game.rules tables.now.tables.now p) }
@@ -161,7 +166,7 @@ fn take_byte<G: Shown, W: Write>(
     ensures err { (ahead : List ℕ) (r0 r1 w0 : Option (List ℕ))
         → Midst (IsAnswer G.Game.rules G.shown G.move_shown asked tiers.now) hand.old.number hand.old.line.items hand.old.answers.items
         (byte ∷ ahead) r0 r1 w0 (W.contents output.old)
-        → IfErr result (λ e. IsBroken (IsAnswer G.Game.rules G.shown G.move_shown asked tiers.now) e r0 r1 w0 (W.contents output.new)) }
+        → IfErr result (λ e. IsServiceBroken (IsAnswer G.Game.rules G.shown G.move_shown asked tiers.now) e r0 r1 w0 (W.contents output.new)) }
     ensures number { OnOk result (hand.new.number ≤ hand.old.number + 1) }
     ensures not_held { IsErrOf result AskError.NotHeld → ((p : Position) × IsNotHeld G.Game.rules tables.now.tables.now p) }
 {
@@ -209,7 +214,7 @@ fn next_line<W: Write>(hand: &mut Hand, output: &mut W) -> Result<(), AskError>
     ensures line { OnOk result (hand.new.line.items ≡ []) }
     ensures number { OnOk result (hand.new.number ≡ hand.old.number + 1) }
     ensures err { OnErr result (AppendsPart (W.contents output.old) (W.contents output.new) hand.old.answers.items) }
-    ensures kind { IfErr result IsOfOutput }
+    ensures kind { IfErr result IsAskOutputError }
 {
     hand.line.clear();
     hand.number += 1;
@@ -234,7 +239,7 @@ fn answer_last<G: Shown, W: Write>(
         → OnOk result (IsServed (IsAnswer G.Game.rules G.shown G.move_shown asked tiers.now) r0 r2 w0 (W.contents output.new)) }
     ensures err { (r0 r1 r2 w0 : Option (List ℕ)) → GoesOn (IsAnswer G.Game.rules G.shown G.move_shown asked tiers.now) hand.old.number hand.old.line.items
         r0 r1 w0 (W.contents output.old) → Keeps r1 r2
-        → IfErr result (λ e. IsBroken (IsAnswer G.Game.rules G.shown G.move_shown asked tiers.now) e r0 r2 w0 (W.contents output.new)) }
+        → IfErr result (λ e. IsServiceBroken (IsAnswer G.Game.rules G.shown G.move_shown asked tiers.now) e r0 r2 w0 (W.contents output.new)) }
     ensures not_held { IsErrOf result AskError.NotHeld → ((p : Position) × IsNotHeld G.Game.rules tables.now.tables.now p) }
 {
     if hand.line.is_empty() {
@@ -292,7 +297,7 @@ fn flush<W: Write>(answers: &mut Vec<u8>, output: &mut W) -> Result<(), AskError
     ensures ok { OnOk result (Appends (W.contents output.old) (W.contents output.new) answers.old.items) }
     ensures empty { OnOk result (answers.new.items ≡ []) }
     ensures err { OnErr result (AppendsPart (W.contents output.old) (W.contents output.new) answers.old.items) }
-    ensures kind { IfErr result IsOfOutput }
+    ensures kind { IfErr result IsAskOutputError }
 {
     match write_text(output, answers.as_slice()) {
         Ok(()) => {

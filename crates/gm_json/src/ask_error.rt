@@ -1,6 +1,6 @@
 //! Why a service ended before its input did.
 ghost use Rattle.std.specs.Prelude.{◌≡◌};
-ghost use Rattle.gm_json.specs.Asking.{number_of};
+ghost use Rattle.gm_json.specs.Asking.{ask_error_number};
 
 use thiserror::Error;
 
@@ -24,7 +24,7 @@ pub enum AskError {
 impl AskError {
     /// Returns the number of the error.
     pub fn number(&self) -> u8
-        ensures { result ≡ number_of self.now }
+        ensures { result ≡ ask_error_number self.now }
     {
         match self {
             AskError::OutOfMemory => 1,

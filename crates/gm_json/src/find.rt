@@ -1,6 +1,10 @@
 //! Found positions, in JSON.
 ghost use Rattle.std.specs.Prelude.{◌≡◌, [], true, IfOk, OnOk, is_some};
-ghost use Rattle.gm_json.specs.Lower.{All, flat_map, object, view, members_view, IsBestMove, IsFound};
+ghost use Rattle.std.specs.List.{All, flat_map};
+ghost use Rattle.serde_json.specs.Data.{object};
+ghost use Rattle.serde_json.specs.View.{view, members_view};
+ghost use Rattle.gm_play.specs.BestMoves.{IsBestMove};
+ghost use Rattle.gm_find.specs.Founds.{IsFound};
 ghost use Rattle.gm_json.specs.Words.{move_or_null};
 ghost use Rattle.gm_json.specs.Founds.{found_tree, found_line, IsFoundJson};
 

@@ -1,6 +1,8 @@
 //! Lines of best play, in JSON.
 ghost use Rattle.std.specs.Prelude.{◌≡◌, ◌++◌, [], true, false, IfOk, OnOk};
-ghost use Rattle.gm_json.specs.Lower.{null, object, view, members_view, has_float};
+ghost use Rattle.serde_json.specs.Data.{null, object};
+ghost use Rattle.serde_json.specs.View.{view, members_view};
+ghost use Rattle.serde_json.specs.Written.{has_float};
 ghost use Rattle.gm_json.specs.Words.{line_of};
 ghost use Rattle.gm_json.specs.Lines.{again_tree, end_line, step_tree, IsLineJson};
 

@@ -1,7 +1,10 @@
 //! What the moves of a position are worth, in JSON.
 ghost use Rattle.std.specs.Prelude.{◌≡◌, ◌++◌, true, false, codes, IfOk, OnOk};
-ghost use Rattle.gm_json.specs.Lower.{All, Members, compact_text, members_text, IsMoveOf};
-ghost use Rattle.gm_json.specs.Parts.{member_text};
+ghost use Rattle.std.specs.List.{All};
+ghost use Rattle.serde_json.specs.Data.{Members};
+ghost use Rattle.serde_json.specs.Written.{compact_text, members_text};
+ghost use Rattle.gm_play.specs.PlayTexts.{IsMoveOf};
+ghost use Rattle.gm_json.specs.inner.Parts.{member_text};
 ghost use Rattle.gm_json.specs.Moves.{move_tree, move_trees, position_members, IsMovesJson};
 
 use crate::parts::{

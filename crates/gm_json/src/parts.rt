@@ -1,7 +1,13 @@
 //! The texts of JSON, appended part by part.
 ghost use Rattle.std.specs.Prelude.{◌≡◌, ◌++◌, true, OnOk};
-ghost use Rattle.gm_json.specs.Lower.{utf8_lossy, quoted, string, comma_if, value_word, list_all, decimal};
-ghost use Rattle.gm_json.specs.Parts.{is_clear as is_clear_spec, key_text, member_text};
+ghost use Rattle.std.specs.Str.Lossy.{utf8_lossy};
+ghost use Rattle.json.specs.Print.{quoted};
+ghost use Rattle.serde_json.specs.Data.{string};
+ghost use Rattle.serde_json.specs.Written.{comma_if};
+ghost use Rattle.gm_play.specs.PlayTexts.{value_word};
+ghost use Rattle.std.specs.List.{list_all};
+ghost use Rattle.std.specs.Fmt.{decimal};
+ghost use Rattle.gm_json.specs.inner.Parts.{is_clear as is_clear_spec, key_text, member_text};
 ghost use Rattle.gm_json.specs.Words.{whole, text as text_spec};
 
 use crate::words::text_value;

@@ -1,6 +1,6 @@
 //! The position that a line asks about: by its text, or by its tier and its index.
 ghost use Rattle.std.specs.Prelude.{◌≡◌, ◌↔◌, ◌<◌, ◌==◌, Some, true, length, position, IfSome};
-ghost use Rattle.gm_json.specs.Lower.{Position};
+ghost use Rattle.gm_game.specs.declared.position.Position.{Position};
 ghost use Rattle.gm_json.specs.Places.{IsAskedAs, IsPlaceLine};
 
 use gm_game::game::Game;

@@ -1,7 +1,9 @@
 //! Texts and values in JSON, and lines of it.
 ghost use Rattle.std.specs.Prelude.{◌≡◌, ◌++◌, false, IfOk, OnOk};
-ghost use Rattle.gm_json.specs.Lower.{utf8_lossy, string, view, members_view, has_float};
-ghost use Rattle.serde_json.specs.Data.{put as with_member};
+ghost use Rattle.std.specs.Str.Lossy.{utf8_lossy};
+ghost use Rattle.serde_json.specs.Data.{string, put as with_member};
+ghost use Rattle.serde_json.specs.View.{view, members_view};
+ghost use Rattle.serde_json.specs.Written.{has_float};
 ghost use Rattle.gm_json.specs.Words.{line_of};
 
 use serde_json::{Map, Value as Json, put};

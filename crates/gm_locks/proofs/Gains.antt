@@ -1,7 +1,11 @@
 -- What a delivery answers by where the shard stands, and by how much it raises the number of pairs.
-use Rattle.gm_locks.proofs.Lower.{◌≡◌, ℕ, ◌+◌, ◌≤◌, ◌⊎◌, ◌↔◌, inl, inr, List, sym, refl, ap, ◌∙◌, arith, Result, Ok, Err, Contains, Position, Rules, has_new}
-use Rattle.gm_locks.proofs.Lower.{has_old, with_cases, NoteData, Delivery, Fresh, FreshSettled, Repeat, Refused, ShardState, IsInRange, delivered_to, with_pair}
-use Rattle.gm_locks.proofs.Lower.{pairs_in, IsPairHere, Delivers, IsAdded, Spot, spot_of, gain, count_same, cases_at, pairs_more, outcome}
+use Rattle.gm_locks.proofs.Lower.{◌≡◌, ℕ, ◌+◌, ◌≤◌, ◌⊎◌, inl, inr, List, sym, refl, ap, ◌∙◌, arith, Result, Ok, Err, Contains, Position, Rules, NoteData, Delivery, Refused, ShardState, IsInRange, delivered_to, with_pair, pairs_in, Delivers, IsAdded, Spot, spot_of}
+use Rattle.std.proofs.Common.{◌↔◌}
+use Rattle.gm_game.proofs.SetLemmas.{has_new, has_old, with_cases}
+use Rattle.gm_counters.specs.declared.status.Delivery.TheVariants.{Fresh, FreshSettled, Repeat}
+use Rattle.gm_counters.specs.Delivery.{IsPairHere}
+use Rattle.gm_locks.specs.Spots.{gain}
+use Rattle.gm_counters.proofs.AddedLemmas.{count_same, cases_at, pairs_more, outcome}
 
 -- what is delivered with a pair more: what was, and the pair
 pub delivered_more : (s : ShardState) (x : NoteData × ℕ) → IsInRange s x.1 → (y : NoteData × ℕ) → IsInRange s y.1

@@ -1,12 +1,25 @@
 -- A shard to which the pieces of a level are delivered, each pair once.
-use Rattle.gm_locks.proofs.Lower.{◌≡◌, ℕ, zero, suc, ◌+◌, ◌-◌, ◌<◌, ◌≤◌, ◌==◌, max, inl, inr, Bool, true, false, List, [], ◌∷◌, ◌++◌, length, take, drop}
-use Rattle.gm_locks.proofs.Lower.{replicate, get_or, set, slice_get, refl, sym, ap, subst, ◌∙◌, arith, Some, Result, get_or-set_same, get_or-set_other}
-use Rattle.gm_locks.proofs.Lower.{length-set, ◌⊎◌, Contains, div_ceil, IsOk, cases_eq, Decides-eqb, length-take-le, length-drop, length-replicate, take_more}
-use Rattle.gm_locks.proofs.Lower.{get_or-drop, slice_get-get_or, slice_get_within, get_or_from_slice_get, Position, Rules, IsParent, IsGame, map_in, NoteData}
-use Rattle.gm_locks.proofs.Lower.{IsLevel, piece_of, same_image, no_repeats_before, in_pairs, in_piece, pairs_have, positions_once, near_of_pair}
-use Rattle.gm_locks.proofs.Lower.{contains_taken, one_piece, in_some_piece, Delivery, Refused, ShardState, IsInRange, delivered_to, with_pair, pairs_in, IsGood}
-use Rattle.gm_locks.proofs.Lower.{Delivers, IsAdded, IsWhole, place_of, Spot, spot_of, pairs_into, place_of_spot, AreFirst, HasNoneHere, PiecedData}
-use Rattle.gm_locks.proofs.Lower.{piece_pairs, IsPieced, AreNew, IsTurnAt, stands_now, get_or-set_at}
+use Rattle.gm_locks.proofs.Lower.{◌≡◌, ℕ, ◌+◌, ◌-◌, ◌<◌, ◌≤◌, inl, inr, true, false, List, length, get_or, slice_get, refl, sym, ap, subst, ◌∙◌, arith, Some, Result, ◌⊎◌, Contains, Position, Rules, NoteData, piece_of, Delivery, Refused, ShardState, IsInRange, delivered_to, with_pair, pairs_in, Delivers, IsAdded, Spot, spot_of, AreFirst, PiecedData, piece_pairs, IsTurnAt}
+use Rattle.std.proofs.Common.{zero, suc, ◌==◌, max, Bool, [], ◌∷◌, ◌++◌, take, drop, replicate, set, get_or-set_same, get_or-set_other, length-set}
+use Rattle.std.specs.Int.{div_ceil}
+use Rattle.std.specs.Result.{IsOk}
+use Rattle.std.proofs.lemmas.Bool.{cases_eq}
+use Rattle.std.proofs.lemmas.Bool.Decides.{Decides-eqb}
+use Rattle.std.proofs.lemmas.List.{length-take-le, length-drop, length-replicate, take_more, get_or-drop}
+use Rattle.std.proofs.lemmas.Option.{slice_get-get_or, slice_get_within, get_or_from_slice_get}
+use Rattle.gm_game.specs.Rules.{IsParent}
+use Rattle.gm_game.specs.Laws.{IsGame}
+use Rattle.gm_game.proofs.Lists.{map_in}
+use Rattle.gm_frontier.specs.Levels.{IsLevel}
+use Rattle.gm_table.proofs.Distinct.{same_image, no_repeats_before}
+use Rattle.gm_frontier.proofs.PairLemmas.{in_pairs, in_piece, pairs_have, positions_once, near_of_pair, contains_taken}
+use Rattle.gm_frontier.proofs.CoverLemmas.{one_piece, in_some_piece}
+use Rattle.gm_counters.specs.Good.{IsGood}
+use Rattle.gm_counters.specs.Steps.{IsWhole, place_of}
+use Rattle.gm_locks.specs.Rounds.{pairs_into, place_of_spot, HasNoneHere}
+use Rattle.gm_locks.specs.Pieces.{IsPieced, AreNew}
+use Rattle.gm_frontier.proofs.ForGame.{stands_now}
+use Rattle.std.proofs.lemmas.Grind.{get_or-set_at}
 use Rattle.gm_locks.proofs.Gains.{gained, gain_is, stays, delivered_more}
 use Rattle.gm_locks.proofs.RoundLemmas.{AreHere, item_in, next_here, first_none, of_piece}
 pub use Rattle.gm_locks.proofs.Gains.{added_is, ok_added}

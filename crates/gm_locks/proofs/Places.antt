@@ -1,5 +1,12 @@
 -- Where positions stand, by their values.
-use Rattle.gm_locks.proofs.Lower.{◌≡◌, ℕ, inl, inr, subst, Position, Solved, Value, Lose, Draw, Tie, Win, Phase, WinLose, Ties, Rules, StandsAt, HasValue_once}
+use Rattle.gm_locks.proofs.Lower.{◌≡◌, ℕ, inl, inr, subst, Position, Rules}
+use Rattle.gm_game.specs.declared.position.Solved.{Solved}
+use Rattle.gm_game.specs.declared.position.Value.{Value}
+use Rattle.gm_game.specs.declared.position.Value.TheVariants.{Lose, Draw, Tie, Win}
+use Rattle.gm_game.specs.declared.position.Phase.{Phase}
+use Rattle.gm_game.specs.declared.position.Phase.TheVariants.{WinLose, Ties}
+use Rattle.gm_game.specs.Places.{StandsAt}
+use Rattle.gm_game.proofs.Basic.{HasValue_once}
 use Rattle.gm_game.specs.Values.{HasValue, IsTrueValue}
 pub use Rattle.gm_counters.proofs.AddedLemmas.{value_stands}
 

@@ -1,11 +1,28 @@
 -- A shard to which the pairs of a level are delivered in their order.
-use Rattle.gm_locks.proofs.Lower.{◌≡◌, ℕ, zero, suc, ◌+◌, ◌<◌, inl, inr, List, [], ◌∷◌, length, slice_get, refl, sym, ap, ap₂, subst, ◌∙◌, arith, Some, Result}
-use Rattle.gm_locks.proofs.Lower.{Ok, Err, true, false, Contains, cases_lt, slice_get_within, get_or_from_slice_get, Contains-get_or, Place, Rules, at}
-use Rattle.gm_locks.proofs.Lower.{IsParent, IsGame, HasNoRepeats, NoteData, IsNoteAt, LevelData, IsLevel, positions, pairs_once, in_pairs, in_piece}
-use Rattle.gm_locks.proofs.Lower.{positions_once, piece_positions_once, pairs_of, piece_of, same_image, now_stands, Delivery, Fresh, FreshSettled, Repeat}
-use Rattle.gm_locks.proofs.Lower.{Refused, NotThisLevel, NotMine, NotAParent, TooFar, ShardState, IsInRange, delivered_to, with_pair, pairs_in, IsGood}
-use Rattle.gm_locks.proofs.Lower.{Delivers, IsWhole, Spot, spot_of, gain, IsDeliverable, pairs_into, place_of_spot, AreFirst, IsRound, HasNoneHere, IsLevelAt}
-use Rattle.gm_locks.proofs.Lower.{IsNextAnswer, note_stands, slice_get_cases, is_err, outcome, IsAdded, IsRefusedAt}
+use Rattle.gm_locks.proofs.Lower.{◌≡◌, ℕ, ◌+◌, ◌<◌, inl, inr, List, length, slice_get, refl, sym, ap, subst, ◌∙◌, arith, Some, Result, Ok, Err, true, false, Contains, Rules, NoteData, piece_of, Delivery, Refused, ShardState, IsInRange, delivered_to, with_pair, pairs_in, Delivers, Spot, spot_of, AreFirst, IsAdded}
+use Rattle.std.proofs.Common.{zero, suc, [], ◌∷◌, ap₂}
+use Rattle.std.proofs.lemmas.Bool.{cases_lt}
+use Rattle.std.proofs.lemmas.Option.{slice_get_within, get_or_from_slice_get, slice_get_cases}
+use Rattle.std.proofs.lemmas.List.Elements.{Contains-get_or}
+use Rattle.gm_game.specs.declared.position.Place.{Place}
+use Rattle.gm_game.specs.Rules.{at, IsParent}
+use Rattle.gm_game.specs.Laws.{IsGame}
+use Rattle.gm_game.proofs.Counts.{HasNoRepeats}
+use Rattle.gm_frontier.specs.Notes.{IsNoteAt}
+use Rattle.gm_frontier.specs.Levels.{LevelData, IsLevel, positions}
+use Rattle.gm_frontier.proofs.PairLemmas.{pairs_once, in_pairs, in_piece, positions_once, piece_positions_once}
+use Rattle.gm_frontier.specs.Pairs.{pairs_of}
+use Rattle.gm_table.proofs.Distinct.{same_image}
+use Rattle.gm_frontier.proofs.ForGame.{now_stands}
+use Rattle.gm_counters.specs.declared.status.Delivery.TheVariants.{Fresh, FreshSettled, Repeat}
+use Rattle.gm_counters.specs.declared.status.Refused.TheVariants.{NotThisLevel, NotMine, NotAParent, TooFar}
+use Rattle.gm_counters.specs.Good.{IsGood}
+use Rattle.gm_counters.specs.Steps.{IsWhole}
+use Rattle.gm_locks.specs.Spots.{gain, IsDeliverable}
+use Rattle.gm_locks.specs.Rounds.{pairs_into, place_of_spot, IsRound, HasNoneHere, IsLevelAt, IsNextAnswer}
+use Rattle.gm_counters.proofs.AddedLemmas.{note_stands, outcome}
+use Rattle.std.specs.Result.{is_err}
+use Rattle.gm_locks.specs.Pieces.{IsRefusedAt}
 use Rattle.gm_locks.proofs.Gains.{gained, delivered_more, gain_is, ok_added}
 
 -- the item at a place of a list without repeats is at no other place

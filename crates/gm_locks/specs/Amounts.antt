@@ -1,6 +1,6 @@
 -- Parts of ledgers and their amounts, and a shard with its book.
 use Rattle.std.specs.Prelude.{ℕ, ◌+◌, ◌-◌, ◌==◌, if◌then◌else◌}
-use Rattle.gm_locks.specs.Spots.{choose}
+use Rattle.gm_locks.specs.Spots.{for_shard}
 
 -- some parts of a ledger and an amount
 pub record Part : Type 0 where
@@ -21,7 +21,7 @@ one_part = record { parts = 1; a = 0; b = 0; c = 0; d = 0 }
 
 -- the amount of shard k
 abbrev pub amount_of : Amounts → ℕ → ℕ
-amount_of s k = choose k s.a s.b s.c s.d
+amount_of s k = for_shard k s.a s.b s.c s.d
 
 -- the amounts of all four together
 abbrev pub total_of : Amounts → ℕ
@@ -39,8 +39,8 @@ raised s k n =
     }
 
 -- the parts and amounts of both
-abbrev pub joined : Amounts → Amounts → Amounts
-joined s t = record { parts = s.parts + t.parts; a = s.a + t.a; b = s.b + t.b; c = s.c + t.c; d = s.d + t.d }
+abbrev pub joined_amounts : Amounts → Amounts → Amounts
+joined_amounts s t = record { parts = s.parts + t.parts; a = s.a + t.a; b = s.b + t.b; c = s.c + t.c; d = s.d + t.d }
 
 -- one part fewer, and the same amounts
 abbrev pub split_of : Amounts → Amounts

@@ -2,4 +2,3 @@ pub mod Amounts
 pub mod Pieces
 pub mod Rounds
 pub mod Spots
-pub mod Lower

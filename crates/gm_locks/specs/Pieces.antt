@@ -1,8 +1,19 @@
 -- A level that is delivered to a shard piece by piece, each pair once.
-use Rattle.std.specs.Prelude.{◌≡◌, ℕ, ◌+◌, ◌<◌, ◌≤◌, ◌==◌, max, Bool, true, false, List, [], ◌∷◌, take, drop, length, slice_index, slice_index_or, slice_set}
-use Rattle.std.specs.Prelude.{Result, Err}
-use Rattle.gm_locks.specs.Lower.{div_ceil, IsOk, Rules, NoteData, LevelData, IsLevel, piece_of, Delivery, Refused, TooFar, ShardState, pairs_in, IsGood}
-use Rattle.gm_locks.specs.Lower.{Delivers, IsAdded, Status, StatusIs}
+use Rattle.std.specs.Prelude.{◌≡◌, ℕ, ◌+◌, ◌<◌, ◌≤◌, ◌==◌, max, Bool, true, false, List, [], ◌∷◌, take, drop, length, slice_index, slice_index_or, slice_set, Result, Err}
+use Rattle.std.specs.Int.{div_ceil}
+use Rattle.std.specs.Result.{IsOk}
+use Rattle.gm_game.specs.Rules.{Rules}
+use Rattle.gm_frontier.specs.Notes.{NoteData}
+use Rattle.gm_frontier.specs.Levels.{LevelData, IsLevel}
+use Rattle.gm_frontier.specs.Pairs.{piece_of}
+use Rattle.gm_counters.specs.declared.status.Delivery.{Delivery}
+use Rattle.gm_counters.specs.declared.status.Refused.{Refused}
+use Rattle.gm_counters.specs.declared.status.Refused.TheVariants.{TooFar}
+use Rattle.gm_counters.specs.State.{ShardState, pairs_in}
+use Rattle.gm_counters.specs.Good.{IsGood}
+use Rattle.gm_counters.specs.Delivery.{Delivers, IsAdded}
+use Rattle.gm_counters.specs.declared.status.Status.{Status}
+use Rattle.gm_counters.specs.Status.{StatusIs}
 use Rattle.gm_locks.specs.Spots.{Spot, spot_of, IsDeliverable}
 use Rattle.gm_locks.specs.Rounds.{pairs_into, place_of_spot, AreFirst, HasNoneHere, IsLevelAt}
 

@@ -1,7 +1,19 @@
 -- Deliveries to a shard in the order of a level's pairs.
 use Rattle.std.specs.Prelude.{◌≡◌, ℕ, ◌+◌, ◌<◌, ◌≤◌, ◌↔◌, List, Some, Result, Ok, Err, length, slice_get}
-use Rattle.gm_locks.specs.Lower.{Contains, REMOTENESS, Position, Place, Rules, StandsAt, NoteData, LevelData, place_at, pairs_of, Delivery, Fresh, FreshSettled}
-use Rattle.gm_locks.specs.Lower.{Repeat, Refused, NotThisLevel, NotMine, NotAParent, TooFar, ShardState, IsInRange, delivered_to, pairs_in}
+use Rattle.std.specs.List.{Contains}
+use Rattle.gm_game.specs.declared.limits.TheConstants.{REMOTENESS}
+use Rattle.gm_game.specs.declared.position.Position.{Position}
+use Rattle.gm_game.specs.declared.position.Place.{Place}
+use Rattle.gm_game.specs.Rules.{Rules}
+use Rattle.gm_game.specs.Places.{StandsAt}
+use Rattle.gm_frontier.specs.Notes.{NoteData}
+use Rattle.gm_frontier.specs.Levels.{LevelData, place_at}
+use Rattle.gm_frontier.specs.Pairs.{pairs_of}
+use Rattle.gm_counters.specs.declared.status.Delivery.{Delivery}
+use Rattle.gm_counters.specs.declared.status.Delivery.TheVariants.{Fresh, FreshSettled, Repeat}
+use Rattle.gm_counters.specs.declared.status.Refused.{Refused}
+use Rattle.gm_counters.specs.declared.status.Refused.TheVariants.{NotThisLevel, NotMine, NotAParent, TooFar}
+use Rattle.gm_counters.specs.State.{ShardState, IsInRange, delivered_to, pairs_in}
 use Rattle.gm_locks.specs.Spots.{Spot}
 
 -- the pairs of a level's notes into the range of a spot, in the order of a walk

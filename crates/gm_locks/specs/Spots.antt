@@ -1,6 +1,14 @@
 -- Spots: the place of a shard.
 use Rattle.std.specs.Prelude.{◌≡◌, ℕ, ◌+◌, ◌<◌, ◌≤◌, ◌↔◌, ◌==◌, if◌then◌else◌, length, Result, Ok, Err}
-use Rattle.gm_locks.specs.Lower.{Phase, WinLose, Rules, NoteData, IsNote, Delivery, Fresh, FreshSettled, Repeat, Refused, ShardState, IsPairHere}
+use Rattle.gm_game.specs.declared.position.Phase.{Phase}
+use Rattle.gm_game.specs.declared.position.Phase.TheVariants.{WinLose}
+use Rattle.gm_game.specs.Rules.{Rules}
+use Rattle.gm_frontier.specs.Notes.{NoteData, IsNote}
+use Rattle.gm_counters.specs.declared.status.Delivery.{Delivery}
+use Rattle.gm_counters.specs.declared.status.Delivery.TheVariants.{Fresh, FreshSettled, Repeat}
+use Rattle.gm_counters.specs.declared.status.Refused.{Refused}
+use Rattle.gm_counters.specs.State.{ShardState}
+use Rattle.gm_counters.specs.Delivery.{IsPairHere}
 
 -- a range of a tier at a place
 pub record Spot : Type 0 where
@@ -23,8 +31,8 @@ abbrev pub IsWithin : Spot → ℕ → Type 0
 IsWithin s index = (s.lo ≤ index) × (index < s.hi)
 
 -- the item of shard k
-abbrev pub choose : {X : Type 0} → ℕ → X → X → X → X → X
-choose k a b c d = if k == 0 then a else (if k == 1 then b else (if k == 2 then c else d))
+abbrev pub for_shard : {X : Type 0} → ℕ → X → X → X → X → X
+for_shard k a b c d = if k == 0 then a else (if k == 1 then b else (if k == 2 then c else d))
 
 -- the tier, range and place are the same
 pub record IsSameSpot (s t : ShardState) : Type 0 where

@@ -1,6 +1,10 @@
 //! Deliveries of a level's pieces to one shard, each piece once: under the shard's lock a bit for each piece shows whether its pairs are delivered.
 ghost use Rattle.std.specs.Prelude.{◌≡◌, ℕ, ◌+◌, ◌-◌, ◌<◌, ◌≤◌, true, false, take, drop, length, slice_index, slice_index_or, IfOk, OnErr};
-ghost use Rattle.gm_locks.specs.Lower.{div_ceil, IsGood, IsLevel, pairs_in, IsWhole};
+ghost use Rattle.std.specs.Int.{div_ceil};
+ghost use Rattle.gm_counters.specs.Good.{IsGood};
+ghost use Rattle.gm_frontier.specs.Levels.{IsLevel};
+ghost use Rattle.gm_counters.specs.State.{pairs_in};
+ghost use Rattle.gm_counters.specs.Steps.{IsWhole};
 ghost use Rattle.gm_locks.specs.Spots.{spot_of, IsWithin};
 ghost use Rattle.gm_locks.specs.Rounds.{place_of_spot, AreFirst};
 ghost use Rattle.gm_locks.specs.Pieces.{piece_pairs, AreNew, IsRefusedAt, IsTurnAt, IsReadyFor, IsShownAt};

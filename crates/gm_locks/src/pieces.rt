@@ -1,7 +1,9 @@
 //! Four shards of a tier, each under a lock of its own, to which a level is delivered piece by piece.
 ghost use Rattle.std.specs.Prelude.{◌≡◌, ℕ, ◌+◌, ◌<◌, ◌≤◌, true, false, length, slice_index_or, IfOk, OnOk, OnErr};
-ghost use Rattle.gm_locks.specs.Lower.{div_ceil, pairs_in, IsWhole};
-ghost use Rattle.gm_locks.specs.Spots.{spot_of, choose, IsWithin};
+ghost use Rattle.std.specs.Int.{div_ceil};
+ghost use Rattle.gm_counters.specs.State.{pairs_in};
+ghost use Rattle.gm_counters.specs.Steps.{IsWhole};
+ghost use Rattle.gm_locks.specs.Spots.{spot_of, for_shard, IsWithin};
 ghost use Rattle.gm_locks.specs.Amounts.{raised};
 ghost use Rattle.gm_locks.specs.Pieces.{PiecedData, piece_pairs, IsRefusedAt, IsTurnAt, IsReadyFor, IsShownAt};
 
@@ -75,8 +77,8 @@ impl<G: Game, A: PieceLedger, B: PieceLedger, C: PieceLedger, D: PieceLedger> Pi
     /// Returns what is known of an index of a shard while its lock is held. The shard behind the lock is good, and at the place that its name fixes.
     pub fn status<R: Wait>(&self, rt: &R, shard: usize, index: u64) -> Status
         requires shard { shard < 4 }
-        requires index { IsWithin (choose shard A.spot B.spot C.spot D.spot) index }
-        ensures { IsShownAt G.rules (choose shard A.spot B.spot C.spot D.spot) index result }
+        requires index { IsWithin (for_shard shard A.spot B.spot C.spot D.spot) index }
+        ensures { IsShownAt G.rules (for_shard shard A.spot B.spot C.spot D.spot) index result }
     {
         match shard {
             0 => self.a.lock(rt).status(index),
@@ -119,12 +121,12 @@ impl<G: Game, A: PieceLedger, B: PieceLedger, C: PieceLedger, D: PieceLedger> Pi
     ) -> Result<(), Refused>
         requires shard { shard < 4 }
         requires piece { piece < div_ceil (length A.notes) A.size }
-        requires pairs { pairs.now ≡ piece_pairs G.rules (choose shard A.spot B.spot C.spot D.spot) A.notes A.size piece }
+        requires pairs { pairs.now ≡ piece_pairs G.rules (for_shard shard A.spot B.spot C.spot D.spot) A.notes A.size piece }
         requires to { to ≤ length pairs.now }
         ensures turn { (n : ℕ) × (d : PiecedData) × (e : PiecedData)
-            × IsTurnAt G.rules (choose shard A.spot B.spot C.spot D.spot) A.notes A.size (choose shard A.base B.base C.base D.base) piece to n result d e
+            × IsTurnAt G.rules (for_shard shard A.spot B.spot C.spot D.spot) A.notes A.size (for_shard shard A.base B.base C.base D.base) piece to n result d e
             × (shares.new ≡ raised shares.old shard n) }
-        ensures far { OnErr result (IsRefusedAt G.rules (choose shard A.spot B.spot C.spot D.spot)) }
+        ensures far { OnErr result (IsRefusedAt G.rules (for_shard shard A.spot B.spot C.spot D.spot)) }
     {
         match shard {
             0 => self.a.lock(rt).deliver(piece, pairs, to, &mut shares.a),

@@ -1,6 +1,6 @@
 //! Parts of a shard's ledger.
 ghost use Rattle.std.specs.Prelude.{◌≡◌, ℕ, ◌+◌, ◌-◌, ◌^◌, ◌<◌, ◌≤◌, List, [], min};
-ghost use Rattle.gm_locks.specs.Lower.{NoteData};
+ghost use Rattle.gm_frontier.specs.Notes.{NoteData};
 ghost use Rattle.gm_locks.specs.Spots.{Spot, first_spot};
 ghost use Rattle.gm_locks.specs.Amounts.{Part};
 

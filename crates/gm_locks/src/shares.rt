@@ -1,6 +1,6 @@
 //! Shares of the ledgers of four shards.
 ghost use Rattle.std.specs.Prelude.{◌≡◌, ◌+◌, ◌^◌, ◌-◌, ◌<◌, min};
-ghost use Rattle.gm_locks.specs.Amounts.{Amounts, one_part, amount_of, joined, split_of};
+ghost use Rattle.gm_locks.specs.Amounts.{Amounts, one_part, amount_of, joined_amounts, split_of};
 
 use crate::share::{ShardLedger, Share};
 use std::marker::Model;
@@ -66,7 +66,7 @@ impl<A: ShardLedger, B: ShardLedger, C: ShardLedger, D: ShardLedger> Shares<A, B
 
     /// Adds the parts and amounts of other shares to these.
     pub fn join(&mut self, other: Shares<A, B, C, D>)
-        ensures { self.new ≡ joined self.old other }
+        ensures { self.new ≡ joined_amounts self.old other }
     {
         let Shares { parts, a, b, c, d } = other;
         self.a.join(a);

@@ -2,7 +2,7 @@
 use Rattle.std.specs.Prelude.{ℕ, ◌==◌, List, ◌∷◌, ◌++◌, if◌then◌else◌}
 use Rattle.gm_game.specs.declared.position.Position.{Position}
 use Rattle.gm_board.specs.Squares.{cell_text}
-use Rattle.gm_pieces.specs.SideTexts.{board_text}
+use Rattle.gm_pieces.specs.SideTexts.{cells_text}
 use Rattle.gm_morris.specs.declared.variant.Variant.{Variant}
 use Rattle.gm_morris.specs.Points.{variant_of, last_tier}
 use Rattle.gm_morris.specs.Morris.{from_point, to_point, board_at}
@@ -14,7 +14,7 @@ step_text v t m = if t == last_tier v then cell_text 3 (from_point m) ++ 45 ∷ 
 
 -- the text of a position
 abbrev pub position_text : Position → List ℕ
-position_text p = board_text (board_at p.tier p.index)
+position_text p = cells_text (board_at p.tier p.index)
 
 -- the text of a position's move, in the game with this last tier
 abbrev pub move_text : ℕ → Position → ℕ → List ℕ

@@ -7,14 +7,14 @@ use Rattle.gm_pieces.specs.Steps.{from_point, to_point}
 use Rattle.gm_mutorere.specs.Board.{ring_board}
 
 -- the byte of a point: `x` for a piece of the mover's, `o` for one of the opponent's, `.` for an empty point
-abbrev pub cell_text : Cell → ℕ
-cell_text Mine = 120
-cell_text Theirs = 111
-cell_text Empty = 46
+abbrev pub point_byte : Cell → ℕ
+point_byte Mine = 120
+point_byte Theirs = 111
+point_byte Empty = 46
 
 -- the text of a board: its points in order
 unfoldable pub board_text : List Cell → List ℕ
-board_text b = map cell_text b
+board_text b = map point_byte b
 
 -- the byte of a point's name: a digit for a point of the ring, `c` for the center
 abbrev pub point_text : ℕ → ℕ

@@ -1,5 +1,7 @@
 -- A property of each element of a list that a loop visits.
-use Rattle.gm_page.proofs.Lower.{ℕ, ◌+◌, ◌<◌, ◌≤◌, List, length, take, get_or, sym, subst, inl, inr, Contains, take_more, take_all, Contains-push_cases}
+use Rattle.gm_page.proofs.Lower.{ℕ, ◌+◌, ◌<◌, ◌≤◌, List, length, take, get_or, sym, subst, inl, inr, Contains, take_all}
+use Rattle.std.proofs.lemmas.List.{take_more}
+use Rattle.std.proofs.lemmas.List.Elements.{Contains-push_cases}
 
 module _ {X : Type 0} (P : X → Type 0) where
   pub each_next : (xs : List X) (i : ℕ) (d : X) → i < length xs → ((x : X) → Contains (take i xs) x → P x) → P (get_or xs i d) → (x : X) → Contains

@@ -1,6 +1,10 @@
 -- Digits of an engine.
-use Rattle.gm_page.proofs.Lower.{◌≡◌, ℕ, true, List, [], ◌∷◌, inl, inr, ap, subst, not, eqb, eqb-true, refl, list_all, cases_Bool}
-use Rattle.gm_page.proofs.Lower.{and_parts, and_from, opens_none, is_digit}
+use Rattle.gm_page.proofs.Lower.{◌≡◌, ℕ, true, List, [], ◌∷◌, inl, inr, ap, subst, refl, cases_Bool, and_from}
+use Rattle.std.proofs.Common.{not, eqb, eqb-true}
+use Rattle.std.specs.List.{list_all}
+use Rattle.std.proofs.lemmas.Bool.{and_parts}
+use Rattle.gm_page.specs.Scripts.{opens_none}
+use Rattle.gm_page.specs.Engines.{is_digit}
 
 -- a digit opens no tag
 digit_opens_none : (b : ℕ) → is_digit b ≡ true → opens_none b ≡ true

@@ -1,8 +1,11 @@
 -- Lists that grow by one position at a time: what each step keeps, and the contents afterwards.
-use Rattle.gm_page.proofs.Lower.{◌≡◌, ℕ, zero, suc, ◌+◌, ◌<◌, ◌≤◌, List, [], ◌∷◌, ◌++◌, length, take, get_or, slice_get, Some, refl, sym, ap, ◌∙◌, subst, ◌⊎◌}
-use Rattle.gm_page.proofs.Lower.{inl, inr, arith, Contains, cases_lt, take_all, Contains-get_or, slice_get_within, Position, Rules, contains_none}
-use Rattle.gm_page.proofs.Lower.{contains_first, contains_later, contains_cases, AreFresh, with_new, with_all, ComesFromEarlier, length-append}
-use Rattle.gm_page.proofs.Lower.{get_or_append_left, get_or_push, take-append-le, Contains-append_left, Contains-push, get_or_from_slice_get}
+use Rattle.gm_page.proofs.Lower.{◌≡◌, ℕ, zero, suc, ◌+◌, ◌<◌, ◌≤◌, List, [], ◌∷◌, ◌++◌, length, take, get_or, slice_get, Some, refl, sym, ap, ◌∙◌, subst, ◌⊎◌, inl, inr, arith, Contains, cases_lt, take_all, Contains-get_or, Position, Rules, contains_none, contains_cases, with_new, with_all}
+use Rattle.std.proofs.lemmas.Option.{slice_get_within, get_or_from_slice_get}
+use Rattle.gm_game.proofs.Lists.{contains_first, contains_later}
+use Rattle.gm_play.specs.BestLines.{AreFresh}
+use Rattle.gm_page.specs.Listings.{ComesFromEarlier}
+use Rattle.std.proofs.lemmas.List.{length-append, get_or_append_left, get_or_push, take-append-le}
+use Rattle.std.proofs.lemmas.List.Elements.{Contains-append_left, Contains-push}
 use Rattle.gm_page.proofs.Places.{new_cases}
 
 pub long_more : (old : List Position) (q : Position) → length (old ++ q ∷ []) ≡ length old + 1

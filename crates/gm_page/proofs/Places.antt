@@ -1,8 +1,12 @@
 -- Places of positions in a list.
-use Rattle.gm_page.proofs.Lower.{◌≡◌, ℕ, ◌+◌, ◌<◌, ◌≤◌, Bool, true, false, cond, eqb-true, List, [], ◌∷◌, ◌++◌, length, Option, None, Some, is_some, refl, sym}
-use Rattle.gm_page.proofs.Lower.{ap, ◌∙◌, subst, ◌⊎◌, inl, inr, arith, get, Contains, cases_Bool, cond-true, cond-false, and_parts, and_from, false≢true}
-use Rattle.gm_page.proofs.Lower.{Position, at, contains_none, contains_first, contains_later, contains_cases, is_same, place_from, place_of, is_key, Tells}
-use Rattle.gm_page.proofs.Lower.{with_new, nat_eq, eq-eqb, leb, leb-true, ◌↔◌, HashMap, nat_tests, same_position}
+use Rattle.gm_page.proofs.Lower.{◌≡◌, ℕ, ◌+◌, ◌<◌, ◌≤◌, Bool, true, false, cond, List, [], ◌∷◌, ◌++◌, length, Option, None, Some, refl, sym, ap, ◌∙◌, subst, ◌⊎◌, inl, inr, arith, get, Contains, cases_Bool, cond-true, cond-false, and_from, Position, at, contains_none, contains_cases, place_of, is_key, with_new}
+use Rattle.std.proofs.Common.{eqb-true, is_some, nat_eq, eq-eqb, leb, leb-true, ◌↔◌}
+use Rattle.std.proofs.lemmas.Bool.{and_parts, false≢true}
+use Rattle.gm_game.proofs.Lists.{contains_first, contains_later}
+use Rattle.gm_page.specs.Listings.{is_same, place_from, Tells}
+use Rattle.std.specs.HashMap.{HashMap}
+use Rattle.std.proofs.lemmas.Bool.Decides.{nat_tests}
+use Rattle.gm_game.proofs.SetLemmas.{same_position}
 
 -- the test for equal positions
 same_is : (p q : Position) → is_same p q ≡ true → p ≡ q

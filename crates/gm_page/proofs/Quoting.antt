@@ -1,7 +1,9 @@
 -- Strings in texts that open no tag are read back unchanged.
-use Rattle.gm_page.proofs.Lower.{◌≡◌, ℕ, zero, suc, ◌<◌, ◌≤◌, Bool, true, false, cond, List, [], ◌∷◌, ◌++◌, Some, inl, inr, ◌⊎◌, refl, sym, ap, ◌∙◌, subst}
-use Rattle.gm_page.proofs.Lower.{arith, flat_map, cases_lt, ne_eqb, flat_map-append, script_byte, rules, cases_eq, le-ltb, is_operator, is_space}
-use Rattle.gm_page.proofs.Lower.{escape_byte_plain}
+use Rattle.gm_page.proofs.Lower.{◌≡◌, ℕ, zero, suc, ◌<◌, ◌≤◌, Bool, true, false, cond, List, [], ◌∷◌, ◌++◌, Some, inl, inr, ◌⊎◌, refl, sym, ap, ◌∙◌, subst, arith, flat_map, cases_lt, script_byte, rules}
+use Rattle.std.proofs.lemmas.Bool.{ne_eqb, cases_eq, le-ltb}
+use Rattle.std.proofs.lemmas.Grind.{flat_map-append}
+use Rattle.json.specs.Word.{is_operator, is_space}
+use Rattle.json.proofs.Printed.Strings.{escape_byte_plain}
 use Rattle.json.specs.Print.{escape, escape_byte}
 use Rattle.json.specs.Lex.{Lexeme, between, Mode, lex, lex_byte, in_string, operator, space, other}
 use Rattle.std.proofs.Common.{append_assoc}

@@ -1,13 +1,19 @@
 -- The contents of a listing: positions that play from its start reaches, each from an earlier one, and all of them if no result is missing.
-use Rattle.gm_page.proofs.Lower.{◌≡◌, ℕ, zero, suc, ◌+◌, ◌-◌, ◌<◌, ◌≤◌, true, List, [], ◌∷◌, ◌++◌, map, length, get_or, slice_get, Some, refl, sym, ap, ◌∙◌}
-use Rattle.gm_page.proofs.Lower.{subst, ◌⊎◌, inl, inr, arith, All, Contains, cases_lt, slice_get_within, Contains-get_or, Contains-push_cases, Position, Rules}
-use Rattle.gm_page.proofs.Lower.{contains_none, contains_cases, IsReached, MoveValue, AreBest, AreFresh, IsBestLine, AreMoveValues, with_new, with_all}
-use Rattle.gm_page.proofs.Lower.{result_of, IsListedAfter, ComesFromEarlier, slice_get-get_or, All-contains, Contains-permutation, IsPermutation-sym, IsGame}
-use Rattle.gm_page.proofs.Lower.{map_in, map_from, own_reached, played_reached, reached_reached, IsPlay, BestLine, positions_along, position_after, IsMoveValue}
-use Rattle.gm_page.proofs.Lower.{IsListing, IsReachedFrom, IsClosed, Contains-append_left}
+use Rattle.gm_page.proofs.Lower.{◌≡◌, ℕ, zero, suc, ◌+◌, ◌-◌, ◌<◌, ◌≤◌, true, List, [], ◌∷◌, ◌++◌, map, length, get_or, slice_get, Some, refl, sym, ap, ◌∙◌, subst, ◌⊎◌, inl, inr, arith, All, Contains, cases_lt, Contains-get_or, Position, Rules, contains_none, contains_cases, IsReached, MoveValue, AreBest, with_new, with_all, result_of}
+use Rattle.std.proofs.lemmas.Option.{slice_get_within, slice_get-get_or}
+use Rattle.std.proofs.lemmas.List.Elements.{Contains-push_cases, All-contains, Contains-append_left}
+use Rattle.gm_play.specs.BestLines.{AreFresh, IsBestLine, positions_along}
+use Rattle.gm_play.specs.MoveValues.{AreMoveValues, IsMoveValue}
+use Rattle.gm_page.specs.Listings.{IsListedAfter, ComesFromEarlier, IsListing, IsReachedFrom, IsClosed}
+use Rattle.std.proofs.lemmas.List.Sorted.{Contains-permutation, IsPermutation-sym}
+use Rattle.gm_game.specs.Laws.{IsGame}
+use Rattle.gm_game.proofs.Lists.{map_in, map_from}
+use Rattle.gm_play.proofs.Reaching.{own_reached, played_reached, reached_reached}
+use Rattle.gm_find.specs.Reaching.{IsPlay}
+use Rattle.gm_play.specs.declared.best_line.BestLine.{BestLine}
+use Rattle.gm_play.specs.Lines.{position_after}
 use Rattle.gm_page.proofs.Places.{new_cases}
-use Rattle.gm_page.proofs.Growing.{earlier_more, new_keeps, new_there, all_keep, all_stays, all_longer, all_there, full_all, place_stays, place_more, at_place}
-use Rattle.gm_page.proofs.Growing.{fresh_more, long_more}
+use Rattle.gm_page.proofs.Growing.{earlier_more, new_keeps, new_there, all_keep, all_stays, all_longer, all_there, full_all, place_stays, place_more, at_place, fresh_more, long_more}
 
 module _ (r : Rules) where
   -- ---- lines of play

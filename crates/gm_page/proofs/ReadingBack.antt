@@ -1,12 +1,22 @@
 -- Lines of a page are read as the trees that they were written from.
-use Rattle.gm_page.proofs.Lower.{◌≡◌, ℕ, ◌<◌, ◌≤◌, Bool, true, false, cond, List, [], ◌∷◌, ◌++◌, Some, refl, sym, ap, ap₂, ◌∙◌, subst, arith, ne_eqb}
-use Rattle.gm_page.proofs.Lower.{flat_map-append, Data, read, of_json, outline, script_byte, script_line, option_and_then, ◌&&◌, digit_value, AllDigits, Token}
-use Rattle.gm_page.proofs.Lower.{ends_word, json_tokens, in_word-ended, lex-number, content-escape, lex-escape, tokens-print, value-json_tokens, max_depth}
-use Rattle.gm_page.proofs.Lower.{compact_text, print-outline}
+use Rattle.gm_page.proofs.Lower.{◌≡◌, ℕ, ◌<◌, ◌≤◌, Bool, true, false, cond, List, [], ◌∷◌, ◌++◌, Some, refl, sym, ap, ap₂, ◌∙◌, subst, arith, Data, script_byte, script_line}
+use Rattle.std.proofs.lemmas.Bool.{ne_eqb}
+use Rattle.std.proofs.lemmas.Grind.{flat_map-append}
+use Rattle.serde_json.specs.Read.{read, of_json, max_depth}
+use Rattle.serde_json.specs.Written.{outline, compact_text}
+use Rattle.std.proofs.Common.{option_and_then, ◌&&◌, append_assoc, append-nil}
+use Rattle.std.specs.Char.{digit_value}
+use Rattle.std.specs.Str.Parse.{AllDigits}
+use Rattle.json.specs.Token.{Token}
+use Rattle.json.specs.Word.{ends_word, word}
+use Rattle.json.specs.Tree.{json_tokens}
+use Rattle.json.proofs.Printed.Numbers.{in_word-ended, lex-number}
+use Rattle.json.proofs.Printed.Strings.{content-escape, lex-escape}
+use Rattle.json.proofs.Printed.Tokens.{tokens-print}
+use Rattle.json.proofs.Printed.Trees.{value-json_tokens}
+use Rattle.serde_json.proofs.Texts.{print-outline}
 use Rattle.json.specs.Print.{escape, quoted, IsPrintable, ArePrintable, token_text, separator, begins, ends, print, print_from}
 use Rattle.json.specs.Lex.{Lexeme, between, in_word, token, string_token, lex, fresh, punctuate, tokens}
-use Rattle.std.proofs.Common.{append_assoc, append-nil}
-use Rattle.json.specs.Word.{word}
 use Rattle.gm_page.specs.Scripts.{script_text}
 use Rattle.gm_page.proofs.Quoting.{script, content-script, lex-script}
 use Rattle.json.specs.Json as json

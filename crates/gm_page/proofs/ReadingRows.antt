@@ -1,9 +1,19 @@
 -- The rows of a page, and its first line, are read as their trees.
-use Rattle.gm_page.proofs.Lower.{◌≡◌, ℕ, suc, ◌+◌, ◌<◌, ◌≤◌, ◌^◌, Bool, List, [], ◌∷◌, ◌++◌, length, map, Option, None, Some, refl, sym, ap, ◌∙◌, arith, inl}
-use Rattle.gm_page.proofs.Lower.{inr, flat_map, cases_Bool, cond-true, cond-false, Data, number, array, read, of_json, items_of, outline, items_outline}
-use Rattle.gm_page.proofs.Lower.{Position, Solved, MoveValue, text, PictureSpec, head_tree, is_same, place_from, place_of, Group, place_cells, move_cells}
-use Rattle.gm_page.proofs.Lower.{group_tree, row_tree, script_line, option_map, depth, items_depth, of_items, number_of-decimal, whole, group_cells, row_cells}
-use Rattle.gm_page.proofs.Lower.{subst, append_assoc, append-nil, Token, json_tokens, IsNumber-decimal, decimal, decimal_is_IsNumeral, items_tokens, ⊤}
+use Rattle.gm_page.proofs.Lower.{◌≡◌, ℕ, suc, ◌+◌, ◌<◌, ◌≤◌, Bool, List, [], ◌∷◌, ◌++◌, length, map, Option, None, Some, refl, sym, ap, ◌∙◌, arith, inl, inr, flat_map, cases_Bool, cond-true, cond-false, Data, array, items_of, Position, MoveValue, text, PictureSpec, head_tree, place_of, Group, move_cells, group_tree, row_tree, script_line, subst, append_assoc, append-nil}
+use Rattle.std.proofs.Common.{◌^◌, option_map, decimal}
+use Rattle.serde_json.specs.Data.{number}
+use Rattle.serde_json.specs.Read.{read, of_json, of_items}
+use Rattle.serde_json.specs.Written.{outline, items_outline}
+use Rattle.gm_game.specs.declared.position.Solved.{Solved}
+use Rattle.gm_page.specs.Listings.{is_same, place_from}
+use Rattle.gm_page.specs.Rows.{place_cells, group_cells, row_cells}
+use Rattle.json.specs.Tree.{depth, items_depth, json_tokens, items_tokens}
+use Rattle.serde_json.proofs.Numbers.{number_of-decimal}
+use Rattle.gm_json.specs.Words.{whole}
+use Rattle.json.specs.Token.{Token}
+use Rattle.json.proofs.Printed.Decimals.{IsNumber-decimal}
+use Rattle.std.proofs.lemmas.Fmt.{decimal_is_IsNumeral}
+use Rattle.std.specs.Prelude.{⊤}
 use Rattle.std.specs.Option.{unwrap_or}
 use Rattle.gm_page.proofs.Quoting.{script}
 use Rattle.gm_page.proofs.ReadingBack.{AreFine, digits_same, read_line}

@@ -1,9 +1,11 @@
 -- Rows: moves in groups, one group after the other, and rows one by one.
-use Rattle.gm_page.proofs.Lower.{◌≡◌, ℕ, zero, suc, ◌<◌, ◌≤◌, Bool, false, List, [], ◌∷◌, ◌++◌, length, map, take, drop, slice_get, Option, None, Some, refl}
-use Rattle.gm_page.proofs.Lower.{sym, ap, subst, ◌∙◌, arith, All, flat_map, append_assoc, append-nil, take_all, Data, items_of, has_float, Position, Solved}
-use Rattle.gm_page.proofs.Lower.{Rules, MoveValue, text, PictureSpec, head_tree, place_of, Group, AreGroups, place_cells, move_cells, group_tree, row_tree}
-use Rattle.gm_page.proofs.Lower.{IfSome, or_parts, take-append-drop, items_have_float, ap₂, IsRun, AreRows, script_line}
-use Rattle.std.specs.Prelude.{unwrap_or}
+use Rattle.gm_page.proofs.Lower.{◌≡◌, ℕ, zero, suc, ◌<◌, ◌≤◌, Bool, false, List, [], ◌∷◌, ◌++◌, length, map, take, drop, slice_get, Option, None, Some, refl, sym, ap, subst, ◌∙◌, arith, All, flat_map, append_assoc, append-nil, take_all, Data, items_of, has_float, Position, Rules, MoveValue, text, PictureSpec, head_tree, place_of, Group, AreGroups, move_cells, group_tree, row_tree, ap₂, AreRows, script_line}
+use Rattle.gm_game.specs.declared.position.Solved.{Solved}
+use Rattle.gm_page.specs.Rows.{place_cells, IsRunOfMoves}
+use Rattle.std.specs.Prelude.{IfSome, unwrap_or}
+use Rattle.std.proofs.lemmas.Bool.{or_parts}
+use Rattle.std.proofs.lemmas.List.{take-append-drop}
+use Rattle.serde_json.specs.Written.{items_have_float}
 
 -- ---- what a loop writes, as it goes on
 -- more is written before the rest
@@ -22,7 +24,7 @@ AreGrouped tree moves old new = (groups : List Group) × AreGroups moves groups 
 -- the next run, if a list is split where a move of another worth follows
 pub is_run : (x : MoveValue) (rest run others : List MoveValue) (n : ℕ) → Some x ≡ slice_get rest 0 → run ≡ take n rest → others ≡ drop n rest → n ≤ length rest
     → All (λ (y : MoveValue). y.worth ≡ x.worth) (take n rest) → IfSome (slice_get rest n) (λ (y : MoveValue). y.worth ≡ x.worth → ⊥)
-    → IsRun (record { worth = x.worth; moves = run }) others × (rest ≡ run ++ others)
+    → IsRunOfMoves (record { worth = x.worth; moves = run }) others × (rest ≡ run ++ others)
 is_run x rest run others n first front back within same ends = (
   record {
     some = subst (λ (ms : List MoveValue). 0 < length ms) (sym front) (some_moves rest n (sym first) ends within);

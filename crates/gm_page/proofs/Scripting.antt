@@ -1,7 +1,11 @@
 -- Texts that open no tag.
-use Rattle.gm_page.proofs.Lower.{◌≡◌, ℕ, true, eqb, not, List, [], ◌∷◌, refl, ap, ◌∙◌, inl, inr, flat_map, list_all, cases_Bool, cond-true, cond-false}
-use Rattle.gm_page.proofs.Lower.{and_from, list_all-append, Data, opens_none, script_byte, script_line, line_of, script_lines}
-use Rattle.gm_page.specs.Scripts.{script_text}
+use Rattle.gm_page.proofs.Lower.{◌≡◌, ℕ, true, List, [], ◌∷◌, refl, ap, ◌∙◌, inl, inr, flat_map, cases_Bool, cond-true, cond-false, and_from, Data, script_byte, script_line}
+use Rattle.std.proofs.Common.{eqb, not}
+use Rattle.std.specs.List.{list_all}
+use Rattle.std.proofs.lemmas.List.Folds.{list_all-append}
+use Rattle.gm_page.specs.Scripts.{opens_none, script_text}
+use Rattle.gm_json.specs.Words.{line_of}
+use Rattle.gm_page.specs.Pages.{script_lines}
 
 byte_opens_none : (b : ℕ) → list_all opens_none (script_byte b) ≡ true
 byte_opens_none b = elim (cases_Bool (eqb b 60)) [

@@ -1,6 +1,6 @@
 -- Sheets: entries one by one, and solutions move by move.
-use Rattle.gm_page.proofs.Lower.{◌≡◌, ℕ, List, ◌∷◌, ◌++◌, ap, ◌∙◌, codes, flat_map, append_assoc, Position, Rules, Found, PictureSpec, Entry, entry_text}
-use Rattle.gm_page.proofs.Lower.{answer_text, AreEntries, steps_text, escaped}
+use Rattle.gm_page.proofs.Lower.{◌≡◌, ℕ, List, ◌∷◌, ◌++◌, ap, ◌∙◌, codes, flat_map, append_assoc, Position, Rules, Found, PictureSpec, Entry, entry_text, solution_item, AreEntries, steps_text}
+use Rattle.gm_draw.specs.Diagrams.{escaped}
 
 -- ---- moves
 -- one more move
@@ -22,4 +22,5 @@ line_parts t0 front steps moves end t1 t2 t3 a b e c =
 -- the entries of these positions, and their solutions, after the earlier texts
 abbrev pub HasEntries : Rules → (Position → List ℕ) → (Position → ℕ → List ℕ) → PictureSpec → List Found → List ℕ → List ℕ → List ℕ → List ℕ → Type 0
 HasEntries r shown move_shown picture xs old old_answers new answers =
-    (es : List Entry) × AreEntries r shown move_shown picture xs es × (new ≡ old ++ flat_map entry_text es) × (answers ≡ old_answers ++ flat_map answer_text es)
+    (es : List Entry) × AreEntries r shown move_shown picture xs es × (new ≡ old ++ flat_map entry_text es) ×
+    (answers ≡ old_answers ++ flat_map solution_item es)

@@ -1,6 +1,6 @@
 -- The engine's text in a page: digits of base64.
 use Rattle.std.specs.Prelude.{◌≡◌, ◌<◌, ◌==◌, ◌&&◌, ◌++◌, ℕ, nat_le, true, Bool, List, codes, length, ◌⊎◌, ◌||◌}
-use Rattle.gm_page.specs.Lower.{list_all}
+use Rattle.std.specs.List.{list_all}
 
 -- tests whether a byte is from one to another
 abbrev pub is_within : ℕ → ℕ → ℕ → Bool

@@ -1,7 +1,12 @@
 -- The first line of a page, which describes the game.
 use Rattle.std.specs.Prelude.{ℕ, Bool, true, false, List, [], ◌∷◌, ◌==◌, map, codes}
-use Rattle.gm_page.specs.Lower.{Data, string, array, object, items_of, text, PictureSpec, before_first, Members, boolean, member, no_members, Style, Row}
-use Rattle.gm_page.specs.Lower.{Crosses, Counters, Stones, Discs, Letters, Chess, Hounds}
+use Rattle.serde_json.specs.Data.{Data, string, array, object, Members, boolean, member, no_members}
+use Rattle.serde_json.specs.View.{items_of}
+use Rattle.gm_json.specs.Words.{text}
+use Rattle.gm_draw.specs.Pictures.{PictureSpec}
+use Rattle.std.specs.List.{before_first}
+use Rattle.gm_draw.specs.declared.pictured.Style.{Style}
+use Rattle.gm_draw.specs.declared.pictured.Style.TheVariants.{Row, Crosses, Counters, Stones, Discs, Letters, Chess, Hounds}
 
 -- the bytes of a position's text that are men; on a board of chess the last is that of the second side, and the others are of the first
 abbrev pub men_of : Style → List ℕ

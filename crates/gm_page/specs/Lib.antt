@@ -7,4 +7,3 @@ pub mod Rows
 pub mod Pages
 pub mod Engines
 pub mod Sheets
-pub mod Lower

@@ -1,7 +1,15 @@
 -- The positions of a page: those of best play, and then those that play reaches, the near ones first.
-use Rattle.std.specs.Prelude.{◌≡◌, ℕ, ◌-◌, ◌<◌, Bool, ◌&&◌, nat_le, List, [], ◌∷◌, ◌++◌, map, length, take, slice_get, if◌then◌else◌, Option, None, Some}
-use Rattle.std.specs.Prelude.{is_some, zero, suc, ◌+◌, nat_eq, get_or}
-use Rattle.gm_page.specs.Lower.{get, Contains, Position, Rules, BestLine, MoveValue, IsBestLine, AreMoveValues, HashMap, at, IsPlay, position_after}
+use Rattle.std.specs.Prelude.{◌≡◌, ℕ, ◌-◌, ◌<◌, Bool, ◌&&◌, nat_le, List, [], ◌∷◌, ◌++◌, map, length, take, slice_get, if◌then◌else◌, Option, None, Some, is_some, zero, suc, ◌+◌, nat_eq, get_or}
+use Rattle.std.specs.HashMap.{get, HashMap}
+use Rattle.std.specs.List.{Contains}
+use Rattle.gm_game.specs.declared.position.Position.{Position}
+use Rattle.gm_game.specs.Rules.{Rules, at}
+use Rattle.gm_play.specs.declared.best_line.BestLine.{BestLine}
+use Rattle.gm_play.specs.declared.move_values.MoveValue.{MoveValue}
+use Rattle.gm_play.specs.BestLines.{IsBestLine}
+use Rattle.gm_play.specs.MoveValues.{AreMoveValues}
+use Rattle.gm_find.specs.Reaching.{IsPlay}
+use Rattle.gm_play.specs.Lines.{position_after}
 
 -- ---- places
 -- whether two positions are equal

@@ -1,6 +1,11 @@
 -- Pages: the viewer with its lines of data, and the engine's text, between its parts.
 use Rattle.std.specs.Prelude.{◌≡◌, ◌↔◌, ℕ, Bool, false, List, ◌++◌, IsTrue}
-use Rattle.gm_page.specs.Lower.{flat_map, Data, Position, Rules, PictureSpec, IsReadAs}
+use Rattle.std.specs.List.{flat_map}
+use Rattle.serde_json.specs.Data.{Data}
+use Rattle.gm_game.specs.declared.position.Position.{Position}
+use Rattle.gm_game.specs.Rules.{Rules}
+use Rattle.gm_draw.specs.Pictures.{PictureSpec}
+use Rattle.gm_play.specs.PlayTexts.{IsReadAs}
 use Rattle.gm_page.specs.declared.front.TheConstants.{OPENING, STYLE, PARTS}
 use Rattle.gm_page.specs.declared.engine.TheConstants.{BETWEEN}
 use Rattle.gm_page.specs.declared.viewer_asking.TheConstants.{ASKING}

@@ -1,6 +1,16 @@
 -- Rows: the lines of a page that describe its positions.
 use Rattle.std.specs.Prelude.{◌≡◌, ℕ, ◌<◌, List, [], ◌∷◌, ◌++◌, map, length, slice_get, IfSome, Option, None, Some}
-use Rattle.gm_page.specs.Lower.{All, flat_map, Data, array, items_of, Position, Solved, Rules, MoveValue, AreMoveValues, text, text_of, IsTrueValue, whole}
+use Rattle.std.specs.List.{All, flat_map}
+use Rattle.serde_json.specs.Data.{Data, array}
+use Rattle.serde_json.specs.View.{items_of}
+use Rattle.gm_game.specs.declared.position.Position.{Position}
+use Rattle.gm_game.specs.declared.position.Solved.{Solved}
+use Rattle.gm_game.specs.Rules.{Rules}
+use Rattle.gm_play.specs.declared.move_values.MoveValue.{MoveValue}
+use Rattle.gm_play.specs.MoveValues.{AreMoveValues}
+use Rattle.gm_json.specs.Words.{text, whole}
+use Rattle.gm_game.specs.Texts.{text_of}
+use Rattle.gm_game.specs.Values.{IsTrueValue}
 use Rattle.gm_page.specs.Listings.{place_of}
 
 -- ---- groups
@@ -10,7 +20,7 @@ pub record Group : Type 0 where
   pub moves : List MoveValue
 
 -- the longest run of moves of equal worth before the rest
-pub record IsRun (g : Group) (rest : List MoveValue) : Type 0 where
+pub record IsRunOfMoves (g : Group) (rest : List MoveValue) : Type 0 where
   pub some : 0 < length g.moves
   pub same : All (λ (x : MoveValue). x.worth ≡ g.worth) g.moves
   pub ends : IfSome (slice_get rest 0) (λ (x : MoveValue). x.worth ≡ g.worth → ⊥)
@@ -18,7 +28,7 @@ pub record IsRun (g : Group) (rest : List MoveValue) : Type 0 where
 -- the moves in groups, in their order
 abbrev pub AreGroups : List MoveValue → List Group → Type 0
 AreGroups xs [] = xs ≡ []
-AreGroups xs (g ∷ gs) = (rest : List MoveValue) × (xs ≡ g.moves ++ rest) × IsRun g rest × AreGroups rest gs
+AreGroups xs (g ∷ gs) = (rest : List MoveValue) × (xs ≡ g.moves ++ rest) × IsRunOfMoves g rest × AreGroups rest gs
 
 -- ---- trees
 -- the number of a row, if there is one

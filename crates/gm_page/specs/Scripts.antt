@@ -1,6 +1,9 @@
 -- Texts in an element of a page: no byte of them opens a tag.
 use Rattle.std.specs.Prelude.{◌≡◌, ℕ, Some, Bool, ◌==◌, List, [], ◌∷◌, codes, if◌then◌else◌, not}
-use Rattle.gm_page.specs.Lower.{flat_map, Data, read, line_of}
+use Rattle.std.specs.List.{flat_map}
+use Rattle.serde_json.specs.Data.{Data}
+use Rattle.serde_json.specs.Read.{read}
+use Rattle.gm_json.specs.Words.{line_of}
 
 -- whether a byte opens no tag
 abbrev pub opens_none : ℕ → Bool

@@ -1,7 +1,20 @@
 -- Sheets: diagrams of found positions, with their solutions.
 use Rattle.std.specs.Prelude.{◌≡◌, ◌==◌, ℕ, Bool, true, List, [], ◌∷◌, ◌++◌, codes, if◌then◌else◌, Option, None, Some}
-use Rattle.gm_page.specs.Lower.{flat_map, Position, Rules, BestLine, IsBestLine, IsFound, PictureSpec, escaped, decimal, TableData, LineEnd, AreAllHeld, Found}
-use Rattle.gm_page.specs.Lower.{Sought, Choice, AreChosen}
+use Rattle.std.specs.List.{flat_map}
+use Rattle.gm_game.specs.declared.position.Position.{Position}
+use Rattle.gm_game.specs.Rules.{Rules}
+use Rattle.gm_play.specs.declared.best_line.BestLine.{BestLine}
+use Rattle.gm_play.specs.BestLines.{IsBestLine}
+use Rattle.gm_find.specs.Founds.{IsFound, AreChosen}
+use Rattle.gm_draw.specs.Pictures.{PictureSpec}
+use Rattle.gm_draw.specs.Diagrams.{escaped}
+use Rattle.std.specs.Fmt.{decimal}
+use Rattle.gm_table.specs.Tables.{TableData}
+use Rattle.gm_play.specs.declared.best_line.LineEnd.{LineEnd}
+use Rattle.gm_play.specs.Reached.{AreAllHeld}
+use Rattle.gm_find.specs.declared.found.Found.{Found}
+use Rattle.gm_find.specs.declared.sought.Sought.{Sought}
+use Rattle.gm_find.specs.declared.sought.Choice.{Choice}
 use Rattle.gm_play.specs.declared.best_line.LineEnd.TheVariants.{Over, Again, Cut}
 use Rattle.gm_page.specs.ShowTexts.{IsDiagram}
 use Rattle.gm_page.specs.declared.solution.TheConstants.{SOLUTION_MOVES}
@@ -55,8 +68,8 @@ entry_text e =
     ++ codes "</code></p></details></li>\n"
 
 -- its solution for paper
-unfoldable pub answer_text : Entry → List ℕ
-answer_text e = codes "<li>" ++ e.solution ++ codes "</li>\n"
+unfoldable pub solution_item : Entry → List ℕ
+solution_item e = codes "<li>" ++ e.solution ++ codes "</li>\n"
 
 -- the text before the diagrams, with the title
 unfoldable pub heading : List ℕ → List ℕ
@@ -68,7 +81,7 @@ lists entries answers = entries ++ SHEET_SOLUTIONS.now ++ answers ++ SHEET_BACK.
 
 -- the sheet of these entries, under this title
 abbrev pub sheet_of : List ℕ → List Entry → List ℕ
-sheet_of title es = heading title ++ lists (flat_map entry_text es) (flat_map answer_text es)
+sheet_of title es = heading title ++ lists (flat_map entry_text es) (flat_map solution_item es)
 
 module _ (r : Rules) (shown : Position → List ℕ) (move_shown : Position → ℕ → List ℕ) (picture : PictureSpec) where
   -- the entry of a found position: its text, the diagram of it with its value, and its solution
@@ -94,5 +107,5 @@ module _ (r : Rules) (shown : Position → List ℕ) (move_shown : Position → 
 
 -- ---- tables
 -- a found position whose tier has a table, as has each tier that is reached from it
-abbrev pub IsKnownAt : Rules → List TableData → Found → Type 0
-IsKnownAt r entries x = IsFound r x × AreAllHeld r entries x.position.tier
+abbrev pub IsKnownFound : Rules → List TableData → Found → Type 0
+IsKnownFound r entries x = IsFound r x × AreAllHeld r entries x.position.tier

@@ -1,6 +1,13 @@
 -- The text of a position for people, and its diagram.
 use Rattle.std.specs.Prelude.{◌≡◌, ℕ, Bool, List, [], ◌∷◌, ◌++◌, codes, if◌then◌else◌}
-use Rattle.gm_page.specs.Lower.{Position, Solved, Rules, text_of, IsTrueValue, IsReadAs, diagram_of, PictureSpec, drawn}
+use Rattle.gm_game.specs.declared.position.Position.{Position}
+use Rattle.gm_game.specs.declared.position.Solved.{Solved}
+use Rattle.gm_game.specs.Rules.{Rules}
+use Rattle.gm_game.specs.Texts.{text_of}
+use Rattle.gm_game.specs.Values.{IsTrueValue}
+use Rattle.gm_play.specs.PlayTexts.{IsReadAs}
+use Rattle.gm_draw.specs.Diagrams.{diagram_of}
+use Rattle.gm_draw.specs.Pictures.{PictureSpec, drawn}
 
 module _ (r : Rules) (shown : Position → List ℕ) (move_shown : Position → ℕ → List ℕ) (picture : PictureSpec) where
   -- the drawing, and the side to move with the value

@@ -1,6 +1,11 @@
 -- The text before a question to the person.
 use Rattle.std.specs.Prelude.{ℕ, List, ◌++◌, codes}
-use Rattle.gm_page.specs.Lower.{flat_map, Position, Rules, Question, First, Again, PictureSpec, drawn}
+use Rattle.std.specs.List.{flat_map}
+use Rattle.gm_game.specs.declared.position.Position.{Position}
+use Rattle.gm_game.specs.Rules.{Rules}
+use Rattle.gm_play.specs.declared.view.Question.{Question}
+use Rattle.gm_play.specs.declared.view.Question.TheVariants.{First, Again}
+use Rattle.gm_draw.specs.Pictures.{PictureSpec, drawn}
 
 -- a line of these moves
 abbrev pub move_line : (Position → ℕ → List ℕ) → Position → List ℕ → List ℕ

@@ -1,6 +1,6 @@
 //! The engine's text in a page: digits of base64.
 ghost use Rattle.std.specs.Prelude.{◌≡◌, ◌<◌, ◌++◌, None, true, List, ℕ, IfSome, length};
-ghost use Rattle.gm_page.specs.Lower.{list_all};
+ghost use Rattle.std.specs.List.{list_all};
 ghost use Rattle.gm_page.specs.Engines.{is_digit, IsBeforeEnd, IsEngine};
 ghost use Rattle.gm_page.specs.Scripts.{opens_none};
 

@@ -1,6 +1,10 @@
 //! The first line of a page, which describes the game.
 ghost use Rattle.std.specs.Prelude.{◌≡◌, ◌==◌, ◌<◌, ◌++◌, [], length, map, IfOk, OnOk, IfSome};
-ghost use Rattle.gm_page.specs.Lower.{array, object, items_of, view, members_view, text, position, texts};
+ghost use Rattle.serde_json.specs.Data.{array, object};
+ghost use Rattle.serde_json.specs.View.{items_of, view, members_view};
+ghost use Rattle.gm_json.specs.Words.{text};
+ghost use Rattle.std.specs.List.{position};
+ghost use Rattle.gm_draw.specs.Pictures.{texts};
 ghost use Rattle.gm_page.specs.Heads.{head_tree, head_members, men_of, first_side, second_side, sides_tree, swaps as swaps_spec, name_text};
 ghost use Rattle.gm_page.specs.Scripts.{script_line};
 

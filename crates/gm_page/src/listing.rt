@@ -1,6 +1,10 @@
 //! The positions of a page.
 ghost use Rattle.std.specs.Prelude.{◌≡◌, ◌≤◌, ◌-◌, ◌↔◌, ◌++◌, ◌∷◌, ℕ, [], List, true, length, map, IsTrue, IfOk, OnOk, slice_get, Some, None};
-ghost use Rattle.gm_page.specs.Lower.{get, All, Contains, Position, MoveValue, AreFresh};
+ghost use Rattle.std.specs.HashMap.{get};
+ghost use Rattle.std.specs.List.{All, Contains};
+ghost use Rattle.gm_game.specs.declared.position.Position.{Position};
+ghost use Rattle.gm_play.specs.declared.move_values.MoveValue.{MoveValue};
+ghost use Rattle.gm_play.specs.BestLines.{AreFresh};
 ghost use Rattle.gm_page.specs.Listings.{place_of, with_new, with_all, result_of, Tells, IsListing, IsReachedFrom, ComesFromEarlier, IsClosed, is_key};
 
 use gm_game::game::{Game, laws};

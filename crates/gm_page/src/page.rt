@@ -1,6 +1,9 @@
 //! Pages: explorers of the positions that play reaches from a position. With the engine they solve the game in the browser.
 ghost use Rattle.std.specs.Prelude.{◌≡◌, ◌<◌, ◌≤◌, ◌++◌, true, List, length, IfOk, OnOk, ◌^◌};
-ghost use Rattle.gm_page.specs.Lower.{list_all, Data, Position, Solved};
+ghost use Rattle.std.specs.List.{list_all};
+ghost use Rattle.serde_json.specs.Data.{Data};
+ghost use Rattle.gm_game.specs.declared.position.Position.{Position};
+ghost use Rattle.gm_game.specs.declared.position.Solved.{Solved};
 ghost use Rattle.gm_page.specs.Heads.{head_tree};
 ghost use Rattle.gm_page.specs.Pages.{page_front, page_back, game_tree, script_lines, IsPage};
 ghost use Rattle.gm_page.specs.Rows.{Group, row_tree};

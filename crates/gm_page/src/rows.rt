@@ -1,6 +1,11 @@
 //! The rows of a page, each of which describes one position.
 ghost use Rattle.std.specs.Prelude.{◌≡◌, ◌≤◌, ◌++◌, List, length, map, take, slice_get, IfOk, OnOk, IfSome};
-ghost use Rattle.gm_page.specs.Lower.{All, flat_map, Data, view, IsReached, MoveValue, IsMoveOf};
+ghost use Rattle.std.specs.List.{All, flat_map};
+ghost use Rattle.serde_json.specs.Data.{Data};
+ghost use Rattle.serde_json.specs.View.{view};
+ghost use Rattle.gm_play.specs.Reached.{IsReached};
+ghost use Rattle.gm_play.specs.declared.move_values.MoveValue.{MoveValue};
+ghost use Rattle.gm_play.specs.PlayTexts.{IsMoveOf};
 ghost use Rattle.gm_page.specs.Rows.{AreRows, IsRow, move_cells, group_tree};
 ghost use Rattle.gm_page.specs.Scripts.{script_line};
 

@@ -1,6 +1,6 @@
 //! Texts in an element of a page: lines of JSON for a script.
 ghost use Rattle.std.specs.Prelude.{◌≡◌, ◌++◌, true, OnOk};
-ghost use Rattle.gm_page.specs.Lower.{list_all};
+ghost use Rattle.std.specs.List.{list_all};
 ghost use Rattle.gm_page.specs.Scripts.{opens_none, script_byte, script_text};
 
 use std::alloc::AllocError;

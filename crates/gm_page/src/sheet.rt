@@ -1,7 +1,7 @@
 //! Sheets: diagrams of found positions, with their solutions.
 ghost use Rattle.std.specs.Prelude.{◌≡◌, ◌++◌, ℕ, List, IfOk, OnOk, is_some};
-ghost use Rattle.gm_page.specs.Lower.{All, flat_map};
-ghost use Rattle.gm_page.specs.Sheets.{Entry, entry_text, answer_text, heading, lists, IsEntry, AreEntries, IsSheet, IsKnownAt};
+ghost use Rattle.std.specs.List.{All, flat_map};
+ghost use Rattle.gm_page.specs.Sheets.{Entry, entry_text, solution_item, heading, lists, IsEntry, AreEntries, IsSheet, IsKnownFound};
 
 use crate::parts::{SHEET_BACK, SHEET_DIAGRAMS, SHEET_FRONT, SHEET_SOLUTIONS};
 use crate::show::diagram_text;
@@ -53,9 +53,9 @@ fn push_entries<G: Pictured>(
     entries: &mut Vec<u8>,
     answers: &mut Vec<u8>,
 ) -> Result<(), AllocError>
-    requires { All (IsKnownAt G.Game.rules tables.now) found.now }
+    requires { All (IsKnownFound G.Game.rules tables.now) found.now }
     ensures { OnOk result ((es : List Entry) × AreEntries G.Game.rules G.shown G.move_shown G.picture found.now es
-        × (entries.new.items ≡ entries.old.items ++ flat_map entry_text es) × (answers.new.items ≡ answers.old.items ++ flat_map answer_text es)) }
+        × (entries.new.items ≡ entries.old.items ++ flat_map entry_text es) × (answers.new.items ≡ answers.old.items ++ flat_map solution_item es)) }
 {
     for x in found {
         push_entry(alloc, tables, *x, entries, answers)?;
@@ -71,9 +71,9 @@ fn push_entry<G: Pictured>(
     entries: &mut Vec<u8>,
     answers: &mut Vec<u8>,
 ) -> Result<(), AllocError>
-    requires { IsKnownAt G.Game.rules tables.now x }
+    requires { IsKnownFound G.Game.rules tables.now x }
     ensures { OnOk result ((e : Entry) × IsEntry G.Game.rules G.shown G.move_shown G.picture x e
-        × (entries.new.items ≡ entries.old.items ++ entry_text e) × (answers.new.items ≡ answers.old.items ++ answer_text e)) }
+        × (entries.new.items ≡ entries.old.items ++ entry_text e) × (answers.new.items ≡ answers.old.items ++ solution_item e)) }
 {
     let known = Known {
         tables,
@@ -108,10 +108,10 @@ fn push_unfolding(
 }
 
 // Appends a solution for paper.
-#[tactic(auto, unfolding(crate::specs::Sheets::answer_text))]
+#[tactic(auto, unfolding(crate::specs::Sheets::solution_item))]
 fn push_answer(answers: &mut Vec<u8>, solution: &[u8]) -> Result<(), AllocError>
     ensures { OnOk result ((text : List ℕ) (diagram : List ℕ) → answers.new.items
-        ≡ answers.old.items ++ answer_text (record { text = text; diagram = diagram; solution = solution.now })) }
+        ≡ answers.old.items ++ solution_item (record { text = text; diagram = diagram; solution = solution.now })) }
 {
     answers.extend_from_slice(b"<li>")?;
     answers.extend_from_slice(solution)?;

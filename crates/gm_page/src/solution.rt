@@ -1,6 +1,8 @@
 //! The solutions of a sheet: the best move of a position, and best play from it.
 ghost use Rattle.std.specs.Prelude.{◌≡◌, ◌++◌, true, IfOk, OnOk};
-ghost use Rattle.gm_page.specs.Lower.{Contains, IsFound, AreBest};
+ghost use Rattle.std.specs.List.{Contains};
+ghost use Rattle.gm_find.specs.Founds.{IsFound};
+ghost use Rattle.gm_play.specs.BestLines.{AreBest};
 ghost use Rattle.gm_page.specs.Sheets.{choice_words, end_words, steps_text, best_words, line_words, IsSolution};
 
 use gm_draw::markup::push_escaped;

@@ -1,7 +1,10 @@
 //! Texts as trees, and trees as lines of a page.
 ghost use Rattle.std.specs.Prelude.{◌≡◌, ◌++◌, false, IfOk, OnOk};
-ghost use Rattle.gm_page.specs.Lower.{string, view, members_view, text, utf8_lossy, has_float};
-ghost use Rattle.serde_json.specs.Data.{put as with_member};
+ghost use Rattle.serde_json.specs.Data.{string, put as with_member};
+ghost use Rattle.serde_json.specs.View.{view, members_view};
+ghost use Rattle.gm_json.specs.Words.{text};
+ghost use Rattle.std.specs.Str.Lossy.{utf8_lossy};
+ghost use Rattle.serde_json.specs.Written.{has_float};
 ghost use Rattle.gm_page.specs.Scripts.{script_line};
 
 use crate::script::push_script;

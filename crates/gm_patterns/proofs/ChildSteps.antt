@@ -1,7 +1,6 @@
 -- Numbers that the elements of a list give, put into an ascending list one at a time.
 use Rattle.std.specs.Prelude.{◌≡◌, ◌+◌, ◌<◌, ◌≤◌, ◌∷◌, ◌++◌, drop}
-use Rattle.gm_pieces.specs.Common.{ℕ, List, [], length, get_or, take, Option, None, Some, refl, sym, ap, ◌∙◌, arith, cond, eqb, leb, ltb, filter_map, put, put_all}
-use Rattle.gm_pieces.specs.Common.{take_more}
+use Rattle.gm_pieces.specs.Common.{ℕ, List, [], length, get_or, take, Option, None, Some, refl, sym, ap, ◌∙◌, arith, cond, eqb, leb, ltb, filter_map, put, put_all, take_more}
 use Rattle.std.proofs.lemmas.Bool.{cond_both, cond-true, cond-false, le-leb, lt-leb}
 use Rattle.std.proofs.lemmas.List.{take-append-drop}
 use Rattle.std.proofs.lemmas.List.Elements.{filter_map-append}

@@ -4,6 +4,5 @@ pub mod PatternGames
 pub mod PatternTables
 pub mod PatternTexts
 pub mod PatternPictures
+pub mod inner
 pub mod laws
-pub mod Lower
-pub mod Lesser

@@ -1,9 +1,19 @@
 -- Games of patterns: the steps, the ends and the boards that can't be are tables of patterns. A board is a list of n cells as the player to move sees them.
-use Rattle.std.specs.Prelude.{ℕ, ◌+◌, ◌-◌, ◌*◌, ◌/◌, ◌%◌, min, max, Bool, true, false, not, ◌&&◌, ◌==◌, nat_le, nat_lt, List, [], ◌++◌, map, length, replicate}
-use Rattle.std.specs.Prelude.{slice_index_or, if◌then◌else◌, Option, None, Some}
+use Rattle.std.specs.Prelude.{ℕ, ◌+◌, ◌-◌, ◌*◌, ◌/◌, ◌%◌, min, max, Bool, true, false, not, ◌&&◌, ◌==◌, nat_le, nat_lt, List, [], ◌++◌, map, length, replicate, slice_index_or, if◌then◌else◌, Option, None, Some}
 use Rattle.std.specs.Option.{is_none}
-use Rattle.gm_patterns.specs.Lower.{filter_map, put_all, Cell, Empty, turned, is_mine, is_theirs, number_of, permute, arrangements, board_index, board_numbered}
-use Rattle.gm_patterns.specs.Lower.{End, Lose, Tie, Win, Rules, MoveGame, move_rules}
+use Rattle.std.specs.List.{filter_map}
+use Rattle.gm_game.specs.Ascending.{put_all}
+use Rattle.gm_board.specs.declared.cell.Cell.{Cell}
+use Rattle.gm_board.specs.declared.cell.Cell.TheVariants.{Empty}
+use Rattle.gm_board.specs.BoardMasks.{turned}
+use Rattle.gm_board.specs.Cells.{is_mine, is_theirs, number_of}
+use Rattle.gm_board.specs.Permutations.{permute}
+use Rattle.gm_board.specs.Arrangements.{arrangements}
+use Rattle.gm_pieces.specs.Sides.{board_index, board_numbered}
+use Rattle.gm_game.specs.declared.position.End.{End}
+use Rattle.gm_game.specs.declared.position.End.TheVariants.{Lose, Tie, Win}
+use Rattle.gm_game.specs.Rules.{Rules}
+use Rattle.gm_pieces.specs.MoveGames.{MoveGame, move_rules}
 use Rattle.gm_patterns.specs.Patterns.{fits, has_some}
 use Rattle.gm_patterns.specs.Steps.{stepped, taken_back}
 use Rattle.gm_patterns.specs.declared.pattern.Pattern.{Pattern}

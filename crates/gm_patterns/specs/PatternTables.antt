@@ -1,8 +1,16 @@
 -- What each game of patterns proves of its tables: a computation finds nothing wrong with them. A check that fails names what is wrong.
-use Rattle.std.specs.Prelude.{◌≡◌, ℕ, ◌+◌, ◌-◌, ◌*◌, ◌/◌, ◌%◌, ◌^◌, Bool, true, false, not, ◌&&◌, ◌||◌, ◌==◌, min, max, nat_lt, nat_le, bit_and, List, [], ◌∷◌, ◌++◌, map, length}
-use Rattle.std.specs.Prelude.{if◌then◌else◌, Option, None, Some}
-use Rattle.gm_patterns.specs.Lower.{filter, flat_map, list_all, list_any, range_with_len, NAME, is_padded_text, is_plain, Empty, Mine, Theirs, is_group_table, is_permutation_of}
-use Rattle.gm_patterns.specs.Lower.{has_cell, image_mask, is_mine, is_theirs, just_one, number_of, permute, same_list}
+use Rattle.std.specs.Prelude.{◌≡◌, ℕ, ◌+◌, ◌-◌, ◌*◌, ◌/◌, ◌%◌, ◌^◌, Bool, true, false, not, ◌&&◌, ◌||◌, ◌==◌, min, max, nat_lt, nat_le, bit_and, List, [], ◌∷◌, ◌++◌, map, length, if◌then◌else◌, Option, None, Some}
+use Rattle.std.specs.List.{filter, flat_map, list_all, list_any, range_with_len}
+use Rattle.gm_game.specs.declared.limits.TheConstants.{NAME}
+use Rattle.gm_game.specs.Texts.{is_padded_text}
+use Rattle.gm_game.specs.Shown.{is_plain}
+use Rattle.gm_board.specs.declared.cell.Cell.TheVariants.{Empty, Mine, Theirs}
+use Rattle.gm_board.specs.inner.Groups.{is_group_table}
+use Rattle.gm_board.specs.Permutations.{is_permutation_of, permute, same_list}
+use Rattle.gm_board.specs.Masks.{has_cell}
+use Rattle.gm_board.specs.Images.{image_mask}
+use Rattle.gm_board.specs.Cells.{is_mine, is_theirs, number_of}
+use Rattle.gm_board.specs.inner.Words.{just_one}
 use Rattle.gm_draw.specs.Points.{is_name, are_apart}
 use Rattle.gm_patterns.specs.Patterns.{lets, fits, both, without, image_pattern, same_pattern}
 use Rattle.gm_patterns.specs.Steps.{cells_in, laid}
@@ -24,8 +32,8 @@ abbrev pub is_void : ℕ → Pattern → Bool
 is_void n p = nat_lt 0 (bit_and (bit_and p.not_empty (bit_and p.not_mine p.not_theirs)) (2 ^ n - 1))
 
 -- whether each board that has the first pattern has the second
-abbrev pub implies : Pattern → Pattern → Bool
-implies p q =
+abbrev pub pattern_implies : Pattern → Pattern → Bool
+pattern_implies p q =
     bit_and q.not_empty p.not_empty == q.not_empty
     && (bit_and q.not_mine p.not_mine == q.not_mine && bit_and q.not_theirs p.not_theirs == q.not_theirs)
 
@@ -81,7 +89,8 @@ pass_pattern g p = turn_pattern g.turn (swap_pattern g.swapped p)
 
 -- whether each board that has the pattern can't be, or the game is over on it
 abbrev pub is_ruled_out : PatternGame → Pattern → Bool
-is_ruled_out g p = list_any (implies p) g.forbidden || (list_any (implies p) g.lost || (list_any (implies p) g.won || list_any (implies p) g.tied))
+is_ruled_out g p = list_any (pattern_implies p) g.forbidden || (list_any (pattern_implies p) g.lost ||
+    (list_any (pattern_implies p) g.won || list_any (pattern_implies p) g.tied))
 
 -- whether a step leads to no board with a forbidden pattern, of which q is what the board before it passes has
 abbrev pub avoids : ℕ → PatternGame → Step → Pattern → Bool

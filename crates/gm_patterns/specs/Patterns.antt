@@ -1,6 +1,12 @@
 -- Patterns: what may lie on the cells of a board. Each of the three masks of a pattern has the cells on which one thing may not lie.
 use Rattle.std.specs.Prelude.{ℕ, Bool, not, ◌&&◌, ◌==◌, bit_and, bit_or, bit_xor, List, length}
-use Rattle.gm_patterns.specs.Lower.{list_all, list_any, range_with_len, Cell, Empty, Mine, Theirs, cell_at, has_cell, pattern_mask, image_mask}
+use Rattle.std.specs.List.{list_all, list_any, range_with_len}
+use Rattle.gm_board.specs.declared.cell.Cell.{Cell}
+use Rattle.gm_board.specs.declared.cell.Cell.TheVariants.{Empty, Mine, Theirs}
+use Rattle.gm_board.specs.Cells.{cell_at}
+use Rattle.gm_board.specs.Masks.{has_cell}
+use Rattle.gm_board.specs.BoardMasks.{pattern_mask}
+use Rattle.gm_board.specs.Images.{image_mask}
 use Rattle.gm_patterns.specs.declared.pattern.Pattern.{Pattern}
 
 -- whether a pattern lets this lie on a cell

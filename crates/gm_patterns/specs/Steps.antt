@@ -1,6 +1,10 @@
 -- Steps: a board that has the pattern before a step gets what the pattern after it says, and is as it was elsewhere.
 use Rattle.std.specs.Prelude.{ℕ, not, bit_or, List, [], ◌∷◌, map, length, if◌then◌else◌}
-use Rattle.gm_patterns.specs.Lower.{range_with_len, Cell, Empty, Mine, Theirs, cell_at, has_cell}
+use Rattle.std.specs.List.{range_with_len}
+use Rattle.gm_board.specs.declared.cell.Cell.{Cell}
+use Rattle.gm_board.specs.declared.cell.Cell.TheVariants.{Empty, Mine, Theirs}
+use Rattle.gm_board.specs.Cells.{cell_at}
+use Rattle.gm_board.specs.Masks.{has_cell}
 use Rattle.gm_patterns.specs.Patterns.{empty_on, mine_on, theirs_on, taken_on, both}
 use Rattle.gm_patterns.specs.declared.pattern.Pattern.{Pattern}
 use Rattle.gm_patterns.specs.declared.step.Step.{Step}

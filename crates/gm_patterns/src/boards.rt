@@ -1,6 +1,6 @@
 //! Which boards are legal, on which the game is over, and how the other player sees them.
 ghost use Rattle.std.specs.Prelude.{◌≡◌, true};
-ghost use Rattle.gm_patterns.specs.Lower.{board_of};
+ghost use Rattle.gm_board.specs.Images.{board_of};
 ghost use Rattle.gm_patterns.specs.PatternGames.{tier_on as tier_on_of, legal, turn_by, end_by_last_move as over_of, end_by_patterns as patterns_end, passed as passed_of};
 
 use crate::pattern::has_some;

@@ -1,6 +1,6 @@
 //! Indexes: the boards of a tier on which the mover has no fewer pieces come first, numbered as arrangements.
 ghost use Rattle.std.specs.Prelude.{◌≡◌, ◌+◌, ◌^◌, ◌<◌, true};
-ghost use Rattle.gm_patterns.specs.Lower.{board_of};
+ghost use Rattle.gm_board.specs.Images.{board_of};
 ghost use Rattle.gm_patterns.specs.PatternGames.{boards_with as boards_in, boards_before as boards_first, size_of as size_in, board_at as board_in, legal};
 
 use crate::rules::PatternRules;

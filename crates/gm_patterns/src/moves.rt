@@ -1,8 +1,7 @@
 //! Moves by the steps of a tier.
 ghost use Rattle.std.specs.Prelude.{◌≡◌, ◌<◌, length};
-ghost use Rattle.gm_patterns.specs.Lower.{board_of};
-ghost use Rattle.gm_patterns.specs.PatternGames.{tier_on as tier_on_of, steps_of, can_move as can_move_of, moved as moved_of, can_have_led_here as was_moved_of};
-ghost use Rattle.gm_patterns.specs.PatternGames.{undo as taken_back_of};
+ghost use Rattle.gm_board.specs.Images.{board_of};
+ghost use Rattle.gm_patterns.specs.PatternGames.{tier_on as tier_on_of, steps_of, can_move as can_move_of, moved as moved_of, can_have_led_here as was_moved_of, undo as taken_back_of};
 
 use crate::boards::{passed, tier_on};
 use crate::rules::PatternRules;

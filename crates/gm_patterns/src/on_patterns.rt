@@ -1,6 +1,8 @@
 //! The game that follows from the tables of a game of patterns.
 ghost use Rattle.std.specs.Prelude.{◌≡◌, ◌<◌, ℕ, List};
-ghost use Rattle.gm_patterns.specs.Lower.{Cell, board_of, board_text as board_text_of};
+ghost use Rattle.gm_board.specs.declared.cell.Cell.{Cell};
+ghost use Rattle.gm_board.specs.Images.{board_of};
+ghost use Rattle.gm_pieces.specs.SideTexts.{cells_text as board_text_of};
 ghost use Rattle.gm_patterns.specs.PatternGames.{pattern_game};
 ghost use Rattle.gm_patterns.specs.PatternTexts.{step_text as step_text_of};
 ghost use Rattle.gm_patterns.specs.laws.PatternLaws.{pattern_lawful, pattern_numbered, pattern_symmetric};

@@ -1,6 +1,6 @@
 //! Patterns: what may lie on the cells of a board.
 ghost use Rattle.std.specs.Prelude.{◌≡◌};
-ghost use Rattle.gm_patterns.specs.Lower.{board_of};
+ghost use Rattle.gm_board.specs.Images.{board_of};
 ghost use Rattle.gm_patterns.specs.Patterns.{fits as fits_of, has_some as has_some_of};
 
 use gm_pieces::board::Board;

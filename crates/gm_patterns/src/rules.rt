@@ -1,7 +1,8 @@
 //! What a game of patterns must give.
 ghost use Rattle.std.specs.Prelude.{◌≡◌, ◌+◌, ◌<◌, ◌≤◌, ◌^◌, [], slice_index_or};
 ghost use Rattle.gm_draw.specs.Pictures.{texts};
-ghost use Rattle.gm_patterns.specs.Lower.{board_of, least_index_under};
+ghost use Rattle.gm_board.specs.Images.{board_of};
+ghost use Rattle.gm_pieces.specs.Sides.{least_index_under};
 ghost use Rattle.gm_patterns.specs.PatternGames.{PatternGame, patterns_of};
 ghost use Rattle.gm_patterns.specs.PatternTables.{turn_mask, IsPatternGame};
 

@@ -1,6 +1,6 @@
 //! Steps: what a board has before and after.
 ghost use Rattle.std.specs.Prelude.{◌≡◌, ◌^◌, ◌<◌};
-ghost use Rattle.gm_patterns.specs.Lower.{board_of};
+ghost use Rattle.gm_board.specs.Images.{board_of};
 ghost use Rattle.gm_patterns.specs.Patterns.{without as without_of};
 ghost use Rattle.gm_patterns.specs.Steps.{cells_in, laid as laid_of, stepped, taken_back};
 

@@ -1,12 +1,12 @@
 //! Tiers: the boards on which one side has so many pieces and the other so many; their steps, child tiers and ranks.
 ghost use Rattle.std.specs.Prelude.{◌≡◌, ◌+◌, ◌-◌, ◌^◌, ◌<◌, ◌≤◌, length, replicate};
 ghost use Rattle.gm_board.specs.declared.cell.Cell.{Cell as BoardCell};
-ghost use Rattle.gm_patterns.specs.Lower.{board_of, filter_map, put_all};
+ghost use Rattle.gm_board.specs.Images.{board_of};
+ghost use Rattle.std.specs.List.{filter_map};
+ghost use Rattle.gm_game.specs.Ascending.{put_all};
 ghost use Rattle.gm_game.specs.declared.limits.TheConstants.{CHILD_TIERS, PARENTS};
 ghost use Rattle.gm_patterns.specs.Steps.{cells_in};
-ghost use Rattle.gm_patterns.specs.PatternGames.{tier_of as tier_number, can_have as can_have_in, can_play as can_play_in, steps_of as steps_in, step_at as step_in};
-ghost use Rattle.gm_patterns.specs.PatternGames.{rank_of as rank_in};
-ghost use Rattle.gm_patterns.specs.PatternGames.{tier_by as tier_number_by, more_by, fewer_by, more, fewer, child_by as child_in, child_tiers as children_in};
+ghost use Rattle.gm_patterns.specs.PatternGames.{tier_of as tier_number, can_have as can_have_in, can_play as can_play_in, steps_of as steps_in, step_at as step_in, rank_of as rank_in, tier_by as tier_number_by, more_by, fewer_by, more, fewer, child_by as child_in, child_tiers as children_in};
 
 use crate::rules::{PatternRules, Tiers};
 use crate::step::Step;

@@ -1,43 +1,76 @@
 -- The words and lemmas that proofs about games on boards cite, passed on from one place. Declares nothing.
-pub use Rattle.gm_pieces.specs.Lower.{AreHoles, Bool, Cell, Contains, Contains-append_left, Contains-append_right, Contains-get_or, Empty, End, HasPieces}
-pub use Rattle.gm_pieces.specs.Lower.{HasSame, IsAscending, IsCanonical, IsGroup, IsLeastArrangement, IsLeastImage, IsNumbered, IsPaddedText, IsPermutationOf}
-pub use Rattle.gm_pieces.specs.Lower.{IsPlain, IsRead, IsShown, List, Lose, Mine, None, Option, Position, SQUARE_4, SQUARE_5, Some, Theirs, Win, [], all_at}
-pub use Rattle.gm_pieces.specs.Lower.{all_cells, all_from, and_both, and_false, and_le_l, and_le_r, and_left, and_right, and_true, any_at, any_from, ap}
-pub use Rattle.gm_pieces.specs.Lower.{append-nil, append_assoc, ap₂, arith, arrangement_pieces, arrangements_fit, at, binomial_past, binomial_small}
-pub use Rattle.gm_pieces.specs.Lower.{binomial_zero, bit_and, bit_at, bit_at-pow_other, bit_at-pow_same, bit_at-zero, bit_at_above, bit_at_ones}
-pub use Rattle.gm_pieces.specs.Lower.{bit_at_set_other, bit_at_set_same, bit_not, bit_or, board_length, cases_Bool, cases_eq, cases_lt, cell_at, cell_below}
-pub use Rattle.gm_pieces.specs.Lower.{cell_text, cells_counted, cond, cond-false, cond-true, cond_below, cond_both, contains_cases, contains_head}
-pub use Rattle.gm_pieces.specs.Lower.{contains_later, contains_map, contains_range, count_ones, div-div-eq-div-mul, div-mul-add, empty_cell, eq-eqb, eqb}
-pub use Rattle.gm_pieces.specs.Lower.{eqb-true, ext_get_or, false, false_from_ne_true, filled_image, fills, filter, filter-append, filter_few, filter_from}
-pub use Rattle.gm_pieces.specs.Lower.{filter_in, filter_map, filter_out, filter_room, filter_to, flat_map, fold, get_or, get_or-map, get_or-map-range_with_len}
-pub use Rattle.gm_pieces.specs.Lower.{get_or-range_with_len, get_or-set_other, get_or-set_same, get_or-take, get_or_past, group_from_table, group_image_back}
-pub use Rattle.gm_pieces.specs.Lower.{group_image_within, group_inverse, group_length, group_permutation, has_and, has_cell, has_filled, has_none, has_not}
-pub use Rattle.gm_pieces.specs.Lower.{has_or, image_back, image_board, image_length, image_pieces, image_set, image_slide, image_sum}
-pub use Rattle.gm_pieces.specs.Lower.{image_tests, images_after, index_of_masks, inl, inr, is_empty, is_group_table, is_mine, is_plain, is_taken, is_theirs}
-pub use Rattle.gm_pieces.specs.Lower.{keeps_patterns, le-leb, le-ltb, least_image, least_index, least_itself, least_le, least_pieces, least_rank, least_word}
-pub use Rattle.gm_pieces.specs.Lower.{leb, leb-true, length, length-append, length-map, length-map-range_with_len, length-range_with_len, length-replicate}
-pub use Rattle.gm_pieces.specs.Lower.{length-reverse, length-set, length-take, length-take-le, list_all, list_any, lone_in, lt-ltb, ltb, ltb-true, map, map-id}
-pub use Rattle.gm_pieces.specs.Lower.{map-range_with_len_more, map_more, map_once, map_push, mask_below, mask_of, mask_rank, mask_rank_at, mask_tests_small}
-pub use Rattle.gm_pieces.specs.Lower.{mask_unrank, mask_unrank_rank, max, members, members_le, members_small, min, mine_again, mine_cell, mine_mask}
-pub use Rattle.gm_pieces.specs.Lower.{mine_or_empty, mine_turned, mod-eq_of_lt, mod-mul-add, nat_tests, ne_eqb, next_cell, next_images, nil_or, none_left, not}
-pub use Rattle.gm_pieces.specs.Lower.{not-true, one_shl, or_cases, or_lt, or_right, own_least, pair_row, pascal, pattern_filled, pattern_mask, permute}
-pub use Rattle.gm_pieces.specs.Lower.{permute_get, permute_length, permute_turned, pieces_index, plain_append, plain_map, position_of, pow-add, pow-lt}
-pub use Rattle.gm_pieces.specs.Lower.{pow_mono, pow_pos, put, put_all, put_more_none, put_more_some, range_below, range_in, range_more, range_with_len, rank}
-pub use Rattle.gm_pieces.specs.Lower.{rank_below, rank_unrank, refl, replicate, rest_all, reverse, reverse-append, reverse-reverse, rules, same_all}
-pub use Rattle.gm_pieces.specs.Lower.{same_from_bits_below, same_list, same_list_true, same_position, same_tests, same_within, set, set-get_or, set-set, set_of}
-pub use Rattle.gm_pieces.specs.Lower.{shr_and_one, square_group, subst, suc, sum_by, sym, table_group_4, table_of_4, table_of_5, take, take-take, take_all}
-pub use Rattle.gm_pieces.specs.Lower.{take_more, take_more_set, tests_length, tests_mask, tests_more, tests_none, tests_unrank, their_cell, their_mask}
-pub use Rattle.gm_pieces.specs.Lower.{their_or_empty, theirs_again, theirs_turned, trailing_zeros, true, true≢false, turned, turned_cell, turned_mine}
-pub use Rattle.gm_pieces.specs.Lower.{turned_twice, undone, unrank, unrank_length, unrank_members, unrank_rank, w32, weight, weight_bit, zero, zero-add, ℕ}
-pub use Rattle.gm_pieces.specs.Lower.{◌∙◌}
-unfoldable pub use Rattle.gm_pieces.specs.Lower.{arrangement_index, arrangements, binomial, board_of, image_mask, number_of, square_symmetries, tests_of}
-pub use Rattle.gm_pieces.specs.MoveChildren.{position_after}
-pub use Rattle.gm_pieces.specs.MoveGames.{IsMove, IsMoveGame, IsMoveSymmetric, MoveGame, board_game, goes_on, move_rules, moves_by, plays_on}
+pub use Rattle.gm_game.specs.Rules.{AreHoles, IsAscending, IsCanonical, at}
+pub use Rattle.std.proofs.Common.{Bool, List, None, Option, Some, [], ap, append_assoc, ap₂, arith, cond, eq-eqb, eqb, eqb-true, false, fold, get_or, get_or-set_other, get_or-set_same, inl, inr, le-leb, le-ltb, leb, leb-true, length, length-set, lt-ltb, ltb, ltb-true, map, max, min, not, pow_pos, refl, replicate, reverse, rules, set, set-set, subst, suc, sym, take, true, true≢false, w32, zero, zero-add, ℕ, ◌∙◌}
+pub use Rattle.gm_board.specs.declared.cell.Cell.{Cell}
+pub use Rattle.std.specs.List.{Contains, filter, filter_map, flat_map, list_all, list_any, range_with_len, sum_by}
+pub use Rattle.std.proofs.lemmas.List.Elements.{Contains-append_left, Contains-append_right, Contains-get_or, filter-append}
+pub use Rattle.gm_board.specs.declared.cell.Cell.TheVariants.{Empty, Mine, Theirs}
+pub use Rattle.gm_game.specs.declared.position.End.{End}
+pub use Rattle.gm_board.specs.Pieces.{HasPieces, mine_mask, their_mask}
+pub use Rattle.gm_game.specs.Children.{HasSame, set_of}
+pub use Rattle.gm_board.specs.inner.Groups.{IsGroup, is_group_table}
+pub use Rattle.gm_board.specs.inner.Orbits.{IsLeastArrangement, IsLeastImage, pieces_index}
+pub use Rattle.gm_game.specs.Boards.{IsNumbered, least_image, least_index, next_images, position_of}
+pub use Rattle.gm_game.specs.Texts.{IsPaddedText}
+pub use Rattle.gm_board.specs.Permutations.{IsPermutationOf, permute, same_list}
+pub use Rattle.gm_game.specs.Shown.{IsPlain, IsShown, is_plain}
+pub use Rattle.gm_board.specs.laws.Marks.{IsRead, map_once}
+pub use Rattle.gm_game.specs.declared.position.End.TheVariants.{Lose, Win}
+pub use Rattle.gm_game.specs.declared.position.Position.{Position}
+pub use Rattle.gm_board.specs.declared.square.TheConstants.{SQUARE_4, SQUARE_5}
+pub use Rattle.gm_board.specs.laws.Permutations.{all_at, permute_get, permute_length, same_list_true}
+pub use Rattle.gm_board.specs.laws.CellCounts.{all_cells, cells_counted, empty_cell, mine_cell, mine_or_empty, mine_turned, their_cell, their_or_empty, theirs_turned, turned_mine}
+pub use Rattle.gm_board.specs.laws.Lists.{all_from, and_both, and_false, and_left, and_right, and_true, contains_cases, contains_head, contains_later, contains_map, contains_range, filter_from, filter_to, least_le, lone_in, range_below, range_more}
+pub use Rattle.std.proofs.lemmas.Nat.{and_le_l, and_le_r, div-mul-add, mod-mul-add, one_shl, or_lt, pow-add}
+pub use Rattle.gm_board.specs.laws.Groups.{any_at, group_from_table, group_inverse, group_length, group_permutation, image_back, image_length, image_set, image_slide, image_sum, undone}
+pub use Rattle.gm_board.specs.laws.Patterns.{any_from, filled_image, or_right, same_tests}
+pub use Rattle.std.proofs.lemmas.List.{append-nil, ext_get_or, get_or-map, get_or-take, get_or_past, length-append, length-map, length-replicate, length-reverse, length-take, length-take-le, map-id, map_more, map_push, reverse-append, reverse-reverse, set-get_or, take-take, take_all, take_more, take_more_set}
+pub use Rattle.gm_board.specs.laws.Pieces.{arrangement_pieces, index_of_masks, mine_again, theirs_again}
+pub use Rattle.gm_board.specs.laws.Arrangements.{arrangements_fit}
+pub use Rattle.gm_board.specs.laws.Binomials.{binomial_past, binomial_small, binomial_zero, pascal}
+pub use Rattle.std.specs.Prelude.{bit_and, bit_or, count_ones}
+pub use Rattle.std.specs.Int.{bit_at, bit_not, trailing_zeros}
+pub use Rattle.std.proofs.lemmas.Nat.Bits.{bit_at-pow_other, bit_at-pow_same, bit_at-zero, bit_at_above, bit_at_ones, bit_at_set_other, bit_at_set_same, same_from_bits_below, shr_and_one}
+pub use Rattle.gm_board.specs.laws.Images.{board_length, group_image_back, group_image_within, image_board, image_pieces, image_tests}
+pub use Rattle.std.proofs.lemmas.Bool.{cases_Bool, cases_eq, cases_lt, cond-false, cond-true, cond_below, cond_both, false_from_ne_true, ne_eqb, not-true, or_cases}
+pub use Rattle.gm_board.specs.Cells.{cell_at, is_empty, is_mine, is_taken, is_theirs}
+pub use Rattle.gm_board.specs.laws.NextCells.{cell_below, next_cell, none_left, rest_all}
+pub use Rattle.gm_board.specs.Squares.{cell_text}
+pub use Rattle.std.proofs.Math.Nat.{div-div-eq-div-mul, mod-eq_of_lt}
+pub use Rattle.gm_board.specs.Patterns.{fills, has_filled, keeps_patterns}
+pub use Rattle.gm_board.specs.laws.Filters.{filter_few, filter_in, filter_out, filter_room, nil_or, range_in}
+pub use Rattle.std.proofs.lemmas.List.FromFn.{get_or-map-range_with_len, get_or-range_with_len, length-map-range_with_len, length-range_with_len, map-range_with_len_more}
+pub use Rattle.gm_board.specs.laws.MaskChanges.{has_and, has_none, has_not, has_or, same_all, same_within}
+pub use Rattle.gm_board.specs.Masks.{has_cell, mask_of, mask_rank, mask_unrank, bit_weight}
+pub use Rattle.gm_board.specs.laws.Words.{images_after, own_least}
+pub use Rattle.gm_board.specs.laws.Orbits.{least_itself, least_pieces, least_rank}
+pub use Rattle.gm_board.specs.inner.Words.{least_word, pair_row}
+pub use Rattle.gm_board.specs.laws.Masks.{mask_below, mask_rank_at, mask_tests_small, mask_unrank_rank, members_small, tests_length, tests_mask, tests_more, tests_none, tests_unrank, weight_bit}
+pub use Rattle.gm_board.specs.Ranks.{members, rank, unrank}
+pub use Rattle.gm_board.specs.laws.Ranks.{members_le, rank_below, rank_unrank, unrank_length, unrank_members, unrank_rank}
+pub use Rattle.std.proofs.lemmas.Bool.Decides.{nat_tests}
+pub use Rattle.gm_board.specs.laws.BoardMasks.{pattern_filled}
+pub use Rattle.gm_board.specs.BoardMasks.{pattern_mask, turned}
+pub use Rattle.gm_board.specs.laws.Turned.{permute_turned, turned_cell, turned_twice}
+pub use Rattle.gm_game.proofs.PlainTexts.{plain_append, plain_map}
+pub use Rattle.std.proofs.Math.Pow.{pow-lt, pow_mono}
+pub use Rattle.gm_game.specs.Ascending.{put, put_all}
+pub use Rattle.gm_game.proofs.PuttingSteps.{put_more_none, put_more_some}
+pub use Rattle.gm_game.proofs.SetLemmas.{same_position}
+pub use Rattle.gm_board.specs.laws.Squares.{square_group, table_group_4, table_of_4, table_of_5}
+unfoldable pub use Rattle.gm_board.specs.Arrangements.{arrangement_index, arrangements}
+unfoldable pub use Rattle.gm_board.specs.Binomials.{binomial}
+unfoldable pub use Rattle.gm_board.specs.Images.{board_of, image_mask}
+unfoldable pub use Rattle.gm_board.specs.Cells.{number_of}
+unfoldable pub use Rattle.gm_board.specs.Squares.{square_symmetries}
+unfoldable pub use Rattle.gm_board.specs.Masks.{tests_of}
+pub use Rattle.gm_pieces.specs.inner.MoveChildren.{position_after}
+pub use Rattle.gm_pieces.specs.MoveGames.{IsMove, IsMoveGame, IsMoveSymmetric, MoveGame, board_game, goes_on, move_rules, moves_by, is_undecided}
 unfoldable pub use Rattle.gm_pieces.specs.MoveGames.{before_at, befores, steps}
 pub use Rattle.gm_pieces.specs.MoveTexts.{AreTexts}
 pub use Rattle.gm_pieces.specs.SideTexts.{cell_char}
-unfoldable pub use Rattle.gm_pieces.specs.SideTexts.{board_text}
-pub use Rattle.gm_pieces.specs.Sides.{IsStep, WasStep, brought_back, gone, least_index_under}
+unfoldable pub use Rattle.gm_pieces.specs.SideTexts.{cells_text}
+pub use Rattle.gm_pieces.specs.Sides.{IsStep, WasStep, brought_back, mover_gone, least_index_under}
 unfoldable pub use Rattle.gm_pieces.specs.Sides.{board_index, board_numbered}
 pub use Rattle.gm_pieces.specs.Steps.{step_number}
 unfoldable pub use Rattle.gm_pieces.specs.Steps.{from_point, to_point}

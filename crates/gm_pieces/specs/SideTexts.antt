@@ -10,5 +10,5 @@ cell_char Mine = 120
 cell_char Theirs = 111
 
 -- the text of a board: its cells in order
-unfoldable pub board_text : List Cell → List ℕ
-board_text b = map cell_char b
+unfoldable pub cells_text : List Cell → List ℕ
+cells_text b = map cell_char b

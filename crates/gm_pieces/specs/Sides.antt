@@ -21,8 +21,8 @@ pub record WasStep (d : List Cell) (a c : ℕ) : Type 0 where
   pub left : cell_at d a ≡ Empty
 
 -- the board after the mover's piece has gone from one cell to another, as the other player sees it
-abbrev pub gone : List Cell → ℕ → ℕ → List Cell
-gone b a c = map turned (set (set b a Empty) c Mine)
+abbrev pub mover_gone : List Cell → ℕ → ℕ → List Cell
+mover_gone b a c = map turned (set (set b a Empty) c Mine)
 
 -- the board before the opponent's piece went from one cell to another, as the opponent saw it
 abbrev pub brought_back : List Cell → ℕ → ℕ → List Cell

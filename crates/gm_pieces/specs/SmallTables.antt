@@ -5,17 +5,17 @@ use Rattle.std.specs.Str.{bytes_eq}
 use Rattle.gm_game.specs.declared.limits.TheConstants.{NAME}
 use Rattle.gm_game.specs.Shown.{is_plain}
 use Rattle.gm_game.specs.Texts.{IsPaddedText}
-use Rattle.gm_pieces.specs.MoveGames.{plays_on}
+use Rattle.gm_pieces.specs.MoveGames.{is_undecided}
 use Rattle.gm_pieces.specs.Small.{SmallGame, is_board}
 
 -- the first of n numbers from k on that fails a test
-unfoldable pub failing : (ℕ → Bool) → ℕ → ℕ → Option ℕ
-failing p k zero = None
-failing p k (suc n) = if p k then failing p (k + 1) n else Some k
+unfoldable pub first_failing : (ℕ → Bool) → ℕ → ℕ → Option ℕ
+first_failing p k zero = None
+first_failing p k (suc n) = if p k then first_failing p (k + 1) n else Some k
 
 -- the first number below n that fails a test
 abbrev pub first_wrong : ℕ → (ℕ → Bool) → Option ℕ
-first_wrong n p = failing p 0 n
+first_wrong n p = first_failing p 0 n
 
 abbrev pub implies : Bool → Bool → Bool
 implies x y = if x then y else true
@@ -25,7 +25,7 @@ is_kept g b m = implies (g.can_move b m) (is_board g (g.moved b m) && (g.can_hav
 
 -- a move keeps the board legal, and taken back it gives the board
 abbrev pub keeps : SmallGame → ℕ → Bool
-keeps g b = implies (g.legal b && plays_on (g.over b)) (list_all (is_kept g b) (range_with_len 0 g.bound))
+keeps g b = implies (g.legal b && is_undecided (g.over b)) (list_all (is_kept g b) (range_with_len 0 g.bound))
 
 abbrev pub is_redone : SmallGame → ℕ → ℕ → Bool
 is_redone g d m = implies (g.can_have_led_here d m) (implies (is_board g (g.undo d m)) (implies (g.can_move (g.undo d m) m) (g.moved (g.undo d m) m == d)))
@@ -46,8 +46,8 @@ tells g b = implies (g.legal b) (nat_le (length (g.text b)) 64 && (list_all is_p
 abbrev pub is_apart : SmallGame → ℕ → ℕ → Bool
 is_apart g m n = implies (bytes_eq (g.step_text m) (g.step_text n)) (m == n)
 
-abbrev pub names : SmallGame → ℕ → Bool
-names g m = nat_le (length (g.step_text m)) 64 && (list_all is_plain (g.step_text m) && list_all (is_apart g m) (range_with_len 0 g.bound))
+abbrev pub has_own_text : SmallGame → ℕ → Bool
+has_own_text g m = nat_le (length (g.step_text m)) 64 && (list_all is_plain (g.step_text m) && list_all (is_apart g m) (range_with_len 0 g.bound))
 
 pub record IsSmallGame (g : SmallGame) : Type 0 where
   pub numbers : g.bound ≤ 65536
@@ -59,4 +59,4 @@ pub record IsSmallGame (g : SmallGame) : Type 0 where
   pub kept : first_wrong g.size (keeps g) ≡ None
   pub redone : first_wrong g.size (redoes g) ≡ None
   pub texts : first_wrong g.size (tells g) ≡ None
-  pub moves : first_wrong g.bound (names g) ≡ None
+  pub moves : first_wrong g.bound (has_own_text g) ≡ None

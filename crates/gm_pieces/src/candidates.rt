@@ -1,6 +1,6 @@
 //! Numbers of moves to try.
 ghost use Rattle.std.specs.Prelude.{◌≡◌, ℕ, Bool, ◌+◌, ◌*◌, ◌<◌, ◌^◌};
-ghost use Rattle.gm_pieces.specs.Tried.{one as one_of, run_at, count_of, number_at, AreCandidates};
+ghost use Rattle.gm_pieces.specs.inner.Tried.{one as one_of, run_at, count_of, number_at, AreCandidates};
 
 /// Numbers that go up by the same step: `first`, `first + step`, and so on, `count` of them.
 #[derive(Clone, Copy, Debug, PartialEq, Eq)]

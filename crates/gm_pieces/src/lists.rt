@@ -5,7 +5,7 @@ ghost use Rattle.gm_game.specs.Boards.{least_index as least_index_of, next_image
 ghost use Rattle.gm_game.specs.Children.{IsSetOf, HasSame, set_of};
 ghost use Rattle.gm_game.specs.Rules.{IsKind, AreHoles};
 ghost use Rattle.gm_pieces.specs.MoveGames.{board_game, move_rules, steps, befores};
-ghost use Rattle.gm_pieces.specs.FirstBoards.{IsFirstBoard};
+ghost use Rattle.gm_pieces.specs.inner.FirstBoards.{IsFirstBoard};
 
 use crate::moves::{has_no_move, list_moves, list_results, plays_on, put_befores};
 use crate::rules::MoveRules;

@@ -4,7 +4,7 @@ ghost use Rattle.gm_game.specs.Ascending.{put_all};
 ghost use Rattle.gm_game.specs.Boards.{least_index as least_index_of, next_images};
 ghost use Rattle.gm_game.specs.Children.{HasSame};
 ghost use Rattle.gm_pieces.specs.MoveGames.{board_game, steps, befores};
-ghost use Rattle.gm_pieces.specs.Marking.{AreMarks, leads_here};
+ghost use Rattle.gm_pieces.specs.inner.Marking.{AreMarks, leads_here};
 
 use crate::ascending::put;
 use crate::boards::least_position;

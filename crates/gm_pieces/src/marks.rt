@@ -1,6 +1,6 @@
 //! Numbers of moves that masks mark.
 ghost use Rattle.std.specs.Prelude.{◌≡◌, ◌+◌, ◌<◌, ◌++◌, [], length};
-ghost use Rattle.gm_pieces.specs.Marking.{numbers, marked, IsSplit};
+ghost use Rattle.gm_pieces.specs.inner.Marking.{numbers, marked, IsSplit};
 
 /// Numbers that go up by the same step, `first`, `first + step`, and so on, of which a mask marks some: that at a place, if the mask has the place.
 #[derive(Clone, Copy, Debug, PartialEq, Eq)]

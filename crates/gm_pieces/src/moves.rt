@@ -2,7 +2,7 @@
 ghost use Rattle.std.specs.Prelude.{◌≡◌, ◌<◌, ◌&&◌, true, map, [], length, ◌==◌, MatchOption, None, Some};
 ghost use Rattle.gm_game.specs.Ascending.{put_all};
 ghost use Rattle.gm_game.specs.Boards.{least_index as least_index_of, next_images};
-ghost use Rattle.gm_pieces.specs.MoveGames.{board_game, plays_on as plays_on_of, steps, goes_on as goes_on_of, before_at, befores};
+ghost use Rattle.gm_pieces.specs.MoveGames.{board_game, is_undecided as plays_on_of, steps, goes_on as goes_on_of, before_at, befores};
 
 use crate::ascending::put;
 use crate::boards::least_position;

@@ -2,9 +2,9 @@
 ghost use Rattle.std.specs.Prelude.{◌≡◌, ◌<◌, ◌↔◌, ℕ, true, IsTrue, List};
 ghost use Rattle.gm_game.specs.Boards.{board_of, position_of, least_index as least_index_of, IsNumbered};
 ghost use Rattle.gm_game.specs.Rules.{IsCanonical};
-ghost use Rattle.gm_pieces.specs.MoveGames.{MoveGame, board_game, move_rules, plays_on, goes_on as goes_on_of, IsMove, IsMoveGame, IsMoveSymmetric};
+ghost use Rattle.gm_pieces.specs.MoveGames.{MoveGame, board_game, move_rules, is_undecided, goes_on as goes_on_of, IsMove, IsMoveGame, IsMoveSymmetric};
 ghost use Rattle.gm_pieces.specs.MoveTexts.{AreTexts};
-ghost use Rattle.gm_pieces.specs.Tried.{AreCandidates};
+ghost use Rattle.gm_pieces.specs.inner.Tried.{AreCandidates};
 
 use crate::candidates::Candidates;
 use arrayvec::ArrayVec;

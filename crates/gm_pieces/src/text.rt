@@ -3,7 +3,7 @@ ghost use Rattle.std.specs.Prelude.{◌≡◌, ℕ, ◌<◌, ◌≤◌, ◌^◌,
 ghost use Rattle.gm_board.specs.Images.{board_of};
 ghost use Rattle.gm_board.specs.Masks.{has_cell};
 ghost use Rattle.gm_board.specs.declared.cell.Cell.{Cell as BoardCell};
-ghost use Rattle.gm_pieces.specs.SideTexts.{cell_char, board_text as board_text_of};
+ghost use Rattle.gm_pieces.specs.SideTexts.{cell_char, cells_text as board_text_of};
 
 use arrayvec::ArrayVec;
 use gm_board::cell::Cell;

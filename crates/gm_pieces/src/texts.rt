@@ -2,7 +2,7 @@
 ghost use Rattle.std.specs.Prelude.{◌≡◌, ◌↔◌, ◌<◌, ℕ, true, IsTrue, Option, MatchOption, None, Some};
 ghost use Rattle.std.specs.List.{Contains};
 ghost use Rattle.gm_pieces.specs.MoveGames.{board_game, IsMove};
-ghost use Rattle.gm_pieces.specs.MoveTexts.{position_text, move_text};
+ghost use Rattle.gm_pieces.specs.MoveTexts.{position_text_by, move_text_by};
 ghost use Rattle.gm_pieces.specs.laws.TextFacts.{texts_are_shown};
 
 use crate::boards::{board, position};
@@ -53,9 +53,9 @@ fn read_step<T: MoveRules>(board: T::Board, text: &[u8]) -> Option<u32>
 }
 
 impl<T: MoveLists> Shown for OnBoards<T> {
-    ghost shown = { position_text T.game T.text };
+    ghost shown = { position_text_by T.game T.text };
 
-    ghost move_shown = { move_text T.step_text };
+    ghost move_shown = { move_text_by T.step_text };
 
     ghost readable = { texts_are_shown T.game T.text T.step_text T.numbered T.readable };
 

@@ -1,7 +1,6 @@
 -- The rules of Hex on s by s cells: a cell has beside it the next cells of its row and column, the one above it to the right and the one below it to the left.
 -- The mover connects the first row with the last, and the opponent the first column with the last.
-use Rattle.std.specs.Prelude.{ℕ, zero, suc, ◌+◌, ◌-◌, ◌*◌, ◌/◌, ◌%◌, ◌==◌, ◌&&◌, ◌||◌, nat_le, not, Bool, true, List, [], ◌∷◌, ◌++◌, map, replicate, codes}
-use Rattle.std.specs.Prelude.{if◌then◌else◌, None, Some}
+use Rattle.std.specs.Prelude.{ℕ, zero, suc, ◌+◌, ◌-◌, ◌*◌, ◌/◌, ◌%◌, ◌==◌, ◌&&◌, ◌||◌, nat_le, not, Bool, true, List, [], ◌∷◌, ◌++◌, map, replicate, codes, if◌then◌else◌, None, Some}
 use Rattle.std.specs.List.{filter, flat_map, list_any, range_with_len}
 use Rattle.gm_board.specs.declared.cell.Cell.TheVariants.{Empty}
 use Rattle.gm_draw.specs.Points.{square_points}

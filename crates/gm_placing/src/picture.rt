@@ -1,9 +1,7 @@
 //! What these games look like.
 ghost use Rattle.std.specs.Prelude.{◌≡◌};
-ghost use Rattle.gm_placing.specs.PlacingPictures.{tictactoe_misere_picture, tictactoe_four_picture, notakto_picture};
-ghost use Rattle.gm_placing.specs.PlacingPictures.{hex_three_picture, hex_four_picture, sim_picture};
-ghost use Rattle.gm_placing.specs.laws.PlacingPictured.{tictactoe_misere_pictured, tictactoe_four_pictured, notakto_pictured};
-ghost use Rattle.gm_placing.specs.laws.PlacingPictured.{hex_three_pictured, hex_four_pictured, sim_pictured};
+ghost use Rattle.gm_placing.specs.PlacingPictures.{tictactoe_misere_picture, tictactoe_four_picture, notakto_picture, hex_three_picture, hex_four_picture, sim_picture};
+ghost use Rattle.gm_placing.specs.laws.PlacingPictured.{tictactoe_misere_pictured, tictactoe_four_pictured, notakto_pictured, hex_three_pictured, hex_four_pictured, sim_pictured};
 ghost use Rattle.gm_placing.specs.laws.PlacingTables.{misere_tables, tictactoe_four_tables, notakto_tables, hex_three_tables, hex_four_tables, sim_tables};
 
 use crate::hex::{HexFour, HexFourRules, HexThree, HexThreeRules};

@@ -1,6 +1,6 @@
 -- If every table is held, a look-up of all values and best moves exists.
-use Rattle.gm_play.proofs.Lower.{ℕ, ◌≤◌, List, Option, None, Some, IsSome, IfSome, sym, arith, REMOTENESS, Position, Draw, Solved, solved, Rules, IsGame}
-use Rattle.gm_play.proofs.Lower.{IsTrueValue, TableData, AreTables, value_in, value_known, value_true, map_in, AreAllHeld, IsReached, Advice, IsKnown}
+use Rattle.gm_play.proofs.Lower.{ℕ, ◌≤◌, List, Option, None, Some, IsSome, IfSome, sym, arith, REMOTENESS, Position, Draw, Solved, solved, Rules, IsGame, IsTrueValue, TableData, AreTables, value_in, map_in, AreAllHeld, IsReached, Advice, IsRightAdvice}
+use Rattle.gm_table.proofs.ValueLemmas.{value_known, value_true}
 use Rattle.gm_play.proofs.Existing.{best_at}
 use Rattle.gm_play.proofs.Held.{held_own}
 use Rattle.gm_play.proofs.Reaching.{held_from, reached_by, reached_reached}
@@ -34,7 +34,7 @@ module _ (r : Rules) (g : IsGame r) (entries : List TableData) (tables : AreTabl
   unfolding value
   small_at p = small (value_in r entries p) (value_small r entries p tables)
 
-  pub advised : (k : Advice) × IsKnown r tier k
+  pub advised : (k : Advice) × IsRightAdvice r tier k
   advised = (
     record { value = value; best = λ p. (best_at r g value p).0 },
     λ p h. (

@@ -1,7 +1,7 @@
 -- Distinct moves: of those that lead to the same canonical position, only the first.
-use Rattle.gm_play.proofs.Lower.{◌≡◌, ◌+◌, ◌<◌, ◌≤◌, Bool, true, false, List, [], ◌∷◌, ◌++◌, ℕ, length, drop, get_or, sym, ap, subst, ◌∙◌, arith, All}
-use Rattle.gm_play.proofs.Lower.{length-append, drop_more, All-push, Rules, MoveValue, leads_alike, firsts_onto, All-head, All-tail, with_first, chosen}
-use Rattle.gm_play.proofs.Lower.{All-nil}
+use Rattle.gm_play.proofs.Lower.{◌≡◌, ◌+◌, ◌<◌, ◌≤◌, Bool, true, false, List, [], ◌∷◌, ◌++◌, ℕ, length, drop, get_or, sym, ap, subst, ◌∙◌, arith, All, length-append, drop_more, All-push, Rules, MoveValue, firsts_onto}
+use Rattle.gm_play.specs.Firsts.{leads_alike, with_first, chosen}
+use Rattle.std.proofs.lemmas.List.Elements.{All-head, All-tail, All-nil}
 use Rattle.std.proofs.Common.{if◌then◌else◌}
 
 kept_if : (P : MoveValue → Type 0) (b : Bool) (kept : List MoveValue) (x : MoveValue) → All P kept → P x → All P (if b then kept else kept ++ x ∷ [])

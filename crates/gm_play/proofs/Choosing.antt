@@ -1,7 +1,8 @@
 -- The choice among some moves, and one more.
-use Rattle.gm_play.proofs.Lower.{◌≡◌, ℕ, ◌<◌, inl, inr, List, [], ◌∷◌, ◌++◌, Option, None, Some, refl, sym, subst, arith, Contains, cases_lt, Position, Value}
-use Rattle.gm_play.proofs.Lower.{Lose, Draw, Rules, HasValue, HasValue_once, Choice, wanted_from, IsNearer, IsNoFarther, IsBestOf, IsChoice, Considers}
-use Rattle.gm_play.proofs.Lower.{Contains-append_left, Contains-push, Contains-push_cases, Chooses}
+use Rattle.gm_play.proofs.Lower.{◌≡◌, ℕ, ◌<◌, inl, inr, List, [], ◌∷◌, ◌++◌, Option, None, Some, refl, sym, subst, arith, Contains, cases_lt, Position, Value, Lose, Draw, Rules, HasValue, HasValue_once, wanted_from, IsNoFarther, IsBestOf, IsChoice}
+use Rattle.gm_play.specs.declared.best_moves.Choice.{Choice}
+use Rattle.gm_play.specs.BestMoves.{IsNearer, Considers, Chooses}
+use Rattle.std.proofs.lemmas.List.Elements.{Contains-append_left, Contains-push, Contains-push_cases}
 
 -- the order of remotenesses
 farther_unless : (value : Value) (k than : ℕ) → (IsNearer value k than → ⊥) → IsNoFarther value than k

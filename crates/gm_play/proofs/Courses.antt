@@ -1,12 +1,13 @@
 -- What holds of a dialogue for any input: its last line is that of its end, and what the computer's best moves guarantee.
-use Rattle.gm_play.proofs.Lower.{◌≡◌, ◌≢◌, ℕ, ◌+◌, ◌≤◌, Bool, true, false, List, [], ◌∷◌, ◌++◌, length, codes, Option, None, Some, IfSome, refl, sym, subst}
-use Rattle.gm_play.proofs.Lower.{arith, append_assoc, append-nil, inl, inr, ◌==◌, if◌then◌else◌, Contains, find, bytes_eq, Position, End, Rules, IsGame}
-use Rattle.gm_play.proofs.Lower.{text_of, Side, You, Computer, IsBestMove, IsWonIn, IsEven, IsReached, Advice, IsKnown, Said, Course, before, after_move, ends}
-use Rattle.gm_play.proofs.Lower.{asks, game_over, place, asks_or_ends, persons_turn, moves_or_ends, computers_turn, turn, without_return, answer_to, reply}
-use Rattle.gm_play.proofs.Lower.{closing, dialogue, text_after, unmoved, course_with, course_after, course, First, Again, Question, winner, over, IsWonCourse}
-use Rattle.gm_play.proofs.Lower.{IsUnlostCourse, EndsWon, EndsUnlost, ◌⊎◌, ap, ◌∙◌, over_line, IsLastLine}
+use Rattle.gm_play.proofs.Lower.{◌≡◌, ◌≢◌, ℕ, ◌+◌, ◌≤◌, Bool, true, false, List, [], ◌∷◌, ◌++◌, length, codes, Option, None, Some, IfSome, refl, sym, subst, arith, append_assoc, append-nil, inl, inr, ◌==◌, if◌then◌else◌, Contains, bytes_eq, Position, End, Rules, IsGame, Side, You, Computer, IsBestMove, IsWonIn, IsEven, IsReached, Advice, IsRightAdvice, Said, without_return, reply, closing, text_after, Question, winner, ◌⊎◌, ap, ◌∙◌}
+use Rattle.std.specs.List.{find}
+use Rattle.gm_game.specs.Texts.{text_of}
+use Rattle.gm_play.specs.Dialogue.{Course, before, after_move, ends, asks, game_over, position_line, asks_or_ends, persons_turn, moves_or_ends, computers_turn, turn, answer_to, dialogue, unmoved, course_with, course_after, course, talk, course_from}
+use Rattle.gm_play.specs.declared.view.Question.TheVariants.{First, Again}
+use Rattle.gm_play.specs.Endings.{over, over_line}
+use Rattle.gm_play.specs.Courses.{IsWonCourse, IsUnlostCourse}
+use Rattle.gm_play.specs.LastLines.{EndsWon, EndsUnlost, IsLastLine}
 use Rattle.gm_game.specs.declared.position.End.TheVariants.{Lose as EndLose, Win as EndWin}
-use Rattle.gm_play.specs.Dialogue.{talk, course_from}
 use Rattle.gm_play.proofs.Keeping.{reply_won, best_won, won_at, IsSafe, even_safe, reply_safe, best_safe, not_lost}
 use Rattle.gm_play.proofs.Reaching.{reached_reached, played_reached}
 use Rattle.gm_play.proofs.Reading.{find_is}
@@ -60,11 +61,11 @@ record IsKept (r : Rules) (X : Type 0) (At : X → Position → Side → Type 0)
   pub best : (x : X) (p : Position) (m : ℕ) → IsBestMove r p (Some m) → At x p Computer → (y : X) × At y (r.play p m) You × ((j : ℕ) → Few y j → Few x (1 + j))
 
 module _ (r : Rules) (g : IsGame r) (shown : Position → List ℕ) (move_shown : Position → ℕ → List ℕ) (k : Advice) (seen : Question → Position → List ℕ)
-    (tier : ℕ) (known : IsKnown r tier k) where
+    (tier : ℕ) (known : IsRightAdvice r tier k) where
   step : (p : Position) (m : ℕ) → IsReached r tier p → Contains (r.moves p) m → IsReached r tier (r.play p m)
   step p m h has = reached_reached r tier p (r.play p m) h (played_reached r g p m h.0 has)
 
-  place_ends : (p : Position) → EndsLine (place r shown move_shown k seen p)
+  place_ends : (p : Position) → EndsLine (position_line r shown move_shown k seen p)
   place_ends p = (shown p ++ codes " " ++ text_of (k.value p), refl)
 
   abbrev Talk : Position → List ℕ → List ℕ → List ℕ
@@ -122,7 +123,7 @@ module _ (r : Rules) (g : IsGame r) (shown : Position → List ℕ) (move_shown 
     person_case x p (Some end) e a = open_over x p You end a.1 e
 
     person_open : (x : X) (p : Position) → IsAsked x p → IsOpen x (persons_turn r shown move_shown k seen p)
-    person_open x p a = open_before x (place r shown move_shown k seen p) (asks_or_ends r shown move_shown k seen p (r.primitive p)) (place_ends p)
+    person_open x p a = open_before x (position_line r shown move_shown k seen p) (asks_or_ends r shown move_shown k seen p (r.primitive p)) (place_ends p)
         (person_case x p (r.primitive p) refl a)
 
     computer_case : (x : X) (p : Position) (o : Option End) (b : Option ℕ) → r.primitive p ≡ o → IsBestMove r p b → IsReached r tier p → At x p Computer
@@ -138,7 +139,7 @@ module _ (r : Rules) (g : IsGame r) (shown : Position → List ℕ) (move_shown 
 
     computer_open : (x : X) (p : Position) → IsReached r tier p → At x p Computer → IsOpen x (computers_turn r shown move_shown k seen p)
     computer_open x p l a =
-        open_before x (place r shown move_shown k seen p) (moves_or_ends r shown move_shown k seen p (r.primitive p) (k.best p)) (place_ends p)
+        open_before x (position_line r shown move_shown k seen p) (moves_or_ends r shown move_shown k seen p (r.primitive p) (k.best p)) (place_ends p)
         (computer_case x p (r.primitive p) (k.best p) refl (known p l).1 l a)
 
     reply_case : (x : X) (p : Position) (line : List ℕ) (c : Bool) (o : Option ℕ)

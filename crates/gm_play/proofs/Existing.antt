@@ -1,6 +1,6 @@
 -- If the values of a position and of its children are known, the position has a best move, or it has ended.
-use Rattle.gm_play.proofs.Lower.{◌≡◌, ℕ, ◌≤◌, List, [], ◌∷◌, map, Option, None, Some, refl, sym, subst, true, Contains, REMOTENESS, Position, End, Solved}
-use Rattle.gm_play.proofs.Lower.{Rules, IsGame, IsChild, IsTrueValue, contains_first, map_from, map_in, IsBestMove, least_in, least_le}
+use Rattle.gm_play.proofs.Lower.{◌≡◌, ℕ, ◌≤◌, List, [], ◌∷◌, map, Option, None, Some, refl, sym, subst, true, Contains, REMOTENESS, Position, End, Solved, Rules, IsGame, IsChild, IsTrueValue, contains_first, map_from, map_in, IsBestMove}
+use Rattle.gm_game.proofs.Least.{least_in, least_le}
 use Rattle.gm_play.proofs.Ranking.{key, key_once, first_is}
 
 module _ (r : Rules) (g : IsGame r) (value : Position → Solved) where

@@ -1,5 +1,7 @@
 -- Held tiers.
-use Rattle.gm_play.proofs.Lower.{ℕ, zero, suc, List, refl, subst, Contains, Rules, TableData, IsHeld, AreHeld, IsBelow, AreAllHeld}
+use Rattle.gm_play.proofs.Lower.{ℕ, zero, suc, List, refl, subst, Contains, Rules, TableData, AreAllHeld}
+use Rattle.gm_table.specs.Tables.{IsHeld, AreHeld}
+use Rattle.gm_play.specs.Reached.{IsBelow}
 
 module _ (r : Rules) (entries : List TableData) where
   pub held_own : (tier : ℕ) → AreAllHeld r entries tier → IsHeld entries tier

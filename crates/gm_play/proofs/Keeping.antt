@@ -1,9 +1,10 @@
 -- Properties that best moves preserve, move by move.
-use Rattle.gm_play.proofs.Lower.{◌≡◌, ◌≢◌, ℕ, zero, suc, ◌+◌, ◌<◌, ◌≤◌, inl, inr, Bool, true, false, List, Option, None, Some, refl, sym, ap, ◌∙◌, subst, arith}
-use Rattle.gm_play.proofs.Lower.{Contains, Position, End, Value, Lose, Draw, Tie, Win, Rules, IsGame, loses, wins, HasValue, contains_none, map_from, Solved}
-use Rattle.gm_play.proofs.Lower.{loses_zero, loses_suc, loses_at_end, wins_at_end, ties_at_end, wins_from, HasValue_once, never_both, no_win_of_tie}
-use Rattle.gm_play.proofs.Lower.{no_loss_of_tie, win_within, Side, You, Computer, wanted_from, IsNoFarther, IsBestOf, IsBestMove, IsWonIn, IsEven, HasWon}
-use Rattle.gm_play.proofs.Lower.{HasLost}
+use Rattle.gm_play.proofs.Lower.{◌≡◌, ◌≢◌, ℕ, zero, suc, ◌+◌, ◌<◌, ◌≤◌, inl, inr, Bool, true, false, List, Option, None, Some, refl, sym, ap, ◌∙◌, subst, arith, Contains, Position, End, Value, Lose, Draw, Tie, Win, Rules, IsGame, HasValue, contains_none, map_from, Solved, loses_zero, ties_at_end, wins_from, HasValue_once, Side, You, Computer, wanted_from, IsNoFarther, IsBestOf, IsBestMove, IsWonIn, IsEven, HasLost}
+use Rattle.gm_game.specs.Values.{loses, wins}
+use Rattle.gm_game.proofs.Steps.{loses_suc, loses_at_end, wins_at_end}
+use Rattle.gm_game.proofs.Basic.{never_both, no_win_of_tie, no_loss_of_tie}
+use Rattle.gm_game.proofs.Frontier.{win_within}
+use Rattle.gm_play.specs.Sides.{HasWon}
 use Rattle.gm_game.specs.declared.position.End.TheVariants.{Lose as EndLose, Tie as EndTie, Win as EndWin}
 use Rattle.gm_play.proofs.Lowering.{step_value}
 

@@ -1,7 +1,10 @@
 -- A line is answered from its kept prefix as from the whole line, because no move has a longer text.
-use Rattle.gm_play.proofs.Lower.{◌≡◌, ℕ, ◌+◌, ◌-◌, ◌≤◌, ◌<◌, ◌⊎◌, inl, inr, Bool, true, false, List, [], ◌∷◌, ◌++◌, length, take, drop, codes, sym, ap, ◌∙◌}
-use Rattle.gm_play.proofs.Lower.{arith, ◌==◌, if◌then◌else◌, bytes_eq, cases_lt, take_all, length-take, length-take-le, length-append, Position, Rules, refl}
-use Rattle.gm_play.proofs.Lower.{text_after, IsShown, KEPT, Advice, Said, asks, without_return, reply, closing, Question, Again, nat_eq, take-append-le, LINE}
+use Rattle.gm_play.proofs.Lower.{◌≡◌, ℕ, ◌+◌, ◌-◌, ◌≤◌, ◌<◌, ◌⊎◌, inl, inr, Bool, true, false, List, [], ◌∷◌, ◌++◌, length, take, drop, codes, sym, ap, ◌∙◌, arith, ◌==◌, if◌then◌else◌, bytes_eq, cases_lt, take_all, length-take-le, length-append, Position, Rules, refl, text_after, IsShown, KEPT, Advice, Said, without_return, reply, closing, Question}
+use Rattle.std.proofs.lemmas.List.{length-take, take-append-le}
+use Rattle.gm_play.specs.Dialogue.{asks}
+use Rattle.gm_play.specs.declared.view.Question.TheVariants.{Again}
+use Rattle.std.proofs.Common.{nat_eq}
+use Rattle.gm_game.specs.declared.limits.TheConstants.{LINE}
 use Rattle.std.specs.Cmp.Lexicographic.{unequal}
 use Rattle.gm_play.proofs.Reading.{none_found}
 

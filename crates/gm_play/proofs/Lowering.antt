@@ -1,8 +1,9 @@
 -- A best move lowers the remoteness of its position by one.
-use Rattle.gm_play.proofs.Lower.{◌≡◌, ℕ, zero, suc, ◌+◌, ◌<◌, ◌≤◌, inl, inr, true, None, Some, sym, ap, subst, ◌∙◌, arith, Contains, cases_lt, Position, Value}
-use Rattle.gm_play.proofs.Lower.{Lose, Draw, Tie, Win, solved, Rules, IsChild, wins, loses, ties, HasValue, win_within, loss_within, map_from, map_in}
-use Rattle.gm_play.proofs.Lower.{loses_zero, wins_zero, loses_suc, wins_suc, ties_suc, wins_from, ties_from, ties_at_end, wanted_from, IsBestOf, IsBestMove}
-use Rattle.gm_play.proofs.Lower.{worth_from, HasValue_once, wins_later, loses_from}
+use Rattle.gm_play.proofs.Lower.{◌≡◌, ℕ, zero, suc, ◌+◌, ◌<◌, ◌≤◌, inl, inr, true, None, Some, sym, ap, subst, ◌∙◌, arith, Contains, cases_lt, Position, Value, Lose, Draw, Tie, Win, solved, Rules, IsChild, HasValue, map_from, map_in, loses_zero, wins_from, ties_at_end, wanted_from, IsBestOf, IsBestMove, worth_from, HasValue_once}
+use Rattle.gm_game.specs.Values.{wins, loses, ties}
+use Rattle.gm_game.proofs.Frontier.{win_within, loss_within}
+use Rattle.gm_game.proofs.Steps.{wins_zero, loses_suc, wins_suc, ties_suc, ties_from, loses_from}
+use Rattle.gm_game.proofs.Basic.{wins_later}
 
 -- a best move of a position lowers its remoteness by one
 module _ (r : Rules) (p : Position) (open_ : r.primitive p ≡ None) where

@@ -1,6 +1,10 @@
 -- Prefixes of texts that are written.
-use Rattle.gm_play.proofs.Lower.{◌≡◌, ℕ, List, [], ◌++◌, take, drop, Option, sym, subst, ap, ◌∙◌, append_assoc, append-nil, Appends, Keeps, Appends-trans}
-use Rattle.gm_play.proofs.Lower.{AppendsPart, Result, Ok, Err, IfErr, take-append-drop, IsErrAnd, Appends-kept}
+use Rattle.gm_play.proofs.Lower.{◌≡◌, ℕ, List, [], ◌++◌, take, drop, Option, sym, subst, ap, ◌∙◌, append_assoc, append-nil, Appends, Appends-trans}
+use Rattle.std.specs.Io.KnownBytes.{Keeps}
+use Rattle.gm_play.specs.Sessions.{AppendsPart}
+use Rattle.std.proofs.Common.{Result, Ok, Err, IfErr, take-append-drop}
+use Rattle.std.specs.Result.{IsErrAnd}
+use Rattle.std.proofs.KnownBytes.{Appends-kept}
 
 pub part_kept : (a b c : Option (List ℕ)) (n : ℕ) (xs : List ℕ) → Appends a b (take n xs) → Keeps b c → AppendsPart a c xs
 part_kept a b c n xs h k = (take n xs, drop n xs, sym (take-append-drop n xs), Appends-kept a b c (take n xs) h k)

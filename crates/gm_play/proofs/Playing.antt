@@ -1,8 +1,8 @@
 -- A line of play, move by move.
-use Rattle.gm_play.proofs.Lower.{◌≡◌, ◌≢◌, ℕ, ◌+◌, ◌≤◌, ◌⊎◌, inl, inr, List, [], ◌∷◌, length, Option, None, Some, refl, sym, ap, ◌∙◌, subst, arith, MatchOption}
-use Rattle.gm_play.proofs.Lower.{Contains, Rules, IsGame, Side, You, Computer, PlayLine, IsBestMove, IsReached, position_after, side_after, IsLine, IsPlayed}
-use Rattle.gm_play.proofs.Lower.{IsReplied, other, one_more, IsAnswered}
-use Rattle.std.specs.Prelude.{IfSome}
+use Rattle.gm_play.proofs.Lower.{◌≡◌, ◌≢◌, ℕ, ◌+◌, ◌≤◌, ◌⊎◌, inl, inr, List, [], ◌∷◌, length, Option, None, Some, refl, sym, ap, ◌∙◌, subst, arith, Contains, Rules, IsGame, Side, You, Computer, PlayLine, IsBestMove, IsReached, position_after, IsLinePlayed}
+use Rattle.std.specs.Prelude.{MatchOption, IfSome}
+use Rattle.gm_play.specs.Lines.{side_after, IsLine, IsReplied, one_more, IsAfterComputersTurn}
+use Rattle.gm_play.specs.Sides.{other}
 use Rattle.gm_play.proofs.Keeping.{best_once}
 use Rattle.gm_play.proofs.Reaching.{played_reached, reached_reached}
 
@@ -22,7 +22,7 @@ ComesTo r replies line None = (ms : List ℕ) → IsLine r line.position line.si
 ComesTo r replies line (Some end) = (ms : List ℕ) × IsLine r line.position line.side replies ms × (end ≡ after r line ms)
 
 pub played : (r : Rules) (replies : List ℕ) (line : PlayLine) (o : Option PlayLine) → line.moves ≡ 0 → ComesTo r replies line o
-    → MatchOption o ((ms : List ℕ) → IsLine r line.position line.side replies ms → ⊥) (IsPlayed r line.position line.side replies)
+    → MatchOption o ((ms : List ℕ) → IsLine r line.position line.side replies ms → ⊥) (IsLinePlayed r line.position line.side replies)
 played r replies line None z h = h
 played r replies line (Some end) z (ms, l, e) =
     let t = after_is r ms line in
@@ -59,7 +59,8 @@ module _ (r : Rules) (line : PlayLine) where
 
 module _ (r : Rules) where
   -- the line after the computer's move
-  pub answers : (s : Side) (line new : PlayLine) (replies : List ℕ) (o : Option PlayLine) → line.side ≡ s → IsAnswered r s line new → ComesTo r replies new o
+  pub answers : (s : Side) (line new : PlayLine) (replies : List ℕ) (o : Option PlayLine) → line.side ≡ s → IsAfterComputersTurn r s line new → ComesTo r
+      replies new o
       → ComesTo r replies line o
   answers You line new replies o e a h = subst (λ (x : PlayLine). ComesTo r replies x o) a h
   answers Computer line new replies o e (inl a) h = subst (λ (x : PlayLine). ComesTo r replies x o) a.1 h
@@ -70,16 +71,16 @@ module _ (r : Rules) where
       (subst (λ (x : PlayLine). ComesTo r replies x o) q h)
 
   -- then it's the other side's turn, or the game has ended
-  turn : (s : Side) (line new : PlayLine) → line.side ≡ s → IsAnswered r s line new → (new.side ≡ You) ⊎ (r.primitive new.position ≢ None)
+  turn : (s : Side) (line new : PlayLine) → line.side ≡ s → IsAfterComputersTurn r s line new → (new.side ≡ You) ⊎ (r.primitive new.position ≢ None)
   turn You line new e a = inl (subst (λ (x : PlayLine). x.side ≡ You) (sym a) e)
   turn Computer line new e (inl a) = inr (subst (λ (x : PlayLine). r.primitive x.position ≢ None) (sym a.1) a.0)
   turn Computer line new e (inr (m, b, q)) = inl (subst (λ (x : PlayLine). x.side ≡ You) (sym q) (ap other e))
 
   -- no reply remains
-  pub ends_last : (line new : PlayLine) → IsAnswered r line.side line new → ComesTo r [] new (Some new)
+  pub ends_last : (line new : PlayLine) → IsAfterComputersTurn r line.side line new → ComesTo r [] new (Some new)
   ends_last line new a = ([], elim (turn line.side line new refl a) [ inl e ↦ inr (e, refl) | inr e ↦ inl e ], refl)
 
-  module _ (line a : PlayLine) (is : IsAnswered r line.side line a) (open_ : r.primitive a.position ≡ None) (q : ℕ) (rest : List ℕ) where
+  module _ (line a : PlayLine) (is : IsAfterComputersTurn r line.side line a) (open_ : r.primitive a.position ≡ None) (q : ℕ) (rest : List ℕ) where
     yours : a.side ≡ You
     yours = elim (turn line.side line a refl is) [ inl e ↦ e | inr e ↦ absurd (e open_) ]
 
@@ -98,7 +99,7 @@ module _ (r : Rules) (g : IsGame r) (tier : ℕ) where
   reached_more : (line : PlayLine) (m : ℕ) → IsReached r tier line.position → Contains (r.moves line.position) m → IsReached r tier (one_more r line m).position
   reached_more line m h has = reached_reached r tier line.position (r.play line.position m) h (played_reached r g line.position m h.0 has)
 
-  pub reached_answered : (s : Side) (old new : PlayLine) → IsAnswered r s old new → IsReached r tier old.position → IsReached r tier new.position
+  pub reached_answered : (s : Side) (old new : PlayLine) → IsAfterComputersTurn r s old new → IsReached r tier old.position → IsReached r tier new.position
   reached_answered You old new a h = subst (λ (x : PlayLine). IsReached r tier x.position) (sym a) h
   reached_answered Computer old new (inl a) h = subst (λ (x : PlayLine). IsReached r tier x.position) (sym a.1) h
   reached_answered Computer old new (inr (m, b, q)) h =
@@ -108,7 +109,7 @@ module _ (r : Rules) (g : IsGame r) (tier : ℕ) where
   reached_replied q old new t h = subst (λ (x : PlayLine). IsReached r tier x.position) (sym t.1) (reached_more old q h t.0)
 
 -- the number of moves
-pub moves_answered : (r : Rules) (s : Side) (old new : PlayLine) → IsAnswered r s old new → new.moves ≤ old.moves + 1
+pub moves_answered : (r : Rules) (s : Side) (old new : PlayLine) → IsAfterComputersTurn r s old new → new.moves ≤ old.moves + 1
 moves_answered r You old new a = (let e = ap (λ (x : PlayLine). x.moves) a in omega arith)
 moves_answered r Computer old new (inl a) = (let e = ap (λ (x : PlayLine). x.moves) a.1 in omega arith)
 moves_answered r Computer old new (inr (m, b, q)) = (let e = ap (λ (x : PlayLine). x.moves) q in omega arith)

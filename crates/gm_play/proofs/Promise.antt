@@ -1,6 +1,7 @@
 -- What the computer's best moves guarantee for any replies.
-use Rattle.gm_play.proofs.Lower.{◌≡◌, ◌≢◌, ℕ, ◌≤◌, inl, inr, true, List, [], ◌∷◌, length, None, refl, sym, ap, ◌∙◌, subst, arith, Position, Rules, IsGame, Side}
-use Rattle.gm_play.proofs.Lower.{You, Computer, PlayLine, IsWonIn, IsEven, HasWon, HasLost, position_after, side_after, IsLine, LeadsTo, IsPlayed, WinsWithin}
+use Rattle.gm_play.proofs.Lower.{◌≡◌, ◌≢◌, ℕ, ◌≤◌, inl, inr, true, List, [], ◌∷◌, length, None, refl, sym, ap, ◌∙◌, subst, arith, Position, Rules, IsGame, Side, You, Computer, PlayLine, IsWonIn, IsEven, HasLost, position_after, IsLinePlayed}
+use Rattle.gm_play.specs.Sides.{HasWon}
+use Rattle.gm_play.specs.Lines.{side_after, IsLine, LeadsTo, WinsWithin}
 use Rattle.gm_play.proofs.Keeping.{goes_on, best_once, reply_won, best_won, won_at, IsSafe, even_safe, reply_safe, best_safe, not_lost}
 
 module _ (r : Rules) (g : IsGame r) where
@@ -59,13 +60,13 @@ module _ (r : Rules) (g : IsGame r) where
       let same : ms ≡ ns = line_once ms ns (r.play p m) Computer qs (g.play_legal p m l a.1) a.2 rest in
       cc
 
-  pub played_every : (p : Position) (s : Side) (replies moves : List ℕ) (end : PlayLine) → r.is_legal p ≡ true → IsPlayed r p s replies end → IsLine r p s
+  pub played_every : (p : Position) (s : Side) (replies moves : List ℕ) (end : PlayLine) → r.is_legal p ≡ true → IsLinePlayed r p s replies end → IsLine r p s
       replies moves → LeadsTo r p s moves end
   played_every p s replies moves end l (ms, line, leads) other = subst (λ (xs : List ℕ). LeadsTo r p s xs end) (line_once ms moves p s replies l line other)
       leads
 
   -- a line that is played has both properties
-  pub played_won : (p : Position) (s : Side) (replies : List ℕ) (end : PlayLine) (n : ℕ) → r.is_legal p ≡ true → IsPlayed r p s replies end → IsWonIn r p s
+  pub played_won : (p : Position) (s : Side) (replies : List ℕ) (end : PlayLine) (n : ℕ) → r.is_legal p ≡ true → IsLinePlayed r p s replies end → IsWonIn r p s
       n → WinsWithin r n end
   played_won p s replies end n l (moves, line, leads) w =
       let t = line_won moves p s replies n l line w in
@@ -75,7 +76,7 @@ module _ (r : Rules) (g : IsGame r) where
         λ h. rw (leads.position, leads.side) (t.1 (λ e. h (ap r.primitive leads.position ∙ e))),
       )
 
-  pub played_even : (p : Position) (s : Side) (replies : List ℕ) (end : PlayLine) → r.is_legal p ≡ true → IsPlayed r p s replies end → IsEven r p → HasLost
+  pub played_even : (p : Position) (s : Side) (replies : List ℕ) (end : PlayLine) → r.is_legal p ≡ true → IsLinePlayed r p s replies end → IsEven r p → HasLost
       r end.position end.side → ⊥
   played_even p s replies end l (moves, line, leads) even lost =
       line_safe moves p s replies l line (even_safe r g p s even) (rw (leads.position, leads.side) at lost)

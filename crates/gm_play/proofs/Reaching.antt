@@ -1,6 +1,6 @@
 -- The positions and tiers that play can reach.
-use Rattle.gm_play.proofs.Lower.{◌≡◌, ℕ, zero, suc, inl, inr, true, List, refl, sym, subst, Contains, Position, Rules, IsGame, TableData, IsBelow, IsReached}
-use Rattle.gm_play.proofs.Lower.{AreAllHeld, Advice, IsKnown}
+use Rattle.gm_play.proofs.Lower.{◌≡◌, ℕ, zero, suc, inl, inr, true, List, refl, sym, subst, Contains, Position, Rules, IsGame, TableData, IsReached, AreAllHeld, Advice, IsRightAdvice}
+use Rattle.gm_play.specs.Reached.{IsBelow}
 
 below_below : (r : Rules) (n a b m c : ℕ) → IsBelow r n a b → IsBelow r m b c → (j : ℕ) × IsBelow r j a c
 below_below r zero a b m c h k = (m, subst (λ (x : ℕ). IsBelow r m x c) (sym h) k)
@@ -25,5 +25,5 @@ pub held_from : (r : Rules) (entries : List TableData) (tier : ℕ) (p : Positio
 held_from r entries tier p held (l, (n, h)) j t k = (let (i, b) = below_below r n tier p.tier j t h k in held i t b)
 
 -- a look-up that holds from a tier also holds from each position that is reached from it
-pub known_from : (r : Rules) (tier : ℕ) (k : Advice) (p : Position) → IsKnown r tier k → IsReached r tier p → IsKnown r p.tier k
+pub known_from : (r : Rules) (tier : ℕ) (k : Advice) (p : Position) → IsRightAdvice r tier k → IsReached r tier p → IsRightAdvice r p.tier k
 known_from r tier k p known h q t = known q (reached_reached r tier p q h t)

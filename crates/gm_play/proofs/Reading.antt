@@ -1,6 +1,10 @@
 -- The lines that a person writes.
-use Rattle.gm_play.proofs.Lower.{◌≡◌, ℕ, Bool, true, false, List, [], ◌∷◌, codes, Option, None, Some, refl, sym, ap, ap₂, ◌∙◌, subst, inl, inr, Contains, find}
-use Rattle.gm_play.proofs.Lower.{bytes_eq, Position, Rules, contains_none, contains_first, contains_later, contains_cases, without_return, cond, ◌↔◌, move_read}
+use Rattle.gm_play.proofs.Lower.{◌≡◌, ℕ, Bool, true, false, List, [], ◌∷◌, codes, Option, None, Some, refl, sym, ap, ap₂, ◌∙◌, subst, inl, inr, Contains, bytes_eq, Position, Rules, contains_none, contains_first, without_return}
+use Rattle.std.specs.List.{find}
+use Rattle.gm_game.proofs.Lists.{contains_later, contains_cases}
+use Rattle.std.proofs.Common.{cond}
+use Rattle.std.specs.Prelude.{◌↔◌}
+use Rattle.gm_play.specs.Dialogue.{move_read}
 use Rattle.std.proofs.lemmas.Slice.Eq.{bytes_eq-Decides}
 
 module _ {X : Type 0} (test : X → Bool) where

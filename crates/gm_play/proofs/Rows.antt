@@ -1,8 +1,10 @@
 -- The rows of moves and of lines of play.
-use Rattle.gm_play.proofs.Lower.{◌≡◌, ℕ, ◌+◌, ◌-◌, ◌<◌, ◌≤◌, true, List, [], ◌∷◌, ◌++◌, length, map, take, drop, get_or, Some, refl, sym, ap, ap₂, subst, ◌∙◌}
-use Rattle.gm_play.proofs.Lower.{arith, All, Contains, flat_map, take_more, take_all, drop_more, flat_map-append, Contains-permutation, IsPermutation-sym}
-use Rattle.gm_play.proofs.Lower.{Position, Solved, Value, Draw, IsGame, solved, Rules, HasValue, IsTrueValue, map_from, MoveValue, AreBest, wanted_from}
-use Rattle.gm_play.proofs.Lower.{IsBestMove, worth_from, AreMoveValues, after_best, IsMoveOf, rows_from, All-contains_itself, AreLineRows}
+use Rattle.gm_play.proofs.Lower.{◌≡◌, ℕ, ◌+◌, ◌-◌, ◌<◌, ◌≤◌, true, List, [], ◌∷◌, ◌++◌, length, map, take, drop, get_or, Some, refl, sym, ap, ap₂, subst, ◌∙◌, arith, All, Contains, flat_map, take_more, take_all, drop_more, Position, Solved, Value, Draw, IsGame, solved, Rules, HasValue, IsTrueValue, map_from, MoveValue, AreBest, wanted_from, IsBestMove, worth_from, IsMoveOf, rows_from}
+use Rattle.std.proofs.lemmas.Grind.{flat_map-append}
+use Rattle.std.proofs.lemmas.List.Sorted.{Contains-permutation, IsPermutation-sym}
+use Rattle.gm_play.specs.MoveValues.{AreMoveValues}
+use Rattle.gm_play.specs.PlayTexts.{after_best, AreLineRows}
+use Rattle.std.proofs.lemmas.List.Elements.{All-contains_itself}
 use Rattle.std.proofs.lemmas.List.{append-nil}
 use Rattle.gm_play.proofs.Lowering.{step_value}
 

@@ -1,12 +1,14 @@
 -- Turns, by the state of the game.
-use Rattle.gm_play.proofs.Lower.{◌≡◌, ◌≤◌, ℕ, true, List, ◌++◌, length, codes, Option, None, Some, ap, ◌∙◌, arith, append_assoc, refl, Position, Solved, Rules}
-use Rattle.gm_play.proofs.Lower.{IsTrueValue, Side, You, IsGame, Speaks, Advice, IsKnown, before, place, persons_turn, computers_turn, IsBestMove, Question}
-use Rattle.gm_play.proofs.Lower.{over_line, IsTrueValue_once}
+use Rattle.gm_play.proofs.Lower.{◌≡◌, ◌≤◌, ℕ, true, List, ◌++◌, length, codes, Option, None, Some, ap, ◌∙◌, arith, append_assoc, refl, Position, Solved, Rules, IsTrueValue, Side, You, IsGame, Advice, IsRightAdvice, IsBestMove, Question}
+use Rattle.gm_play.specs.Sessions.{Speaks}
+use Rattle.gm_play.specs.Dialogue.{before, position_line, persons_turn, computers_turn}
+use Rattle.gm_play.specs.Endings.{over_line}
+use Rattle.gm_game.proofs.Checker.{IsTrueValue_once}
 use Rattle.gm_play.proofs.Keeping.{best_once}
 use Rattle.gm_play.proofs.Reaching.{known_from, own_reached, reached_by}
 
 -- the true value is the known one
-pub value_known : (r : Rules) (k : Advice) (p : Position) (s : Solved) → r.is_legal p ≡ true → IsKnown r p.tier k → IsTrueValue r p s → s ≡ k.value p
+pub value_known : (r : Rules) (k : Advice) (p : Position) (s : Solved) → r.is_legal p ≡ true → IsRightAdvice r p.tier k → IsTrueValue r p s → s ≡ k.value p
 value_known r k p s l known h = IsTrueValue_once r p s (k.value p) h (known p (own_reached r p l)).0
 
 -- four texts, from the last
@@ -25,12 +27,12 @@ module _ (r : Rules) (shown : Position → List ℕ) (move_shown : Position → 
   best_is_known m (Some n) a b e = e ∙ ap Some (best_once r p n m b a)
 
   -- the best move is made: its line, and then the person's turn
-  pub computer_plays : (m : ℕ) → r.is_legal p ≡ true → IsKnown r p.tier k → IsBestMove r p (Some m) → IsGame r → (front : List ℕ)
-      → front ≡ place r shown move_shown k seen p ++ (codes "computer: " ++ (move_shown p m ++ codes "\n")) → (q : Position) → q ≡ r.play p m
-      → (IsKnown r q.tier k → Speaks r k (before front (persons_turn r shown move_shown k seen q)) text asked)
+  pub computer_plays : (m : ℕ) → r.is_legal p ≡ true → IsRightAdvice r p.tier k → IsBestMove r p (Some m) → IsGame r → (front : List ℕ)
+      → front ≡ position_line r shown move_shown k seen p ++ (codes "computer: " ++ (move_shown p m ++ codes "\n")) → (q : Position) → q ≡ r.play p m
+      → (IsRightAdvice r q.tier k → Speaks r k (before front (persons_turn r shown move_shown k seen q)) text asked)
       → Speaks r k (computers_turn r shown move_shown k seen p) text asked
   computer_plays m legal known best game front f q e h =
-      let here = place r shown move_shown k seen p in
+      let here = position_line r shown move_shown k seen p in
       let line = codes "computer: " ++ (move_shown p m ++ codes "\n") in
       let next = λ (x : Position). persons_turn r shown move_shown k seen x in
       let t = h (known_from r p.tier k q known (reached_by r game p m legal best.1.best.there q e)) in

@@ -1,6 +1,7 @@
 -- The values of tables are within the limit.
-use Rattle.gm_play.proofs.Lower.{◌≡◌, ◌≤◌, ℕ, List, Bool, true, false, Option, None, Some, refl, REMOTENESS, Position, Solved, Rules, TableData, AreTables}
-use Rattle.gm_play.proofs.Lower.{table_of, value_in, IsTrueTable, record_at, record_in}
+use Rattle.gm_play.proofs.Lower.{◌≡◌, ◌≤◌, ℕ, List, Bool, true, false, Option, None, Some, refl, REMOTENESS, Position, Solved, Rules, TableData, AreTables, value_in}
+use Rattle.gm_table.specs.Tables.{table_of, record_at, record_in}
+use Rattle.gm_game.specs.Records.{IsTrueTable}
 use Rattle.std.proofs.Common.{if◌then◌else◌}
 use Rattle.std.specs.Prelude.{IfSome, slice_get}
 

@@ -1,10 +1,11 @@
 -- The middle of a session: the bytes read and written so far, and the rest.
-use Rattle.gm_play.proofs.Lower.{◌≡◌, ℕ, ◌+◌, ◌≤◌, Bool, true, false, List, [], ◌∷◌, ◌++◌, length, take, Option, Some, None, refl, sym, ap, ◌∙◌, append_assoc}
-use Rattle.gm_play.proofs.Lower.{append-nil, arith, inl, inr, ◌==◌, if◌then◌else◌, length-append, Appends, Keeps, Appends-trans, Position, Rules, Side, subst}
-use Rattle.gm_play.proofs.Lower.{SESSION_BYTES, KEPT, Advice, IsKnown, IsShown, Said, text_after, turn, reply, closing, AppendsPart, Speaks, Question, IfSome}
-use Rattle.gm_play.proofs.Lower.{Consumes, IsAtEnd, Appends-nil, Consumes-trans, Consumes-kept, Consumes-nil, count_after, waiting, spoken, used, IsRead}
-use Rattle.gm_play.proofs.Lower.{IsSession, IsUnread, IsUnwritten, IsTooLong, IsBroken, IsOfOutput, WriteFailed, OutputClosed, SessionError}
-use Rattle.gm_play.specs.Dialogue.{talk, count}
+use Rattle.gm_play.proofs.Lower.{◌≡◌, ℕ, ◌+◌, ◌≤◌, Bool, true, false, List, [], ◌∷◌, ◌++◌, length, take, Option, Some, None, refl, sym, ap, ◌∙◌, append_assoc, append-nil, arith, inl, inr, ◌==◌, if◌then◌else◌, length-append, Appends, Appends-trans, Position, Rules, Side, subst, SESSION_BYTES, KEPT, Advice, IsRightAdvice, IsShown, Said, text_after, reply, closing, Question, IfSome}
+use Rattle.std.specs.Io.KnownBytes.{Keeps, Consumes, IsAtEnd}
+use Rattle.gm_play.specs.Dialogue.{turn, count_after, waiting, spoken, used, talk, count}
+use Rattle.gm_play.specs.Sessions.{AppendsPart, Speaks, IsRead, IsSession, IsUnread, IsUnwritten, IsTooLong, IsBroken, IsOfOutput}
+use Rattle.std.proofs.KnownBytes.{Appends-nil, Consumes-trans, Consumes-kept, Consumes-nil}
+use Rattle.gm_play.specs.declared.session_error.SessionError.TheVariants.{WriteFailed, OutputClosed}
+use Rattle.gm_play.specs.declared.session_error.SessionError.{SessionError}
 use Rattle.gm_play.proofs.Kept.{heard, closed}
 use Rattle.gm_play.proofs.Parts.{part_after, part_longer}
 
@@ -69,7 +70,7 @@ module _ (r : Rules) (shown : Position → List ℕ) (move_shown : Position → 
       pub bytes : List ℕ
       pub written : List ℕ
       pub line : List ℕ
-      pub known : IsKnown r p.tier k
+      pub known : IsRightAdvice r p.tier k
       pub reads : Consumes r0 r1 bytes
       pub writes : Appends w0 w1 written
       pub len : length bytes ≡ number
@@ -109,7 +110,7 @@ module _ {r : Rules} {shown : Position → List ℕ} {move_shown : Position → 
           bytes = g.bytes;
           written = g.written ++ text;
           line = [];
-          known = subst (λ (x : Option Position). IfSome x (λ q. IsKnown r q.tier k)) e is.2;
+          known = subst (λ (x : Option Position). IfSome x (λ q. IsRightAdvice r q.tier k)) e is.2;
           reads = g.is_read.reads;
           writes = Appends-trans w0 w1 w2 g.written text g.writes a;
           len = g.len;

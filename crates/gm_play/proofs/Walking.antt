@@ -1,9 +1,12 @@
 -- Lines of best play: their state after some moves, and their length.
-use Rattle.gm_play.proofs.Lower.{◌≡◌, ◌≢◌, ℕ, zero, suc, ◌+◌, ◌<◌, ◌≤◌, inl, inr, true, List, [], ◌∷◌, ◌++◌, length, take, get_or, slice_get, Option, None}
-use Rattle.gm_play.proofs.Lower.{Contains-get_or, IsGame, Some, refl, sym, ap, subst, ◌∙◌, arith, Contains, cases_lt, length-append, length-take-le, End}
-use Rattle.gm_play.proofs.Lower.{Position, Value, Lose, Draw, Tie, Win, solved, Rules, HasValue, HasValue_once, loses_zero, wins_zero, loses_at_end}
-use Rattle.gm_play.proofs.Lower.{wins_at_end, ties_at_end, AreBest, wanted_from, IsBestMove, position_after, worth_from, get_or_append_left, slice_get_within}
-use Rattle.gm_play.proofs.Lower.{get_or_from_slice_get, slice_get-get_or, BestLine, LineEnd, positions_along, AreFresh, EndsSo, IsBestLine, IsWhole}
+use Rattle.gm_play.proofs.Lower.{◌≡◌, ◌≢◌, ℕ, zero, suc, ◌+◌, ◌<◌, ◌≤◌, inl, inr, true, List, [], ◌∷◌, ◌++◌, length, take, get_or, Option, None, Contains-get_or, IsGame, Some, refl, sym, ap, subst, ◌∙◌, arith, Contains, cases_lt, length-append, length-take-le, End, Position, Value, Lose, Draw, Tie, Win, solved, Rules, HasValue, HasValue_once, loses_zero, ties_at_end, AreBest, wanted_from, IsBestMove, position_after, worth_from}
+use Rattle.std.proofs.Common.{slice_get}
+use Rattle.gm_game.proofs.Steps.{wins_zero, loses_at_end, wins_at_end}
+use Rattle.std.proofs.lemmas.List.{get_or_append_left}
+use Rattle.std.proofs.lemmas.Option.{slice_get_within, get_or_from_slice_get, slice_get-get_or}
+use Rattle.gm_play.specs.declared.best_line.BestLine.{BestLine}
+use Rattle.gm_play.specs.declared.best_line.LineEnd.{LineEnd}
+use Rattle.gm_play.specs.BestLines.{positions_along, AreFresh, EndsSo, IsBestLine, IsWhole}
 use Rattle.std.proofs.Math.Seq.{get_or-append_seam, take-append_seam}
 use Rattle.gm_game.specs.declared.position.End.TheVariants.{Lose as EndLose, Tie as EndTie, Win as EndWin}
 use Rattle.gm_play.specs.declared.best_line.LineEnd.TheVariants.{Over, Again, Cut}

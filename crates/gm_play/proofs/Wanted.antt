@@ -1,9 +1,16 @@
 -- From every position that goes on, a move leads to a wanted value.
-use Rattle.gm_play.proofs.Lower.{◌≡◌, ◌≢◌, ℕ, zero, suc, ◌<◌, inl, inr, true, false, is_some, List, [], ◌∷◌, Option, None, Some, length, take, get_or, sym}
-use Rattle.gm_play.proofs.Lower.{subst, arith, IsSome, IfSome, Contains, option_map, Position, Value, Lose, Draw, Tie, Win, Solved, Rules, IsChild, IsAscending}
-use Rattle.gm_play.proofs.Lower.{IsGame, HasValue, IsTrueValue, solved, contains_none, contains_cases, map_in, TableData, IsHeld, AreHeld, AreTables, value_in}
-use Rattle.gm_play.proofs.Lower.{value_known, value_true, Choice, wanted_from, IsChoice, IsBestMove, Contains-get_or, IsCanonicalChild, IsSettled}
-use Rattle.gm_play.proofs.Lower.{value_iff_settled, draw_child, child_legal, child_of_canonical, IsTrueValue-canonical}
+use Rattle.gm_play.proofs.Lower.{◌≡◌, ◌≢◌, ℕ, zero, suc, ◌<◌, inl, inr, true, false, List, [], ◌∷◌, Option, None, Some, length, take, get_or, sym, subst, arith, IsSome, IfSome, Contains, Position, Value, Lose, Draw, Tie, Win, Solved, Rules, IsChild, IsGame, HasValue, IsTrueValue, solved, contains_none, map_in, TableData, AreTables, value_in, wanted_from, IsChoice, IsBestMove, Contains-get_or}
+use Rattle.std.proofs.Common.{is_some}
+use Rattle.std.specs.Option.{option_map}
+use Rattle.gm_game.specs.Rules.{IsAscending, IsCanonicalChild}
+use Rattle.gm_game.proofs.Lists.{contains_cases}
+use Rattle.gm_table.specs.Tables.{IsHeld, AreHeld}
+use Rattle.gm_table.proofs.ValueLemmas.{value_known, value_true}
+use Rattle.gm_play.specs.declared.best_moves.Choice.{Choice}
+use Rattle.gm_game.specs.Settling.{IsSettled}
+use Rattle.gm_game.proofs.Frontier.{value_iff_settled}
+use Rattle.gm_game.proofs.Player.{draw_child}
+use Rattle.gm_game.proofs.Symmetry.{child_legal, child_of_canonical, IsTrueValue-canonical}
 
 module _ (r : Rules) (g : IsGame r) (p : Position) (legal : r.is_legal p ≡ true) (open_ : r.primitive p ≡ None)
     (known : (d : Position) → IsChild r p d → (s : Solved) × IsTrueValue r d s) where

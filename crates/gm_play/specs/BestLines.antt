@@ -1,6 +1,10 @@
 -- Lines of best play by both sides.
 use Rattle.std.specs.Prelude.{◌≡◌, ◌≢◌, ℕ, ◌<◌, ◌≤◌, List, [], ◌∷◌, length, take, slice_get, None, Some, get_or}
-use Rattle.gm_play.specs.Lower.{Position, Value, Draw, Rules, HasValue}
+use Rattle.gm_game.specs.declared.position.Position.{Position}
+use Rattle.gm_game.specs.declared.position.Value.{Value}
+use Rattle.gm_game.specs.declared.position.Value.TheVariants.{Draw}
+use Rattle.gm_game.specs.Rules.{Rules}
+use Rattle.gm_game.specs.Values.{HasValue}
 use Rattle.gm_play.specs.declared.best_line.BestLine.{BestLine}
 use Rattle.gm_play.specs.declared.best_line.LineEnd.{LineEnd}
 use Rattle.gm_play.specs.declared.best_line.LineEnd.TheVariants.{Over, Again, Cut}

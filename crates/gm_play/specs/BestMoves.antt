@@ -1,6 +1,11 @@
 -- The best move of a position.
 use Rattle.std.specs.Prelude.{◌≡◌, ◌≢◌, ℕ, ◌<◌, ◌≤◌, ◌⊎◌, List, Option, None, Some}
-use Rattle.gm_play.specs.Lower.{Contains, Position, Value, Lose, Draw, Tie, Win, Rules, HasValue}
+use Rattle.std.specs.List.{Contains}
+use Rattle.gm_game.specs.declared.position.Position.{Position}
+use Rattle.gm_game.specs.declared.position.Value.{Value}
+use Rattle.gm_game.specs.declared.position.Value.TheVariants.{Lose, Draw, Tie, Win}
+use Rattle.gm_game.specs.Rules.{Rules}
+use Rattle.gm_game.specs.Values.{HasValue}
 use Rattle.gm_play.specs.declared.best_moves.Choice.{Choice}
 
 -- the value of the result of the best move, for a position of this value

@@ -1,6 +1,13 @@
 -- The dialogue of a session: the text that is written in answer to the input.
 use Rattle.std.specs.Prelude.{ℕ, ◌+◌, ◌-◌, List, [], ◌∷◌, ◌++◌, length, take, codes, ◌==◌, if◌then◌else◌, Option, None, Some, drop}
-use Rattle.gm_play.specs.Lower.{Position, Solved, End, Rules, text_of, IsTrueValue, find, bytes_eq}
+use Rattle.gm_game.specs.declared.position.Position.{Position}
+use Rattle.gm_game.specs.declared.position.Solved.{Solved}
+use Rattle.gm_game.specs.declared.position.End.{End}
+use Rattle.gm_game.specs.Rules.{Rules}
+use Rattle.gm_game.specs.Texts.{text_of}
+use Rattle.gm_game.specs.Values.{IsTrueValue}
+use Rattle.std.specs.List.{find}
+use Rattle.std.specs.Str.{bytes_eq}
 use Rattle.gm_play.specs.declared.sides.Side.{Side}
 use Rattle.gm_play.specs.declared.sides.Side.TheVariants.{You, Computer}
 use Rattle.gm_play.specs.BestMoves.{IsBestMove}
@@ -15,8 +22,8 @@ pub record Advice : Type 0 where
   pub best : Position → Option ℕ
 
 -- the look-up has the true value and the best move of every legal position that is reached from this tier
-abbrev pub IsKnown : Rules → ℕ → Advice → Type 0
-IsKnown r tier k = (p : Position) → IsReached r tier p → IsTrueValue r p (k.value p) × IsBestMove r p (k.best p)
+abbrev pub IsRightAdvice : Rules → ℕ → Advice → Type 0
+IsRightAdvice r tier k = (p : Position) → IsReached r tier p → IsTrueValue r p (k.value p) × IsBestMove r p (k.best p)
 
 -- a part of a dialogue up to the next question: its text; the position of the question, or none if the session ends; the number of moves played; and the
 -- winner, if the game ends
@@ -93,8 +100,8 @@ module _ (r : Rules) (shown : Position → List ℕ) (move_shown : Position → 
     question q p = seen q p ++ codes "your move?\n"
 
     -- the line with a position and its value
-    abbrev pub place : Position → List ℕ
-    place p = shown p ++ codes " " ++ text_of (k.value p) ++ codes "\n"
+    abbrev pub position_line : Position → List ℕ
+    position_line p = shown p ++ codes " " ++ text_of (k.value p) ++ codes "\n"
 
     -- the part of the dialogue after the position if the person is to move
     abbrev pub asks_or_ends : Position → Option End → Said
@@ -102,7 +109,7 @@ module _ (r : Rules) (shown : Position → List ℕ) (move_shown : Position → 
     asks_or_ends p None = asks (question First p) p
 
     abbrev pub persons_turn : Position → Said
-    persons_turn p = before (place p) (asks_or_ends p (r.primitive p))
+    persons_turn p = before (position_line p) (asks_or_ends p (r.primitive p))
 
     -- the part of the dialogue after the position if the computer is to move, up to the person's turn
     abbrev pub moves_or_ends : Position → Option End → Option ℕ → Said
@@ -111,7 +118,7 @@ module _ (r : Rules) (shown : Position → List ℕ) (move_shown : Position → 
     moves_or_ends p None (Some m) = after_move (before (codes "computer" ++ codes ": " ++ move_shown p m ++ codes "\n") (persons_turn (r.play p m)))
 
     abbrev pub computers_turn : Position → Said
-    computers_turn p = before (place p) (moves_or_ends p (r.primitive p) (k.best p))
+    computers_turn p = before (position_line p) (moves_or_ends p (r.primitive p) (k.best p))
 
     -- the part of the dialogue if this side is to move
     abbrev pub turn : Position → Side → Said

@@ -1,6 +1,6 @@
 -- The last line that a session has written.
 use Rattle.std.specs.Prelude.{◌≡◌, ℕ, ◌⊎◌, List, ◌++◌, codes, Option}
-use Rattle.gm_play.specs.Lower.{Appends}
+use Rattle.std.specs.Io.KnownBytes.{Appends}
 
 -- the last line of a text
 abbrev pub IsLastLine : List ℕ → List ℕ → Type 0

@@ -15,4 +15,3 @@ pub mod Sides
 pub mod Endings
 pub mod Places
 pub mod Reached
-pub mod Lower

@@ -1,6 +1,8 @@
 -- Lines of play: the computer plays its best moves, the other side replies.
 use Rattle.std.specs.Prelude.{◌≡◌, ◌≢◌, ℕ, ◌+◌, ◌≤◌, ◌⊎◌, List, [], ◌∷◌, length, Option, None, Some}
-use Rattle.gm_play.specs.Lower.{Contains, Position, Rules}
+use Rattle.std.specs.List.{Contains}
+use Rattle.gm_game.specs.declared.position.Position.{Position}
+use Rattle.gm_game.specs.Rules.{Rules}
 use Rattle.gm_play.specs.declared.sides.Side.{Side}
 use Rattle.gm_play.specs.declared.sides.Side.TheVariants.{You, Computer}
 use Rattle.gm_play.specs.declared.play_line.PlayLine.{PlayLine}
@@ -30,8 +32,8 @@ pub record LeadsTo (r : Rules) (p : Position) (s : Side) (moves : List ℕ) (end
   pub number : end.moves ≡ length moves
 
 -- a line of play with these replies leads to this end
-abbrev pub IsPlayed : Rules → Position → Side → List ℕ → PlayLine → Type 0
-IsPlayed r p s replies end = (moves : List ℕ) × IsLine r p s replies moves × LeadsTo r p s moves end
+abbrev pub IsLinePlayed : Rules → Position → Side → List ℕ → PlayLine → Type 0
+IsLinePlayed r p s replies end = (moves : List ℕ) × IsLine r p s replies moves × LeadsTo r p s moves end
 
 -- no more than n moves were played, and if the game has ended, the computer's side has won
 abbrev pub WinsWithin : Rules → ℕ → PlayLine → Type 0
@@ -42,9 +44,10 @@ abbrev pub one_more : Rules → PlayLine → ℕ → PlayLine
 one_more r line m = record { position = r.play line.position m; side = other line.side; moves = line.moves + 1 }
 
 -- the line with the computer's move if it is the computer's turn and the game goes on, and otherwise unchanged
-abbrev pub IsAnswered : Rules → Side → PlayLine → PlayLine → Type 0
-IsAnswered r You old new = new ≡ old
-IsAnswered r Computer old new = ((r.primitive old.position ≢ None) × (new ≡ old)) ⊎ ((m : ℕ) × IsBestMove r old.position (Some m) × (new ≡ one_more r old m))
+abbrev pub IsAfterComputersTurn : Rules → Side → PlayLine → PlayLine → Type 0
+IsAfterComputersTurn r You old new = new ≡ old
+IsAfterComputersTurn r Computer old new = ((r.primitive old.position ≢ None) × (new ≡ old)) ⊎
+    ((m : ℕ) × IsBestMove r old.position (Some m) × (new ≡ one_more r old m))
 
 -- the reply, if it is a move
 abbrev pub IsReplied : Rules → PlayLine → ℕ → Option PlayLine → Type 0

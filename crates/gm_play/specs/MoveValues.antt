@@ -1,6 +1,15 @@
 -- The moves of a position, by their worth.
 use Rattle.std.specs.Prelude.{◌≡◌, ℕ, ◌+◌, ◌-◌, ◌^◌, ◌≤◌, List, [], ◌∷◌, map, IsPermutation, None, Some, ◌*◌}
-use Rattle.gm_play.specs.Lower.{All, IsNonDecreasingBy, Position, Solved, Value, Lose, Draw, Tie, Win, solved, Rules, IsTrueValue, REMOTENESS}
+use Rattle.std.specs.List.{All}
+use Rattle.std.specs.List.Sorted.{IsNonDecreasingBy}
+use Rattle.gm_game.specs.declared.position.Position.{Position}
+use Rattle.gm_game.specs.declared.position.Solved.{Solved}
+use Rattle.gm_game.specs.declared.position.Value.{Value}
+use Rattle.gm_game.specs.declared.position.Value.TheVariants.{Lose, Draw, Tie, Win}
+use Rattle.gm_game.specs.Records.{solved}
+use Rattle.gm_game.specs.Rules.{Rules}
+use Rattle.gm_game.specs.Values.{IsTrueValue}
+use Rattle.gm_game.specs.declared.limits.TheConstants.{REMOTENESS}
 use Rattle.gm_play.specs.BestMoves.{IsBestMove}
 use Rattle.gm_play.specs.declared.move_values.MoveValue.{MoveValue}
 
@@ -16,15 +25,15 @@ worth_of s = worth_from s.value s.remoteness
 
 -- the rank of a move by the value and remoteness of its result: first the moves to a loss, by least remoteness, then those to a tie, by least remoteness,
 -- then those to a draw, and last those to a win, by greatest remoteness
-abbrev pub rank : Value → ℕ → ℕ
-rank Lose k = k
-rank Tie k = 2 ^ 32 + k
-rank Draw k = 2 * 2 ^ 32
-rank Win k = 4 * 2 ^ 32 - k
+abbrev pub move_rank : Value → ℕ → ℕ
+move_rank Lose k = k
+move_rank Tie k = 2 ^ 32 + k
+move_rank Draw k = 2 * 2 ^ 32
+move_rank Win k = 4 * 2 ^ 32 - k
 
 -- the sort key of a move: equal moves are ordered by number
-abbrev pub place : MoveValue → ℕ
-place x = 2 ^ 32 * rank x.result.value x.result.remoteness + x.number
+abbrev pub sort_key : MoveValue → ℕ
+sort_key x = 2 ^ 32 * move_rank x.result.value x.result.remoteness + x.number
 
 -- the result of the move, its true value, and the worth of the move
 pub record IsMoveValue (r : Rules) (p : Position) (x : MoveValue) : Type 0 where
@@ -37,7 +46,7 @@ pub record IsMoveValue (r : Rules) (p : Position) (x : MoveValue) : Type 0 where
 pub record AreMoveValues (r : Rules) (p : Position) (list : List MoveValue) : Type 0 where
   pub listed : IsPermutation (r.moves p) (map (λ (x : MoveValue). x.number) list)
   pub each : All (IsMoveValue r p) list
-  pub ordered : IsNonDecreasingBy place list
+  pub ordered : IsNonDecreasingBy sort_key list
 
 -- the first move is the best one, and its worth is the true value of p; there is no move if the game has ended
 abbrev pub BeginsBest : Rules → Position → List MoveValue → Type 0

@@ -1,6 +1,11 @@
 -- The texts of positions with their values, and of the tiers and indexes of positions.
 use Rattle.std.specs.Prelude.{◌≡◌, ℕ, ◌&&◌, ◌==◌, List, ◌++◌, codes, if◌then◌else◌}
-use Rattle.gm_play.specs.Lower.{decimal, Position, Solved, Rules, text_of, IsTrueValue}
+use Rattle.std.specs.Fmt.{decimal}
+use Rattle.gm_game.specs.declared.position.Position.{Position}
+use Rattle.gm_game.specs.declared.position.Solved.{Solved}
+use Rattle.gm_game.specs.Rules.{Rules}
+use Rattle.gm_game.specs.Texts.{text_of}
+use Rattle.gm_game.specs.Values.{IsTrueValue}
 use Rattle.gm_play.specs.declared.places.Located.{Located}
 use Rattle.gm_play.specs.Places.{IsLocated}
 use Rattle.gm_play.specs.Why.{five}

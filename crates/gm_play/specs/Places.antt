@@ -1,6 +1,7 @@
 -- The places of positions: their tiers and indexes.
 use Rattle.std.specs.Prelude.{◌≡◌, ◌≢◌, ℕ, ◌<◌, ◌≤◌, true, false, List}
-use Rattle.gm_play.specs.Lower.{Position, Rules, at, IsCanonical}
+use Rattle.gm_game.specs.declared.position.Position.{Position}
+use Rattle.gm_game.specs.Rules.{Rules, at, IsCanonical}
 use Rattle.gm_play.specs.declared.places.Located.{Located}
 use Rattle.gm_play.specs.declared.places.PlaceError.{PlaceError}
 use Rattle.gm_play.specs.declared.places.PlaceError.TheVariants.{NoSuchTier, NoSuchIndex, NotLegal, NotCanonical}

@@ -1,6 +1,15 @@
 -- The texts of answers: values, moves and lines of play.
 use Rattle.std.specs.Prelude.{◌≡◌, ℕ, ◌-◌, Bool, true, List, [], ◌∷◌, ◌++◌, codes}
-use Rattle.gm_play.specs.Lower.{decimal, Contains, flat_map, Position, Solved, Value, Lose, Draw, Tie, Win, solved, Rules, text_of, IsTrueValue}
+use Rattle.std.specs.Fmt.{decimal}
+use Rattle.std.specs.List.{Contains, flat_map}
+use Rattle.gm_game.specs.declared.position.Position.{Position}
+use Rattle.gm_game.specs.declared.position.Solved.{Solved}
+use Rattle.gm_game.specs.declared.position.Value.{Value}
+use Rattle.gm_game.specs.declared.position.Value.TheVariants.{Lose, Draw, Tie, Win}
+use Rattle.gm_game.specs.Records.{solved}
+use Rattle.gm_game.specs.Rules.{Rules}
+use Rattle.gm_game.specs.Texts.{text_of}
+use Rattle.gm_game.specs.Values.{IsTrueValue}
 use Rattle.gm_play.specs.declared.best_line.BestLine.{BestLine}
 use Rattle.gm_play.specs.declared.best_line.LineEnd.{LineEnd}
 use Rattle.gm_play.specs.declared.best_line.LineEnd.TheVariants.{Over, Again, Cut}
@@ -18,8 +27,8 @@ value_word Tie = codes "tie"
 value_word Win = codes "win"
 
 -- three fields of a line
-abbrev pub row : List ℕ → List ℕ → List ℕ → List ℕ
-row a b c = a ++ codes "\t" ++ b ++ codes "\t" ++ c ++ codes "\n"
+abbrev pub row_of_three : List ℕ → List ℕ → List ℕ → List ℕ
+row_of_three a b c = a ++ codes "\t" ++ b ++ codes "\t" ++ c ++ codes "\n"
 
 -- the row that refers to the earlier row of the last position
 abbrev pub end_row : LineEnd → List ℕ
@@ -57,7 +66,7 @@ module _ (r : Rules) (shown : Position → List ℕ) (move_shown : Position → 
 
   -- the row of a move: its text, its worth, and its result
   abbrev pub move_row : Position → MoveValue → List ℕ
-  move_row p x = row (move_shown p x.number) (text_of x.worth) (shown x.position)
+  move_row p x = row_of_three (move_shown p x.number) (text_of x.worth) (shown x.position)
 
   -- the rows of the moves of the position with this text, the best first; if they are to be distinct, only the first of several moves to the same canonical
   -- position
@@ -69,12 +78,12 @@ module _ (r : Rules) (shown : Position → List ℕ) (move_shown : Position → 
   abbrev pub AreLineRows : Position → List ℕ → List ℕ → Type 0
   AreLineRows p [] out = out ≡ []
   AreLineRows p (m ∷ ms) out = (s : Solved) × (rest : List ℕ) × IsTrueValue r (r.play p m) s × AreLineRows (r.play p m) ms rest ×
-      (out ≡ row (move_shown p m) (shown (r.play p m)) (text_of s) ++ rest)
+      (out ≡ row_of_three (move_shown p m) (shown (r.play p m)) (text_of s) ++ rest)
 
   -- the rows of best moves from a position of this value
   abbrev pub rows_from : Position → Solved → List ℕ → List ℕ
   rows_from p s [] = []
-  rows_from p s (m ∷ ms) = row (move_shown p m) (shown (r.play p m)) (text_of (after_best s)) ++ rows_from (r.play p m) (after_best s) ms
+  rows_from p s (m ∷ ms) = row_of_three (move_shown p m) (shown (r.play p m)) (text_of (after_best s)) ++ rows_from (r.play p m) (after_best s) ms
 
   -- the rows of the line of best play from the position with this text
   pub record IsLineText (text : List ℕ) (limit : ℕ) (out : List ℕ) : Type 0 where
@@ -87,4 +96,4 @@ module _ (r : Rules) (shown : Position → List ℕ) (move_shown : Position → 
     pub whole : IsWhole r start limit line
     pub rows : List ℕ
     pub are_rows : AreLineRows start line.moves.items rows
-    pub out_is : out ≡ row [] (shown start) (text_of value) ++ rows ++ end_row line.end
+    pub out_is : out ≡ row_of_three [] (shown start) (text_of value) ++ rows ++ end_row line.end

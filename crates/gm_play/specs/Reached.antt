@@ -1,6 +1,9 @@
 -- The tiers that play can reach.
 use Rattle.std.specs.Prelude.{◌≡◌, ℕ, true, List, zero, suc}
-use Rattle.gm_play.specs.Lower.{Contains, Position, Rules, TableData, IsHeld}
+use Rattle.std.specs.List.{Contains}
+use Rattle.gm_game.specs.declared.position.Position.{Position}
+use Rattle.gm_game.specs.Rules.{Rules}
+use Rattle.gm_table.specs.Tables.{TableData, IsHeld}
 
 -- a tier is reached from another in n steps, each to a child tier
 abbrev pub IsBelow : Rules → ℕ → ℕ → ℕ → Type 0

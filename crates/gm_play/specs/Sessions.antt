@@ -1,10 +1,12 @@
 -- The input and the output of a session.
 use Rattle.std.specs.Prelude.{◌≡◌, ℕ, ◌+◌, ◌≤◌, ◌⊎◌, List, [], ◌∷◌, ◌++◌, length, Option, None, Some, IfSome}
-use Rattle.gm_play.specs.Lower.{Keeps, Appends, Position, Rules, Consumes, IsAtEnd}
+use Rattle.std.specs.Io.KnownBytes.{Keeps, Appends, Consumes, IsAtEnd}
+use Rattle.gm_game.specs.declared.position.Position.{Position}
+use Rattle.gm_game.specs.Rules.{Rules}
 use Rattle.gm_play.specs.declared.sides.Side.{Side}
 use Rattle.gm_play.specs.declared.session_error.SessionError.{SessionError}
 use Rattle.gm_play.specs.declared.session_error.SessionError.TheVariants.{ReadFailed, WriteFailed, TooMuchInput, OutputClosed}
-use Rattle.gm_play.specs.Dialogue.{Advice, Said, IsKnown, dialogue, dialogue_so_far, used}
+use Rattle.gm_play.specs.Dialogue.{Advice, Said, IsRightAdvice, dialogue, dialogue_so_far, used}
 use Rattle.gm_play.specs.declared.view.Question.{Question}
 
 -- the most bytes that one session reads
@@ -27,7 +29,7 @@ asked_at (Some x) f = Some (f x)
 
 -- this text and this question are a part of a dialogue, and the look-up holds from the question's position too
 abbrev pub Speaks : Rules → Advice → Said → List ℕ → Option Position → Type 0
-Speaks r k said text asked = (text ≡ said.text) × (asked ≡ said.asked) × IfSome asked (λ q. IsKnown r q.tier k)
+Speaks r k said text asked = (text ≡ said.text) × (asked ≡ said.asked) × IfSome asked (λ q. IsRightAdvice r q.tier k)
 
 module _ (r : Rules) (shown : Position → List ℕ) (move_shown : Position → ℕ → List ℕ) (k : Advice) (seen : Question → Position → List ℕ) (start : Position)
     (first : Side) where
@@ -77,11 +79,11 @@ module _ (r : Rules) (shown : Position → List ℕ) (move_shown : Position → 
   IsBroken OutputClosed old new before after = IsUnwritten old new before after
 
 -- the numbers of the errors
-abbrev pub number_of : SessionError → ℕ
-number_of ReadFailed = 1
-number_of WriteFailed = 2
-number_of TooMuchInput = 3
-number_of OutputClosed = 4
+abbrev pub session_error_number : SessionError → ℕ
+session_error_number ReadFailed = 1
+session_error_number WriteFailed = 2
+session_error_number TooMuchInput = 3
+session_error_number OutputClosed = 4
 
 -- an output that failed, or whose reader has closed it
 abbrev pub IsOfOutput : SessionError → Type 0

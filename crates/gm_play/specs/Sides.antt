@@ -1,6 +1,9 @@
 -- The two sides, and what a position is worth to the computer's side.
 use Rattle.std.specs.Prelude.{◌≡◌, ℕ, ◌⊎◌, Some}
-use Rattle.gm_play.specs.Lower.{Position, Lose, Draw, Tie, Win, Rules, HasValue}
+use Rattle.gm_game.specs.declared.position.Position.{Position}
+use Rattle.gm_game.specs.declared.position.Value.TheVariants.{Lose, Draw, Tie, Win}
+use Rattle.gm_game.specs.Rules.{Rules}
+use Rattle.gm_game.specs.Values.{HasValue}
 use Rattle.gm_game.specs.declared.position.End.TheVariants.{Lose as EndLose, Win as EndWin}
 use Rattle.gm_play.specs.declared.sides.Side.{Side}
 use Rattle.gm_play.specs.declared.sides.Side.TheVariants.{You, Computer}

@@ -1,11 +1,16 @@
 -- Why a position has its value: its moves, the best answer to each, and the result of the answer.
 use Rattle.std.specs.Prelude.{◌≡◌, ℕ, true, List, [], ◌++◌, codes, map, Option, None, Some}
-use Rattle.gm_play.specs.Lower.{All, flat_map, Position, Solved, Rules, text_of, IsTrueValue}
+use Rattle.std.specs.List.{All, flat_map}
+use Rattle.gm_game.specs.declared.position.Position.{Position}
+use Rattle.gm_game.specs.declared.position.Solved.{Solved}
+use Rattle.gm_game.specs.Rules.{Rules}
+use Rattle.gm_game.specs.Texts.{text_of}
+use Rattle.gm_game.specs.Values.{IsTrueValue}
 use Rattle.gm_play.specs.BestMoves.{IsBestMove}
 use Rattle.gm_play.specs.declared.move_values.MoveValue.{MoveValue}
 use Rattle.gm_play.specs.declared.why.Exchange.{Exchange}
 use Rattle.gm_play.specs.MoveValues.{AreMoveValues, BeginsBest}
-use Rattle.gm_play.specs.PlayTexts.{row, IsReadAs, after_best}
+use Rattle.gm_play.specs.PlayTexts.{row_of_three, IsReadAs, after_best}
 
 abbrev pub made_of : Exchange → MoveValue
 made_of x = x.made
@@ -35,7 +40,7 @@ two a b = (a ++ codes "\t") ++ (b ++ codes "\t")
 
 -- five fields of a line
 abbrev pub five : List ℕ → List ℕ → List ℕ → List ℕ → List ℕ → List ℕ
-five a b c d e = two a b ++ row c d e
+five a b c d e = two a b ++ row_of_three c d e
 
 module _ (r : Rules) (shown : Position → List ℕ) (move_shown : Position → ℕ → List ℕ) where
   -- the text of an answer, which is empty if the game has ended

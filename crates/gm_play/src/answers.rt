@@ -1,7 +1,7 @@
 //! The value of a position.
 ghost use Rattle.std.specs.Prelude.{◌≡◌, ◌↔◌, false, IfOk, IsErrOf};
-ghost use Rattle.gm_play.specs.Lower.{IsTrueValue};
-ghost use Rattle.gm_play.specs.Refusals.{IsNotHeld, number_of};
+ghost use Rattle.gm_game.specs.Values.{IsTrueValue};
+ghost use Rattle.gm_play.specs.Refusals.{IsNotHeld, answer_error_number};
 
 use gm_game::game::Game;
 use gm_game::position::{Position, Solved};
@@ -21,7 +21,7 @@ pub enum AnswerError {
 impl AnswerError {
     /// Returns the number of the error.
     pub fn number(&self) -> u8
-        ensures { result ≡ number_of self.now }
+        ensures { result ≡ answer_error_number self.now }
     {
         match self {
             AnswerError::Illegal => 1,

@@ -1,6 +1,6 @@
 //! Lines of best play by both sides.
 ghost use Rattle.std.specs.Prelude.{◌≡◌, [], MatchOption, IfOk, Some, slice_get};
-ghost use Rattle.gm_play.specs.Lower.{Contains};
+ghost use Rattle.std.specs.List.{Contains};
 ghost use Rattle.gm_play.specs.BestLines.{IsBestLine, IsWhole};
 
 use crate::known::Known;

@@ -1,6 +1,7 @@
 //! The best move of a position.
 ghost use Rattle.std.specs.Prelude.{◌≡◌, ◌↔◌, true, false, None, IfOk, IsErrOf, IsTrue};
-ghost use Rattle.gm_play.specs.Lower.{Contains, IsHeld, AreHeld};
+ghost use Rattle.std.specs.List.{Contains};
+ghost use Rattle.gm_table.specs.Tables.{IsHeld, AreHeld};
 ghost use Rattle.gm_play.specs.Refusals.{AreNotHeld};
 ghost use Rattle.gm_play.specs.BestMoves.{wanted_from, IsNearer, IsChoice, Chooses, Considers, IsBestMove};
 

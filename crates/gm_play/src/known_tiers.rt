@@ -1,6 +1,6 @@
 //! Tiers about whose positions every question has an answer.
 ghost use Rattle.std.specs.Prelude.{ℕ};
-ghost use Rattle.gm_play.specs.Lower.{Contains};
+ghost use Rattle.std.specs.List.{Contains};
 ghost use Rattle.gm_play.specs.Reached.{AreAllHeld};
 
 use gm_game::game::Game;

@@ -1,7 +1,8 @@
 //! The worth of each move of a position.
 ghost use Rattle.std.specs.Prelude.{◌≡◌, ◌<◌, ◌^◌, map, IsPermutation};
-ghost use Rattle.gm_play.specs.Lower.{All, Contains, IsNonDecreasingBy};
-ghost use Rattle.gm_play.specs.MoveValues.{rank as rank_spec, place as place_spec, worth_of, IsMoveValue, AreMoveValues, BeginsBest};
+ghost use Rattle.std.specs.List.{All, Contains};
+ghost use Rattle.std.specs.List.Sorted.{IsNonDecreasingBy};
+ghost use Rattle.gm_play.specs.MoveValues.{move_rank as rank_spec, sort_key as place_spec, worth_of, IsMoveValue, AreMoveValues, BeginsBest};
 
 use crate::known::Known;
 use arrayvec::ArrayVec;

@@ -1,6 +1,6 @@
 //! The texts of positions with their values, and of the tiers and indexes of positions.
 ghost use Rattle.std.specs.Prelude.{◌≡◌, true, IfOk};
-ghost use Rattle.gm_play.specs.Lower.{decimal};
+ghost use Rattle.std.specs.Fmt.{decimal};
 ghost use Rattle.gm_play.specs.PlaceTexts.{place_row, place_word, IsPositionText};
 
 use crate::known::Known;

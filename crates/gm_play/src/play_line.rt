@@ -1,9 +1,9 @@
 //! Lines of play: the computer's best moves against any replies.
 ghost use Rattle.std.specs.Prelude.{◌≡◌, ◌+◌, ◌^◌, ◌<◌, ℕ, List, true, None, IfSome, MatchOption};
-ghost use Rattle.gm_play.specs.Lower.{Contains};
+ghost use Rattle.std.specs.List.{Contains};
 ghost use Rattle.gm_play.specs.Sides.{IsWonIn, IsEven, HasLost};
 ghost use Rattle.gm_play.specs.Reached.{AreAllHeld, IsReached};
-ghost use Rattle.gm_play.specs.Lines.{IsLine, LeadsTo, IsPlayed, WinsWithin, one_more, IsAnswered, IsReplied};
+ghost use Rattle.gm_play.specs.Lines.{IsLine, LeadsTo, IsLinePlayed, WinsWithin, one_more, IsAfterComputersTurn, IsReplied};
 
 use crate::known::Known;
 use crate::sides::Side;
@@ -35,7 +35,7 @@ pub fn play_line<G: Game>(
     requires legal { G.rules.is_legal start ≡ true }
     requires held { AreAllHeld G.rules tables.now start.tier }
     ensures line { MatchOption result ((moves : List ℕ) → IsLine G.rules start first replies.now moves → ⊥)
-        (IsPlayed G.rules start first replies.now) }
+        (IsLinePlayed G.rules start first replies.now) }
     ensures every { (moves : List ℕ) → IsLine G.rules start first replies.now moves → IfSome result (LeadsTo G.rules start first moves) }
     ensures won { (n : ℕ) → IsWonIn G.rules start first n → IfSome result (WinsWithin G.rules n) }
     ensures even { IsEven G.rules start → IfSome result (λ end. HasLost G.rules end.position end.side → ⊥) }
@@ -50,7 +50,7 @@ pub fn play_line<G: Game>(
 // Plays the line move by move.
 fn walk<G: Game>(start: &Known<'_, G>, first: Side, replies: &[u32]) -> Option<PlayLine>
     ensures { MatchOption result ((moves : List ℕ) → IsLine G.rules start.now.position first replies.now moves → ⊥)
-        (IsPlayed G.rules start.now.position first replies.now) }
+        (IsLinePlayed G.rules start.now.position first replies.now) }
 {
     let mut line = PlayLine {
         position: start.position,
@@ -71,7 +71,7 @@ fn walk<G: Game>(start: &Known<'_, G>, first: Side, replies: &[u32]) -> Option<P
 fn answered<G: Game>(start: &Known<'_, G>, line: PlayLine) -> PlayLine
     requires reached { IsReached G.rules start.now.position.tier line.position }
     requires few { line.moves + 1 < 2 ^ 64 }
-    ensures { IsAnswered G.rules line.side line result }
+    ensures { IsAfterComputersTurn G.rules line.side line result }
 {
     match line.side {
         Side::You => line,

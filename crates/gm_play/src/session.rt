@@ -1,7 +1,7 @@
 //! Sessions against the computer over a reader and a writer.
 ghost use Rattle.std.specs.Prelude.{◌≡◌, ℕ, List, true, OnOk, IfErr};
 ghost use Rattle.gm_play.specs.Reached.{AreAllHeld};
-ghost use Rattle.gm_play.specs.Dialogue.{Advice, IsKnown, course, unseen};
+ghost use Rattle.gm_play.specs.Dialogue.{Advice, IsRightAdvice, course, unseen};
 ghost use Rattle.gm_play.specs.Courses.{IsWonCourse, IsUnlostCourse};
 ghost use Rattle.gm_play.specs.LastLines.{EndsWon, EndsUnlost, WritesOne};
 ghost use Rattle.gm_play.specs.Sides.{IsWonIn, IsEven};
@@ -39,19 +39,19 @@ pub fn session<G: Shown, R: Read, W: Write>(
 ) -> Result<(), SessionError>
     requires legal { G.Game.rules.is_legal start ≡ true }
     requires held { AreAllHeld G.Game.rules tables.now start.tier }
-    ensures ok { (k : Advice) → IsKnown G.Game.rules start.tier k
+    ensures ok { (k : Advice) → IsRightAdvice G.Game.rules start.tier k
         → OnOk result (IsSession G.Game.rules G.shown G.move_shown k unseen start first (R.remaining input.old) (R.remaining input.new)
         (W.contents output.old) (W.contents output.new)) }
-    ensures err { (k : Advice) → IsKnown G.Game.rules start.tier k
+    ensures err { (k : Advice) → IsRightAdvice G.Game.rules start.tier k
         → IfErr result (λ e. IsBroken G.Game.rules G.shown G.move_shown k unseen start first e (R.remaining input.old) (R.remaining input.new)
         (W.contents output.old) (W.contents output.new)) }
-    ensures won { (n : ℕ) → IsWonIn G.Game.rules start first n → (k : Advice) → IsKnown G.Game.rules start.tier k
+    ensures won { (n : ℕ) → IsWonIn G.Game.rules start first n → (k : Advice) → IsRightAdvice G.Game.rules start.tier k
         → (bytes : List ℕ) → IsWonCourse n (course G.Game.rules G.shown G.move_shown k unseen start first bytes) }
-    ensures even { IsEven G.Game.rules start → (k : Advice) → IsKnown G.Game.rules start.tier k
+    ensures even { IsEven G.Game.rules start → (k : Advice) → IsRightAdvice G.Game.rules start.tier k
         → (bytes : List ℕ) → IsUnlostCourse (course G.Game.rules G.shown G.move_shown k unseen start first bytes) }
     ensures won_text { (n : ℕ) → IsWonIn G.Game.rules start first n → OnOk result (WritesOne EndsWon (W.contents output.old) (W.contents output.new)) }
     ensures even_text { IsEven G.Game.rules start → OnOk result (WritesOne EndsUnlost (W.contents output.old) (W.contents output.new)) }
-    ensures known { (k : Advice) × IsKnown G.Game.rules start.tier k }
+    ensures known { (k : Advice) × IsRightAdvice G.Game.rules start.tier k }
 {
     let known = Known {
         tables,
@@ -70,20 +70,20 @@ pub fn session_with<G: Shown, V: View<G>, R: Read, W: Write>(
     input: &mut R,
     output: &mut W,
 ) -> Result<(), SessionError>
-    ensures ok { (k : Advice) → IsKnown G.Game.rules start.now.position.tier k
+    ensures ok { (k : Advice) → IsRightAdvice G.Game.rules start.now.position.tier k
         → OnOk result (IsSession G.Game.rules G.shown G.move_shown k V.seen start.now.position first (R.remaining input.old) (R.remaining input.new)
         (W.contents output.old) (W.contents output.new)) }
-    ensures err { (k : Advice) → IsKnown G.Game.rules start.now.position.tier k
+    ensures err { (k : Advice) → IsRightAdvice G.Game.rules start.now.position.tier k
         → IfErr result (λ e. IsBroken G.Game.rules G.shown G.move_shown k V.seen start.now.position first e (R.remaining input.old) (R.remaining input.new)
         (W.contents output.old) (W.contents output.new)) }
-    ensures won { (n : ℕ) → IsWonIn G.Game.rules start.now.position first n → (k : Advice) → IsKnown G.Game.rules start.now.position.tier k
+    ensures won { (n : ℕ) → IsWonIn G.Game.rules start.now.position first n → (k : Advice) → IsRightAdvice G.Game.rules start.now.position.tier k
         → (bytes : List ℕ) → IsWonCourse n (course G.Game.rules G.shown G.move_shown k V.seen start.now.position first bytes) }
-    ensures even { IsEven G.Game.rules start.now.position → (k : Advice) → IsKnown G.Game.rules start.now.position.tier k
+    ensures even { IsEven G.Game.rules start.now.position → (k : Advice) → IsRightAdvice G.Game.rules start.now.position.tier k
         → (bytes : List ℕ) → IsUnlostCourse (course G.Game.rules G.shown G.move_shown k V.seen start.now.position first bytes) }
     ensures won_text { (n : ℕ) → IsWonIn G.Game.rules start.now.position first n
         → OnOk result (WritesOne EndsWon (W.contents output.old) (W.contents output.new)) }
     ensures even_text { IsEven G.Game.rules start.now.position → OnOk result (WritesOne EndsUnlost (W.contents output.old) (W.contents output.new)) }
-    ensures known { (k : Advice) × IsKnown G.Game.rules start.now.position.tier k }
+    ensures known { (k : Advice) × IsRightAdvice G.Game.rules start.now.position.tier k }
 {
     start.truth();
     converse::<G, V, R, W>(start, first, input, output)
@@ -96,10 +96,10 @@ fn converse<G: Shown, V: View<G>, R: Read, W: Write>(
     input: &mut R,
     output: &mut W,
 ) -> Result<(), SessionError>
-    ensures ok { (k : Advice) → IsKnown G.Game.rules start.now.position.tier k
+    ensures ok { (k : Advice) → IsRightAdvice G.Game.rules start.now.position.tier k
         → OnOk result (IsSession G.Game.rules G.shown G.move_shown k V.seen start.now.position first (R.remaining input.old) (R.remaining input.new)
         (W.contents output.old) (W.contents output.new)) }
-    ensures err { (k : Advice) → IsKnown G.Game.rules start.now.position.tier k
+    ensures err { (k : Advice) → IsRightAdvice G.Game.rules start.now.position.tier k
         → IfErr result (λ e. IsBroken G.Game.rules G.shown G.move_shown k V.seen start.now.position first e (R.remaining input.old) (R.remaining input.new)
         (W.contents output.old) (W.contents output.new)) }
 {

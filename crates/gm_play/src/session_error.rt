@@ -1,6 +1,6 @@
 //! Why a session ends early.
 ghost use Rattle.std.specs.Prelude.{◌≡◌};
-ghost use Rattle.gm_play.specs.Sessions.{number_of};
+ghost use Rattle.gm_play.specs.Sessions.{session_error_number};
 
 use thiserror::Error;
 
@@ -22,7 +22,7 @@ pub enum SessionError {
 impl SessionError {
     /// Returns the number of the error.
     pub fn number(&self) -> u8
-        ensures { result ≡ number_of self.now }
+        ensures { result ≡ session_error_number self.now }
     {
         match self {
             SessionError::ReadFailed => 1,

@@ -1,6 +1,6 @@
 //! Reading bytes, and writing texts.
 ghost use Rattle.std.specs.Prelude.{◌≡◌, OnOk, OnErr, IfOk, IfErr};
-ghost use Rattle.gm_play.specs.Lower.{Keeps, Appends};
+ghost use Rattle.std.specs.Io.KnownBytes.{Keeps, Appends};
 ghost use Rattle.gm_play.specs.Dialogue.{without_return as without_return_spec};
 ghost use Rattle.gm_play.specs.Sessions.{ReadsByte, AppendsPart, IsOfOutput};
 

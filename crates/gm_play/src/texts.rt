@@ -1,8 +1,8 @@
 //! The texts of answers: values, moves and lines of play.
 ghost use Rattle.std.specs.Prelude.{◌≡◌, ◌++◌, IfOk, OnOk};
-ghost use Rattle.gm_play.specs.Lower.{text_of};
+ghost use Rattle.gm_game.specs.Texts.{text_of};
 ghost use Rattle.gm_play.specs.BestLines.{AreBest};
-ghost use Rattle.gm_play.specs.PlayTexts.{row, value_word, end_row, after_best, IsMoveOf, move_row, AreMoveRows, rows_from, IsLineText};
+ghost use Rattle.gm_play.specs.PlayTexts.{row_of_three, value_word, end_row, after_best, IsMoveOf, move_row, AreMoveRows, rows_from, IsLineText};
 
 use crate::best_line::{LineEnd, best_line};
 use crate::best_moves::wanted;
@@ -49,7 +49,7 @@ fn push_move<G: Shown>(
 
 /// Appends a row of three fields, separated by tabs.
 pub(crate) fn push_row(rows: &mut Vec<u8>, a: &[u8], b: &[u8], c: &[u8]) -> Result<(), AllocError>
-    ensures { OnOk result (rows.new.items ≡ rows.old.items ++ row a.now b.now c.now) }
+    ensures { OnOk result (rows.new.items ≡ rows.old.items ++ row_of_three a.now b.now c.now) }
 {
     push_field(rows, a, b"\t")?;
     push_field(rows, b, b"\t")?;
@@ -133,7 +133,7 @@ fn push_place<G: Shown>(
     known: &Known<'_, G>,
     value: Solved,
 ) -> Result<(), AllocError>
-    ensures { OnOk result (rows.new.items ≡ rows.old.items ++ row text.now (G.shown known.now.position) (text_of value)) }
+    ensures { OnOk result (rows.new.items ≡ rows.old.items ++ row_of_three text.now (G.shown known.now.position) (text_of value)) }
 {
     push_row(
         rows,

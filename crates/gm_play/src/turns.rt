@@ -1,6 +1,6 @@
 //! The turns of a session.
 ghost use Rattle.std.specs.Prelude.{◌≡◌, ◌≤◌, ◌+◌, ◌++◌, length};
-ghost use Rattle.gm_play.specs.Dialogue.{Advice, IsKnown, unseen, before, place, persons_turn, computers_turn, turn as turn_spec, reply as reply_spec, closing};
+ghost use Rattle.gm_play.specs.Dialogue.{Advice, IsRightAdvice, unseen, before, position_line, persons_turn, computers_turn, turn as turn_spec, reply as reply_spec, closing};
 ghost use Rattle.gm_play.specs.Sessions.{Speaks, asked_at};
 
 use crate::endings::over;
@@ -48,8 +48,8 @@ fn joined<const N: usize>(a: &[u8], b: &[u8], c: &[u8], d: &[u8]) -> ArrayVec<u8
 
 // Returns the line with a position and its value.
 fn place_line<G: Shown>(known: &Known<'_, G>) -> ArrayVec<u8, WIDTH>
-    ensures { (k : Advice) → IsKnown G.Game.rules known.now.position.tier k
-        → result.items ≡ place G.Game.rules G.shown G.move_shown k unseen known.now.position }
+    ensures { (k : Advice) → IsRightAdvice G.Game.rules known.now.position.tier k
+        → result.items ≡ position_line G.Game.rules G.shown G.move_shown k unseen known.now.position }
 {
     let solved = known.value();
     joined(
@@ -63,7 +63,7 @@ fn place_line<G: Shown>(known: &Known<'_, G>) -> ArrayVec<u8, WIDTH>
 // Returns the person's turn, with a text before it.
 fn persons_part<'t, G: Shown, V: View<G>>(front: &[u8], known: &Known<'t, G>) -> Part<'t, G>
     requires { length front.now ≤ FRONT }
-    ensures { (k : Advice) → IsKnown G.Game.rules known.now.position.tier k
+    ensures { (k : Advice) → IsRightAdvice G.Game.rules known.now.position.tier k
         → Speaks G.Game.rules k (before front.now (persons_turn G.Game.rules G.shown G.move_shown k V.seen known.now.position)) result.text.items
         (asked_at result.asked (λ q. q.position)) }
 {
@@ -87,7 +87,7 @@ fn persons_part<'t, G: Shown, V: View<G>>(front: &[u8], known: &Known<'t, G>) ->
 
 // Returns the computer's turn, and then the person's.
 fn computers_part<'t, G: Shown, V: View<G>>(known: &Known<'t, G>) -> Part<'t, G>
-    ensures { (k : Advice) → IsKnown G.Game.rules known.now.position.tier k
+    ensures { (k : Advice) → IsRightAdvice G.Game.rules known.now.position.tier k
         → Speaks G.Game.rules k (computers_turn G.Game.rules G.shown G.move_shown k V.seen known.now.position) result.text.items
         (asked_at result.asked (λ q. q.position)) }
 {
@@ -108,7 +108,7 @@ fn computers_part<'t, G: Shown, V: View<G>>(known: &Known<'t, G>) -> Part<'t, G>
 
 /// Returns the turn of the side to move, and after the computer's turn the person's.
 pub(crate) fn turn<'t, G: Shown, V: View<G>>(known: &Known<'t, G>, side: Side) -> Part<'t, G>
-    ensures { (k : Advice) → IsKnown G.Game.rules known.now.position.tier k
+    ensures { (k : Advice) → IsRightAdvice G.Game.rules known.now.position.tier k
         → Speaks G.Game.rules k (turn_spec G.Game.rules G.shown G.move_shown k V.seen known.now.position side) result.text.items
         (asked_at result.asked (λ q. q.position)) }
 {
@@ -120,7 +120,7 @@ pub(crate) fn turn<'t, G: Shown, V: View<G>>(known: &Known<'t, G>, side: Side) -
 
 /// Returns the answer to a line.
 pub(crate) fn reply<'t, G: Shown, V: View<G>>(known: &Known<'t, G>, line: &[u8]) -> Part<'t, G>
-    ensures { (k : Advice) → IsKnown G.Game.rules known.now.position.tier k
+    ensures { (k : Advice) → IsRightAdvice G.Game.rules known.now.position.tier k
         → Speaks G.Game.rules k (reply_spec G.Game.rules G.shown G.move_shown k V.seen known.now.position line.now) result.text.items
         (asked_at result.asked (λ q. q.position)) }
 {
@@ -147,7 +147,7 @@ pub(crate) fn reply<'t, G: Shown, V: View<G>>(known: &Known<'t, G>, line: &[u8])
 
 /// Returns the answer to the bytes after the last line end, as a last line, and the end of the session.
 pub(crate) fn close<G: Shown, V: View<G>>(known: &Known<'_, G>, line: &[u8]) -> ArrayVec<u8, LAST>
-    ensures { (k : Advice) → IsKnown G.Game.rules known.now.position.tier k
+    ensures { (k : Advice) → IsRightAdvice G.Game.rules known.now.position.tier k
         → result.items ≡ closing G.Game.rules G.shown G.move_shown k V.seen known.now.position line.now }
 {
     if line.is_empty() {

@@ -1,6 +1,6 @@
 //! What the person sees before a question.
 ghost use Rattle.std.specs.Prelude.{◌≡◌, List, ℕ, true};
-ghost use Rattle.gm_play.specs.Lower.{Position};
+ghost use Rattle.gm_game.specs.declared.position.Position.{Position};
 ghost use Rattle.gm_play.specs.declared.view.Question.{Question as QuestionSpec};
 ghost use Rattle.gm_play.specs.Dialogue.{unseen};
 

@@ -1,9 +1,21 @@
 -- A level is whole exactly where as many pairs are delivered as there are.
-use Rattle.gm_shard.proofs.Lower.{◌≡◌, ℕ, ◌+◌, ◌-◌, ◌<◌, ◌≤◌, inl, inr, List, [], ◌∷◌, ◌++◌, length, get_or, refl, sym, subst, arith, Some, Option, Result, Ok}
-use Rattle.gm_shard.proofs.Lower.{Err, IsOk, Contains, Position, Phase, Ties, Place, Rules, IsParent, IsGame, StandsBefore, IsNear, AreAscending, ExpectedData}
-use Rattle.gm_shard.proofs.Lower.{IsExpected, IsPairInto, Follows, no_repeats_from, before_ties, ties_after, Short, ShardState, IsInRange, delivered_to}
-use Rattle.gm_shard.proofs.Lower.{pairs_in, IsGood, IsFor, IsWhole, place_of, Closes}
-use Rattle.std.proofs.Common.{◌*◌}
+use Rattle.gm_shard.proofs.Lower.{◌≡◌, ℕ, ◌+◌, ◌-◌, ◌<◌, ◌≤◌, inl, inr, List, [], ◌∷◌, length, get_or, refl, sym, subst, arith, Some, Result, Ok, Contains, Position, Rules, ShardState, IsInRange, delivered_to, IsGood}
+use Rattle.std.proofs.Common.{◌++◌, Option, Err, ◌*◌}
+use Rattle.std.specs.Result.{IsOk}
+use Rattle.gm_game.specs.declared.position.Phase.{Phase}
+use Rattle.gm_game.specs.declared.position.Phase.TheVariants.{Ties}
+use Rattle.gm_game.specs.declared.position.Place.{Place}
+use Rattle.gm_game.specs.Rules.{IsParent}
+use Rattle.gm_game.specs.Laws.{IsGame}
+use Rattle.gm_game.specs.Places.{StandsBefore, IsNear}
+use Rattle.gm_game.specs.Children.{AreAscending}
+use Rattle.gm_frontier.specs.Counts.{ExpectedData, IsExpected, IsPairInto, Follows}
+use Rattle.gm_table.proofs.Distinct.{no_repeats_from}
+use Rattle.gm_frontier.proofs.ForGame.{before_ties, ties_after}
+use Rattle.gm_shard.specs.declared.short.Short.{Short}
+use Rattle.gm_counters.specs.State.{pairs_in}
+use Rattle.gm_shard.specs.Closing.{IsFor, Closes}
+use Rattle.gm_counters.specs.Steps.{IsWhole, place_of}
 use Rattle.gm_game.proofs.Counts.{HasNoRepeats, all_there, no_longer}
 use Rattle.gm_frontier.proofs.PairLemmas.{near_of_pair}
 use Rattle.gm_counters.proofs.CloseLemmas.{pairs_from, length-pairs, pair_there, pair_from, no_repeats_pairs}

@@ -1,7 +1,11 @@
 -- The children that a list of masks stands for.
-use Rattle.gm_shard.proofs.Lower.{◌≡◌, ℕ, zero, suc, ◌+◌, ◌<◌, ◌≤◌, List, [], ◌∷◌, length, get_or, refl, ap, ◌∙◌, arith, replicate, set, Position, Rules, at}
-use Rattle.gm_shard.proofs.Lower.{canonical_children_of, picked, picked_none, children_of_masks}
-use Rattle.std.proofs.Common.{◌*◌}
+use Rattle.gm_shard.proofs.Lower.{◌≡◌, ℕ, ◌+◌, ◌<◌, ◌≤◌, List, [], ◌∷◌, length, get_or, refl, ap, ◌∙◌, arith, set, Position, Rules}
+use Rattle.std.proofs.Common.{zero, suc, replicate, ◌*◌}
+use Rattle.gm_game.specs.Rules.{at}
+use Rattle.gm_game.specs.Children.{canonical_children_of}
+use Rattle.gm_game.specs.inner.Masks.{picked}
+use Rattle.gm_game.proofs.MaskLemmas.{picked_none}
+use Rattle.gm_shard.specs.inner.Masks.{children_of_masks}
 
 pub zero_plus : (k : ℕ) → 0 + k ≡ k
 zero_plus k = omega arith

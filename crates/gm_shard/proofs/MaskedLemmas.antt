@@ -1,9 +1,22 @@
 -- The masks of a shard mark which children are delivered, before and after a delivery.
-use Rattle.gm_shard.proofs.Lower.{◌≡◌, ◌≢◌, ℕ, ◌+◌, ◌-◌, ◌<◌, ◌↔◌, inl, inr, ⊎_elim, List, [], length, get_or, map, replicate, ap, sym, subst, ◌∙◌, arith}
-use Rattle.gm_shard.proofs.Lower.{Result, Some, Contains, slice_get, set, get_or_read, bit_at, Position, Rules, at, children, with_position}
-use Rattle.gm_shard.proofs.Lower.{canonical_children_of, picked, ascending_set, bit_cases, picked_has, picked_lacks, picked_with, NoteData, Delivery, Refused}
-use Rattle.gm_shard.proofs.Lower.{first_state, IsPlaceOf, IsAdded, Delivers, ShardState, IsInRange, delivered_to, with_pair, children_of_masks, ◌^◌, ◌≤◌, refl}
-use Rattle.gm_shard.proofs.Lower.{Ok, ◌==◌, Repeat, IsThisLevel, IsPairHere, at_place}
+use Rattle.gm_shard.proofs.Lower.{◌≡◌, ℕ, ◌+◌, ◌-◌, ◌<◌, ◌↔◌, inl, inr, List, [], length, get_or, ap, sym, subst, ◌∙◌, arith, Result, Some, Contains, set, Position, Rules, IsPlaceOf, ShardState, IsInRange, delivered_to, ◌≤◌, refl, Ok, IsPairHere}
+use Rattle.std.proofs.Common.{◌≢◌, ⊎_elim, map, replicate, ◌^◌, ◌==◌}
+use Rattle.std.specs.List.{slice_get}
+use Rattle.std.proofs.lemmas.List.{get_or_read}
+use Rattle.std.specs.Int.{bit_at}
+use Rattle.gm_game.specs.Rules.{at, children}
+use Rattle.gm_game.specs.Children.{with_position, canonical_children_of}
+use Rattle.gm_game.specs.inner.Masks.{picked}
+use Rattle.gm_game.proofs.SetLemmas.{ascending_set}
+use Rattle.gm_game.proofs.MaskLemmas.{bit_cases, picked_has, picked_lacks, picked_with, at_place}
+use Rattle.gm_frontier.specs.Notes.{NoteData}
+use Rattle.gm_counters.specs.declared.status.Delivery.{Delivery}
+use Rattle.gm_counters.specs.declared.status.Refused.{Refused}
+use Rattle.gm_counters.specs.inner.Begin.{first_state}
+use Rattle.gm_counters.specs.Delivery.{IsAdded, Delivers, IsThisLevel}
+use Rattle.gm_counters.specs.State.{with_pair}
+use Rattle.gm_shard.specs.inner.Masks.{children_of_masks}
+use Rattle.gm_counters.specs.declared.status.Delivery.TheVariants.{Repeat}
 use Rattle.gm_counters.proofs.AddedLemmas.{outcome}
 use Rattle.gm_shard.proofs.MaskList.{length-masks, masks_at, masks_set, masks_none, zero_plus}
 use Rattle.gm_counters.proofs.StepLemmas.{from_children_of}

@@ -1,10 +1,22 @@
 -- Events, and what they leave.
-use Rattle.gm_shard.proofs.Lower.{◌≡◌, ℕ, suc, ◌+◌, ◌<◌, ◌≤◌, inl, inr, List, [], ◌∷◌, Some, Result, Ok, Err, Bool, true, false, MatchBool, slice_set, get_or}
-use Rattle.gm_shard.proofs.Lower.{drop, length, refl, sym, ap, subst, ◌∙◌, arith, IsTrue, ◌↔◌, Contains, drop-cons, slice_get-get_or, slice_get_within}
-use Rattle.gm_shard.proofs.Lower.{get_or_from_slice_get, same_Some, set-get_or, drop_all, cases_lt, Rules, NoteData, IsNote, Event, Settled, Delivery, Fresh}
-use Rattle.gm_shard.proofs.Lower.{FreshSettled, Repeat, Refused, NotThisLevel, NotMine, NotAParent, TooFar, ShardState, IsInRange, delivered_to, with_pair}
-use Rattle.gm_shard.proofs.Lower.{StatusIs, IsGood, IsPairHere, IsAdded, Delivers, CanDeliver, shard_of, Takes, Changes, Runs}
-use Rattle.std.proofs.Common.{slice_get}
+use Rattle.gm_shard.proofs.Lower.{◌≡◌, ℕ, ◌+◌, ◌<◌, ◌≤◌, inl, inr, List, [], ◌∷◌, Some, Result, Ok, get_or, drop, length, refl, sym, ap, subst, ◌∙◌, arith, ◌↔◌, Contains, Rules, ShardState, IsInRange, delivered_to, IsGood, IsPairHere}
+use Rattle.std.proofs.Common.{suc, Err, Bool, true, false, MatchBool, slice_set, IsTrue, slice_get}
+use Rattle.std.proofs.Math.Seq.{drop-cons}
+use Rattle.std.proofs.lemmas.Option.{slice_get-get_or, slice_get_within, get_or_from_slice_get, same_Some}
+use Rattle.std.proofs.lemmas.List.{set-get_or, drop_all}
+use Rattle.std.proofs.lemmas.Bool.{cases_lt}
+use Rattle.gm_frontier.specs.Notes.{NoteData, IsNote}
+use Rattle.gm_shard.specs.declared.event.Event.{Event}
+use Rattle.gm_counters.specs.declared.status.Status.TheVariants.{Settled}
+use Rattle.gm_counters.specs.declared.status.Delivery.{Delivery}
+use Rattle.gm_counters.specs.declared.status.Delivery.TheVariants.{Fresh, FreshSettled, Repeat}
+use Rattle.gm_counters.specs.declared.status.Refused.{Refused}
+use Rattle.gm_counters.specs.declared.status.Refused.TheVariants.{NotThisLevel, NotMine, NotAParent, TooFar}
+use Rattle.gm_counters.specs.State.{with_pair}
+use Rattle.gm_counters.specs.Status.{StatusIs}
+use Rattle.gm_counters.specs.Delivery.{IsAdded, Delivers}
+use Rattle.gm_counters.specs.Steps.{CanDeliver}
+use Rattle.gm_shard.specs.Runs.{shard_of, Takes, Changes, Runs}
 use Rattle.gm_counters.proofs.AddedLemmas.{note_stands, still_mine, outcome}
 use Rattle.gm_counters.proofs.FreshLemmas.{place_is}
 

@@ -1,8 +1,8 @@
 -- Runs of events over the states of shards, in any order of the events.
 use Rattle.std.specs.Prelude.{◌≡◌, ℕ, suc, ◌⊎◌, List, [], ◌∷◌, Some, slice_get, slice_set}
-use Rattle.gm_shard.specs.Lower.{Rules}
+use Rattle.gm_game.specs.Rules.{Rules}
 use Rattle.gm_counters.specs.State.{ShardState, with_pair}
-use Rattle.gm_counters.specs.Steps.{CanDeliver, CanTurn, next_level, first_ties}
+use Rattle.gm_counters.specs.Steps.{CanDeliver, CanTurn, at_next_level, first_ties}
 use Rattle.gm_shard.specs.Closing.{CanClose}
 use Rattle.gm_shard.specs.declared.event.Event.{Event}
 use Rattle.gm_shard.specs.declared.event.Event.TheVariants.{Deliver, Close, NextPhase}
@@ -16,7 +16,7 @@ shard_of (NextPhase k last) = k
 -- an event can be applied to the state s, and leaves t
 abbrev pub Takes : {G : Type 0} → Rules → Event G → ShardState → ShardState → Type 0
 Takes r (Deliver k note parent) s t = CanDeliver r s note.position parent × (t ≡ with_pair s note.position parent)
-Takes r (Close k expected) s t = CanClose r s expected × (t ≡ next_level s)
+Takes r (Close k expected) s t = CanClose r s expected × (t ≡ at_next_level s)
 Takes r (NextPhase k last) s t = CanTurn s last × (t ≡ first_ties s)
 
 -- an event changes the state of the shard that it names

@@ -1,5 +1,5 @@
 //! The place of a child among the canonical children of a parent.
-ghost use Rattle.gm_shard.specs.Masks.{IsPlaceOf};
+ghost use Rattle.gm_shard.specs.inner.Masks.{IsPlaceOf};
 
 use gm_frontier::note::Note;
 use gm_game::children::{child_place, is_inner};

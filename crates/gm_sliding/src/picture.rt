@@ -1,9 +1,7 @@
 //! What these games look like.
 ghost use Rattle.std.specs.Prelude.{◌≡◌};
-ghost use Rattle.gm_sliding.specs.SlidingPictures.{hexapawn_picture, hexapawn_four_picture, nine_holes_picture, picaria_picture};
-ghost use Rattle.gm_sliding.specs.SlidingPictures.{clobber_picture, kono_picture, toads_picture};
-ghost use Rattle.gm_sliding.specs.laws.SlidingPictured.{hexapawn_pictured, hexapawn_four_pictured, nine_holes_pictured, picaria_pictured};
-ghost use Rattle.gm_sliding.specs.laws.SlidingPictured.{clobber_pictured, kono_pictured, toads_pictured};
+ghost use Rattle.gm_sliding.specs.SlidingPictures.{hexapawn_picture, hexapawn_four_picture, nine_holes_picture, picaria_picture, clobber_picture, kono_picture, toads_picture};
+ghost use Rattle.gm_sliding.specs.laws.SlidingPictured.{hexapawn_pictured, hexapawn_four_pictured, nine_holes_pictured, picaria_pictured, clobber_pictured, kono_pictured, toads_pictured};
 ghost use Rattle.gm_sliding.specs.laws.SlidingTables.{hexapawn_tables, hexapawn_four_tables, nine_holes_tables, picaria_tables, clobber_tables, kono_tables, toads_tables};
 
 use crate::clobber::{Clobber, ClobberRules};

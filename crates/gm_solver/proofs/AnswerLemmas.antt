@@ -1,7 +1,12 @@
 -- What a delivery answers by where the shard stands, and by how much it raises the number of pairs.
-use Rattle.gm_solver.proofs.Lower.{◌≡◌, ℕ, ◌+◌, ◌≤◌, ◌⊎◌, ◌↔◌, refl, subst, ◌∙◌, arith, Result, Ok, Err, REMOTENESS, Rules, NoteData, Delivery, Fresh}
-use Rattle.gm_solver.proofs.Lower.{FreshSettled, Repeat, Refused, NotThisLevel, NotMine, NotAParent, TooFar, ShardState, IsPairHere, Delivers, Spot, spot_of}
-use Rattle.gm_solver.proofs.Lower.{IsAnswer}
+use Rattle.gm_solver.proofs.Lower.{◌≡◌, ℕ, ◌+◌, ◌≤◌, refl, subst, ◌∙◌, arith, REMOTENESS, Rules, NoteData, ShardState, Spot, spot_of}
+use Rattle.std.proofs.Common.{◌⊎◌, ◌↔◌, Result, Ok, Err}
+use Rattle.gm_counters.specs.declared.status.Delivery.{Delivery}
+use Rattle.gm_counters.specs.declared.status.Delivery.TheVariants.{Fresh, FreshSettled, Repeat}
+use Rattle.gm_counters.specs.declared.status.Refused.{Refused}
+use Rattle.gm_counters.specs.declared.status.Refused.TheVariants.{NotThisLevel, NotMine, NotAParent, TooFar}
+use Rattle.gm_counters.specs.Delivery.{IsPairHere, Delivers}
+use Rattle.gm_solver.specs.Boards.{IsAnswer}
 
 -- a pair that passes the first three tests is refused by none of them
 passed : (r : Rules) (s : ShardState) (note : NoteData) (parent : ℕ) (answer : Result Delivery Refused) → IsPairHere r s note parent

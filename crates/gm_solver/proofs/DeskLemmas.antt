@@ -1,7 +1,15 @@
 -- A shard to which the pairs of a level are delivered in their order.
-use Rattle.gm_solver.proofs.Lower.{◌≡◌, ℕ, ◌+◌, ◌<◌, List, [], ◌∷◌, slice_get, refl, sym, subst, ◌∙◌, arith, Option, SkipsThenYields, YieldsFirst}
-use Rattle.gm_solver.proofs.Lower.{nth_from_yields_List, YieldsList-from_first, option_map_id, Rules, at, IsGame, ExpectedData, IsExpected, ShardState}
-use Rattle.gm_solver.proofs.Lower.{pairs_in, IsGood, IsWhole, whole_from, Spot, spot_of, IsForSpot}
+use Rattle.gm_solver.proofs.Lower.{◌≡◌, ℕ, ◌+◌, List, slice_get, refl, sym, subst, ◌∙◌, arith, Rules, ShardState, pairs_in, IsWhole, Spot, spot_of}
+use Rattle.std.proofs.Common.{◌<◌, [], ◌∷◌, Option}
+use Rattle.std.specs.Iterator.{SkipsThenYields, YieldsFirst}
+use Rattle.std.proofs.lemmas.Iterator.Consumers.{nth_from_yields_List, YieldsList-from_first}
+use Rattle.std.proofs.lemmas.Iterator.Adapters.{option_map_id}
+use Rattle.gm_game.specs.Rules.{at}
+use Rattle.gm_game.specs.Laws.{IsGame}
+use Rattle.gm_frontier.specs.Counts.{ExpectedData, IsExpected}
+use Rattle.gm_counters.specs.Good.{IsGood}
+use Rattle.gm_shard.proofs.CloseLemmas.{whole_from}
+use Rattle.gm_solver.specs.Desks.{IsForSpot}
 
 -- as many pairs as a count for the spot says: the level is whole
 pub round_whole : (r : Rules) → IsGame r → (spot : Spot) (s : ShardState) → spot_of s ≡ spot → IsGood r s → (e : ExpectedData) → IsExpected r e

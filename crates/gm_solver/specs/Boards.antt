@@ -1,7 +1,14 @@
 -- Boards: four spots that tile a tier, and what a delivery to one of them answers.
 use Rattle.std.specs.Prelude.{ℕ, ◌+◌, ◌-◌, ◌==◌, if◌then◌else◌, ◌≡◌, ◌<◌, ◌≤◌, ◌↔◌, Result, Err}
-use Rattle.gm_solver.specs.Lower.{ShardState, REMOTENESS, Rules, IsParent, NoteData, phase_of, Delivery, Refused, NotThisLevel, NotMine, NotAParent, TooFar}
-use Rattle.gm_solver.specs.Lower.{Delivers, IsGood}
+use Rattle.gm_counters.specs.State.{ShardState}
+use Rattle.gm_game.specs.declared.limits.TheConstants.{REMOTENESS}
+use Rattle.gm_game.specs.Rules.{Rules, IsParent}
+use Rattle.gm_frontier.specs.Notes.{NoteData, phase_of}
+use Rattle.gm_counters.specs.declared.status.Delivery.{Delivery}
+use Rattle.gm_counters.specs.declared.status.Refused.{Refused}
+use Rattle.gm_counters.specs.declared.status.Refused.TheVariants.{NotThisLevel, NotMine, NotAParent, TooFar}
+use Rattle.gm_counters.specs.Delivery.{Delivers}
+use Rattle.gm_counters.specs.Good.{IsGood}
 use Rattle.gm_locks.specs.Spots.{Spot, spot_of, IsWithin}
 
 -- a shard and the total of its book
@@ -10,7 +17,7 @@ pub record HeldData : Type 0 where
   pub book : ℕ
 
 -- a spot follows another one: the same tier and place, and the range goes on where the other ends
-pub record Follows (s t : Spot) : Type 0 where
+pub record IsNextSpot (s t : Spot) : Type 0 where
   pub tier : t.tier ≡ s.tier
   pub phase : t.phase ≡ s.phase
   pub level : t.level ≡ s.level
@@ -21,9 +28,9 @@ pub record Follows (s t : Spot) : Type 0 where
 pub record AreFourTiles (r : Rules) (a b c d : Spot) : Type 0 where
   pub first : a.lo ≡ 0
   pub order : a.lo ≤ a.hi
-  pub second : Follows a b
-  pub third : Follows b c
-  pub fourth : Follows c d
+  pub second : IsNextSpot a b
+  pub third : IsNextSpot b c
+  pub fourth : IsNextSpot c d
   pub whole : d.hi ≡ r.tier_size a.tier
 
 -- the note is at the spot's place

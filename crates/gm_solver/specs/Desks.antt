@@ -1,6 +1,17 @@
 -- Desks: deliveries to a shard in the order of a level's pairs, by its pass.
 use Rattle.std.specs.Prelude.{◌≡◌, ℕ, ◌+◌, ◌<◌, ◌≤◌, ◌↔◌, List, Some, Result}
-use Rattle.gm_solver.specs.Lower.{IsOk, Rules, NoteData, IsLevel, ExpectedData, IsNumberBefore, Delivery, Refused, Short, Closes, ShardState, Delivers, IsGood}
+use Rattle.std.specs.Result.{IsOk}
+use Rattle.gm_game.specs.Rules.{Rules}
+use Rattle.gm_frontier.specs.Notes.{NoteData}
+use Rattle.gm_frontier.specs.Levels.{IsLevel}
+use Rattle.gm_frontier.specs.Counts.{ExpectedData, IsNumberBefore}
+use Rattle.gm_counters.specs.declared.status.Delivery.{Delivery}
+use Rattle.gm_counters.specs.declared.status.Refused.{Refused}
+use Rattle.gm_shard.specs.declared.short.Short.{Short}
+use Rattle.gm_shard.specs.Closing.{Closes}
+use Rattle.gm_counters.specs.State.{ShardState}
+use Rattle.gm_counters.specs.Delivery.{Delivers}
+use Rattle.gm_counters.specs.Good.{IsGood}
 use Rattle.gm_locks.specs.Spots.{Spot, spot_of}
 use Rattle.gm_locks.specs.Rounds.{place_of_spot, IsRound}
 

@@ -1,7 +1,8 @@
 //! Four shards of a tier, each under a lock of its own.
 ghost use Rattle.std.specs.Prelude.{◌≡◌, ◌+◌, ◌<◌, ◌≤◌};
-ghost use Rattle.gm_solver.specs.Lower.{pairs_in, IsPlaceOf};
-ghost use Rattle.gm_locks.specs.Spots.{spot_of, choose, gain, IsWithin};
+ghost use Rattle.gm_counters.specs.State.{pairs_in};
+ghost use Rattle.gm_shard.specs.inner.Masks.{IsPlaceOf};
+ghost use Rattle.gm_locks.specs.Spots.{spot_of, for_shard, gain, IsWithin};
 ghost use Rattle.gm_solver.specs.Boards.{AreFourTiles, IsAnswer, IsDeliveryAt};
 ghost use Rattle.gm_locks.specs.Amounts.{raised};
 
@@ -96,8 +97,8 @@ impl<G: Game, A: ShardLedger, B: ShardLedger, C: ShardLedger, D: ShardLedger> Bo
     /// Returns the index range of a shard: the first index, and the one past the last.
     pub fn range(&self, shard: usize) -> (u64, u64)
         requires { shard < 4 }
-        ensures lo { result.0 ≡ (choose shard A.spot B.spot C.spot D.spot).lo }
-        ensures hi { result.1 ≡ (choose shard A.spot B.spot C.spot D.spot).hi }
+        ensures lo { result.0 ≡ (for_shard shard A.spot B.spot C.spot D.spot).lo }
+        ensures hi { result.1 ≡ (for_shard shard A.spot B.spot C.spot D.spot).hi }
     {
         match shard {
             0 => self.ranges.a,
@@ -111,7 +112,7 @@ impl<G: Game, A: ShardLedger, B: ShardLedger, C: ShardLedger, D: ShardLedger> Bo
     pub fn shard_of(&self, parent: u64) -> usize
         requires { parent < G.rules.tier_size A.spot.tier }
         ensures shard { result < 4 }
-        ensures range { IsWithin (choose result A.spot B.spot C.spot D.spot) parent }
+        ensures range { IsWithin (for_shard result A.spot B.spot C.spot D.spot) parent }
     {
         if parent < self.ranges.a.1 {
             0
@@ -136,8 +137,8 @@ impl<G: Game, A: ShardLedger, B: ShardLedger, C: ShardLedger, D: ShardLedger> Bo
     ) -> Result<Delivery, Refused>
         requires { shard < 4 }
         ensures shares { shares.new ≡ raised shares.old shard (gain result) }
-        ensures refusals { IsAnswer G.rules (choose shard A.spot B.spot C.spot D.spot) note.now parent result }
-        ensures event { IsDeliveryAt G.rules (choose shard A.spot B.spot C.spot D.spot) note.now parent result }
+        ensures refusals { IsAnswer G.rules (for_shard shard A.spot B.spot C.spot D.spot) note.now parent result }
+        ensures event { IsDeliveryAt G.rules (for_shard shard A.spot B.spot C.spot D.spot) note.now parent result }
     {
         let place = place_of(note, self.tier, parent);
         self.deliver_at(rt, shard, note, parent, place, shares)
@@ -156,8 +157,8 @@ impl<G: Game, A: ShardLedger, B: ShardLedger, C: ShardLedger, D: ShardLedger> Bo
         requires shard { shard < 4 }
         requires place { IsPlaceOf G.rules note.now.position A.spot.tier parent place }
         ensures shares { shares.new ≡ raised shares.old shard (gain result) }
-        ensures refusals { IsAnswer G.rules (choose shard A.spot B.spot C.spot D.spot) note.now parent result }
-        ensures event { IsDeliveryAt G.rules (choose shard A.spot B.spot C.spot D.spot) note.now parent result }
+        ensures refusals { IsAnswer G.rules (for_shard shard A.spot B.spot C.spot D.spot) note.now parent result }
+        ensures event { IsDeliveryAt G.rules (for_shard shard A.spot B.spot C.spot D.spot) note.now parent result }
     {
         let Shares { a, b, c, d, .. } = shares;
         match shard {

@@ -1,6 +1,10 @@
 //! Deliveries of a level's pairs to one shard in the order of the pairs, so that no pair is delivered twice.
 ghost use Rattle.std.specs.Prelude.{◌≡◌, ℕ, ◌+◌, ◌*◌, ◌<◌, ◌≤◌, ◌↔◌, List, [], Some, IsTrue, length, slice_get};
-ghost use Rattle.gm_solver.specs.Lower.{MOVES, TIER_SIZE, NoteData, IsLevel, pairs_in, IsWhole};
+ghost use Rattle.gm_game.specs.declared.limits.TheConstants.{MOVES, TIER_SIZE};
+ghost use Rattle.gm_frontier.specs.Notes.{NoteData};
+ghost use Rattle.gm_frontier.specs.Levels.{IsLevel};
+ghost use Rattle.gm_counters.specs.State.{pairs_in};
+ghost use Rattle.gm_counters.specs.Steps.{IsWhole};
 ghost use Rattle.gm_locks.specs.Spots.{spot_of, gain};
 ghost use Rattle.gm_locks.specs.Rounds.{pairs_into, place_of_spot, IsRound, HasNoneHere, IsLevelAt, IsNextAnswer};
 ghost use Rattle.gm_solver.specs.Desks.{IsForSpot, IsBegun, ClosesSurely, IsStep};

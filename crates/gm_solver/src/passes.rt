@@ -1,8 +1,11 @@
 //! A tier solved level by level by passes: each shard has one pass at each level, which delivers the level's pairs to it in their order.
 ghost use Rattle.std.specs.Prelude.{◌≡◌, ◌<◌, ◌≤◌, IfOk, IfErr, OnOk};
-ghost use Rattle.gm_solver.specs.Lower.{IsReadyFor, AreDeliveries, AreHeld, IsTable, IsTooFar, place_of};
+ghost use Rattle.gm_locks.specs.Pieces.{IsReadyFor};
+ghost use Rattle.gm_table.specs.Solving.{AreDeliveries, IsTooFar};
+ghost use Rattle.gm_table.specs.Tables.{AreHeld, IsTable};
+ghost use Rattle.gm_counters.specs.Steps.{place_of};
 ghost use Rattle.gm_backward.specs.Solving.{IsError};
-ghost use Rattle.gm_backward.specs.Tiling.{AreShardsAt, AreWhole, HaveNoneHere, IsLaterPlace, next_place};
+ghost use Rattle.gm_backward.specs.inner.Tiling.{AreShardsAt, AreWhole, HaveNoneHere, IsLaterPlace, next_place};
 
 use crate::workplace::Workplace;
 use gm_backward::context::SolveContext;

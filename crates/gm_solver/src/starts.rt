@@ -1,6 +1,6 @@
 //! The shard of a range of a tier, for callers with shards of their own.
 ghost use Rattle.std.specs.Prelude.{◌≡◌, ◌-◌, ◌≤◌, IfOk};
-ghost use Rattle.gm_solver.specs.Lower.{first_state};
+ghost use Rattle.gm_counters.specs.inner.Begin.{first_state};
 
 pub use gm_backward::starts::starts;
 use gm_game::game::Game;

@@ -1,6 +1,7 @@
 //! A tier solved by workers.
 ghost use Rattle.std.specs.Prelude.{◌≡◌, ◌≤◌, ℕ, IfOk, IfErr, OnOk};
-ghost use Rattle.gm_solver.specs.Lower.{AreHeld, IsTable, IsTooFar, AreDeliveries};
+ghost use Rattle.gm_table.specs.Tables.{AreHeld, IsTable};
+ghost use Rattle.gm_table.specs.Solving.{IsTooFar, AreDeliveries};
 ghost use Rattle.gm_backward.specs.Solving.{IsError};
 
 use crate::passes::solve_by_passes;

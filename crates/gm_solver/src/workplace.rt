@@ -1,6 +1,9 @@
 //! A desk with its pass in a slot, and the work at it.
 ghost use Rattle.std.specs.Prelude.{◌≡◌, ◌<◌, ◌≤◌, length, IfOk, IfErr, IsTrue};
-ghost use Rattle.gm_solver.specs.Lower.{IsWhole, spot_of, pairs_into, IsLevelAt, IsReadyFor};
+ghost use Rattle.gm_counters.specs.Steps.{IsWhole};
+ghost use Rattle.gm_locks.specs.Spots.{spot_of};
+ghost use Rattle.gm_locks.specs.Rounds.{pairs_into, IsLevelAt};
+ghost use Rattle.gm_locks.specs.Pieces.{IsReadyFor};
 ghost use Rattle.gm_backward.specs.Solving.{IsError};
 
 use crate::pass::{Pass, PassDesk};

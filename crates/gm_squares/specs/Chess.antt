@@ -1,6 +1,5 @@
 -- King and rook, or king and queen, against king, by the laws of chess. A square is a number below 64: eight times its row, plus its file.
-use Rattle.std.specs.Prelude.{ℕ, zero, suc, ◌+◌, ◌-◌, ◌*◌, ◌/◌, ◌%◌, Bool, true, false, not, ◌&&◌, ◌||◌, ◌==◌, nat_lt, List, [], ◌∷◌, ◌++◌}
-use Rattle.std.specs.Prelude.{codes, length, slice_index, Option, None, Some, if◌then◌else◌}
+use Rattle.std.specs.Prelude.{ℕ, zero, suc, ◌+◌, ◌-◌, ◌*◌, ◌/◌, ◌%◌, Bool, true, false, not, ◌&&◌, ◌||◌, ◌==◌, nat_lt, List, [], ◌∷◌, ◌++◌, codes, length, slice_index, Option, None, Some, if◌then◌else◌}
 use Rattle.std.specs.List.{list_any, range_with_len}
 use Rattle.gm_game.specs.declared.position.End.{End}
 use Rattle.gm_game.specs.declared.position.End.TheVariants.{Lose, Tie}
@@ -60,8 +59,8 @@ legal q b = nat_lt b.king 64 && (nat_lt b.foe 64 && (not (b.king == b.foe) && (n
 
 -- ---- moves
 -- the number of the move of a man (0 the white king, 1 the rook or queen, 2 the black king) from one square to another
-abbrev pub step_number : ℕ → ℕ → ℕ → ℕ
-step_number k a c = 4096 * k + (64 * a + c)
+abbrev pub man_step_number : ℕ → ℕ → ℕ → ℕ
+man_step_number k a c = 4096 * k + (64 * a + c)
 
 unfoldable pub man : ℕ → ℕ
 man m = m / 4096

@@ -1,6 +1,5 @@
 -- The rules of Fox and Hounds on the 32 dark squares of a chess board: four hounds, which only go forwards, hunt a fox.
-use Rattle.std.specs.Prelude.{ℕ, zero, suc, ◌+◌, ◌*◌, ◌/◌, ◌%◌, ◌^◌, Bool, true, false, not, ◌&&◌, ◌||◌, ◌==◌, nat_lt, nat_le, bit_xor, count_ones}
-use Rattle.std.specs.Prelude.{List, [], ◌∷◌, ◌++◌, codes, slice_index, Option, None, Some, if◌then◌else◌}
+use Rattle.std.specs.Prelude.{ℕ, zero, suc, ◌+◌, ◌*◌, ◌/◌, ◌%◌, ◌^◌, Bool, true, false, not, ◌&&◌, ◌||◌, ◌==◌, nat_lt, nat_le, bit_xor, count_ones, List, [], ◌∷◌, ◌++◌, codes, slice_index, Option, None, Some, if◌then◌else◌}
 use Rattle.std.specs.Int.{trailing_zeros, w32}
 use Rattle.std.specs.List.{flat_map}
 use Rattle.gm_game.specs.declared.position.End.{End}

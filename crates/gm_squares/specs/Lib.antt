@@ -1,7 +1,6 @@
 pub mod Squares
+pub mod inner
 pub mod laws
 pub mod Chess
-pub mod Runs
-pub mod Lines
 pub mod FoxHounds
 pub mod Pictures

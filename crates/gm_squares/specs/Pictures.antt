@@ -1,7 +1,7 @@
 -- What the chess endings and Fox and Hounds look like, on the board of chess.
 use Rattle.std.specs.Prelude.{ℕ, Bool, List, [], ◌++◌, codes, if◌then◌else◌}
 use Rattle.gm_game.specs.declared.position.Position.{Position}
-use Rattle.gm_pieces.specs.MoveTexts.{position_text, move_text}
+use Rattle.gm_pieces.specs.MoveTexts.{position_text_by, move_text_by}
 use Rattle.gm_draw.specs.declared.pictured.Style.TheVariants.{Chess, Hounds}
 use Rattle.gm_draw.specs.Chessboards.{chess_board, chess_points}
 use Rattle.gm_draw.specs.Pictures.{PictureSpec}
@@ -30,7 +30,7 @@ chess_picture queen = record {
 
 abbrev pub chess_spec : Bool → GameSpec
 chess_spec queen =
-    game_spec (chess_rules queen) (position_text (ending queen) (men_text queen)) (move_text (λ t m. man_move_text queen m)) (chess_picture queen)
+    game_spec (chess_rules queen) (position_text_by (ending queen) (men_text queen)) (move_text_by (λ t m. man_move_text queen m)) (chess_picture queen)
 
 -- the side to move in Fox and Hounds
 abbrev pub chase_side : Bool → List ℕ
@@ -51,4 +51,4 @@ foxhounds_picture = record {
 }
 
 abbrev pub foxhounds_spec : GameSpec
-foxhounds_spec = game_spec foxhounds_rules (position_text fox_and_hounds chase_text) (move_text (λ t m. chase_move_text m)) foxhounds_picture
+foxhounds_spec = game_spec foxhounds_rules (position_text_by fox_and_hounds chase_text) (move_text_by (λ t m. chase_move_text m)) foxhounds_picture

@@ -1,6 +1,6 @@
 //! Fox and Hounds: four hounds hunt a fox.
 ghost use Rattle.std.specs.Prelude.{◌≡◌, ℕ};
-ghost use Rattle.gm_pieces.specs.MoveTexts.{position_text, move_text as text_of_move};
+ghost use Rattle.gm_pieces.specs.MoveTexts.{position_text_by, move_text_by as text_of_move};
 ghost use Rattle.gm_squares.specs.declared.chase.Chase.{Chase as ChaseOf};
 ghost use Rattle.gm_squares.specs.FoxHounds.{fox_and_hounds, foxhounds_rules, board_text as board_text_of, step_text as step_text_of};
 ghost use Rattle.gm_squares.specs.laws.ChaseLaws.{lawful, symmetric};
@@ -244,6 +244,6 @@ impl MoveLists for FoxRules {
 /// The rules and texts of Fox and Hounds are those that `specs/` states.
 pub fn foxhounds_is()
     ensures rules { ⟦<FoxHounds as Game>⟧.rules ≡ foxhounds_rules }
-    ensures shown { ⟦<FoxHounds as Shown>⟧.shown ≡ position_text fox_and_hounds board_text_of }
+    ensures shown { ⟦<FoxHounds as Shown>⟧.shown ≡ position_text_by fox_and_hounds board_text_of }
     ensures move_shown { ⟦<FoxHounds as Shown>⟧.move_shown ≡ text_of_move (λ t m. step_text_of m) }
 {}

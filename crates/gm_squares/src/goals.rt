@@ -1,7 +1,7 @@
 //! Masks of the squares to which each man can go, and of those from which it can have come. Each call takes constant time, without a loop.
 ghost use Rattle.std.specs.Prelude.{◌≡◌, ℕ, ◌+◌, ◌*◌, ◌<◌, ◌==◌, true, false, if◌then◌else◌};
 ghost use Rattle.gm_board.specs.Masks.{has_cell};
-ghost use Rattle.gm_pieces.specs.Marking.{leads_here};
+ghost use Rattle.gm_pieces.specs.inner.Marking.{leads_here};
 ghost use Rattle.gm_squares.specs.Chess.{legal, ending, piece_attacks, king_can, piece_can, foe_can};
 
 use crate::attacks::{TAKEN, king_reach, open_squares, piece_reach};

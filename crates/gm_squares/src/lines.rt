@@ -2,7 +2,7 @@
 //! Each call takes constant time, without a loop.
 ghost use Rattle.std.specs.Prelude.{◌≡◌, ℕ, ◌<◌, ◌&&◌, ◌==◌, not, true, false};
 ghost use Rattle.gm_board.specs.Masks.{has_cell};
-ghost use Rattle.gm_squares.specs.Lines.{line_mask, lies_between, is_open};
+ghost use Rattle.gm_squares.specs.inner.Lines.{line_mask, lies_between, is_open_line};
 
 /// The diagonals that go up from left to right, the shortest at the right end of the first row first.
 pub const DIAGONALS: [u64; 15] = [
@@ -60,7 +60,7 @@ pub fn has_square(mask: u64, square: u32) -> bool
 }
 
 /// Returns the squares of the row of a square.
-#[tactic(auto, unfolding(crate::specs::Lines::line_mask))]
+#[tactic(auto, unfolding(crate::specs::inner::Lines::line_mask))]
 pub fn row(square: u32) -> u64
     requires { square < 64 }
     ensures { result ≡ line_mask 0 square }
@@ -69,7 +69,7 @@ pub fn row(square: u32) -> u64
 }
 
 /// Returns the squares of the file of a square.
-#[tactic(auto, unfolding(crate::specs::Lines::line_mask))]
+#[tactic(auto, unfolding(crate::specs::inner::Lines::line_mask))]
 pub fn file(square: u32) -> u64
     requires { square < 64 }
     ensures { result ≡ line_mask 1 square }
@@ -78,7 +78,7 @@ pub fn file(square: u32) -> u64
 }
 
 /// Returns the squares of the diagonal of a square that goes up.
-#[tactic(auto, unfolding(crate::specs::Lines::line_mask))]
+#[tactic(auto, unfolding(crate::specs::inner::Lines::line_mask))]
 pub fn rising(square: u32) -> u64
     requires { square < 64 }
     ensures { result ≡ line_mask 2 square }
@@ -87,7 +87,7 @@ pub fn rising(square: u32) -> u64
 }
 
 /// Returns the squares of the diagonal of a square that goes down.
-#[tactic(auto, unfolding(crate::specs::Lines::line_mask))]
+#[tactic(auto, unfolding(crate::specs::inner::Lines::line_mask))]
 pub fn falling(square: u32) -> u64
     requires { square < 64 }
     ensures { result ≡ line_mask 3 square }
@@ -115,7 +115,7 @@ fn past(line: u64, from: u32, man: u32) -> u64
 pub fn along(line: u64, from: u32, first: u32, second: u32) -> u64
     requires { from < 64 }
     ensures { (k : ℕ) → k < 64 → has_cell result k
-        ≡ (has_cell line k && (not (k == from) && (is_open line from k first && is_open line from k second))) }
+        ≡ (has_cell line k && (not (k == from) && (is_open_line line from k first && is_open_line line from k second))) }
 {
     let others = line & !square_mask(from);
     others & !past(others, from, first) & !past(others, from, second)

@@ -1,7 +1,6 @@
 //! Texts of boards and moves.
 ghost use Rattle.std.specs.Prelude.{◌≡◌, ◌+◌, ◌<◌, ◌≤◌, ◌/◌, ◌%◌, ℕ, slice_index, true, if◌then◌else◌};
-ghost use Rattle.gm_squares.specs.Chess.{board_text as board_text_of, step_text as step_text_of, legal, piece_char as piece_char_of, man_char as man_char_of};
-ghost use Rattle.gm_squares.specs.Chess.{told};
+ghost use Rattle.gm_squares.specs.Chess.{board_text as board_text_of, step_text as step_text_of, legal, piece_char as piece_char_of, man_char as man_char_of, told};
 
 use crate::attacks::TAKEN;
 use crate::men::Men;

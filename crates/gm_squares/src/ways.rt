@@ -1,7 +1,7 @@
 //! Ways of men on the dark squares, as masks. Each call takes constant time, without a loop.
 ghost use Rattle.std.specs.Prelude.{◌≡◌, ℕ, ◌+◌, ◌*◌, ◌<◌, ◌/◌, ◌&&◌, not, nat_le, nat_lt, ◌||◌, true};
 ghost use Rattle.gm_board.specs.Masks.{has_cell};
-ghost use Rattle.gm_pieces.specs.Marking.{leads_here};
+ghost use Rattle.gm_pieces.specs.inner.Marking.{leads_here};
 ghost use Rattle.gm_squares.specs.Squares.{goes_on_board};
 ghost use Rattle.gm_squares.specs.FoxHounds.{dark, way as way_of, to_square, from_square, legal, can_move as can_move_of, fox_and_hounds};
 ghost use Rattle.gm_squares.specs.laws.ChaseMarks.{by_ways as by_ways_of};

@@ -3,7 +3,7 @@ use Rattle.std.proofs.Common.{◌≡◌, ℕ, zero, suc, ◌+◌, ◌-◌, ◌*�
 use Rattle.std.proofs.lemmas.Nat.Bits.{bit_at-lt, shr_and_one}
 use Rattle.std.proofs.lemmas.List.{drop_all, drop_more, length-drop}
 use Rattle.std.specs.Prelude.{bit_and}
-use Rattle.gm_board.specs.Masks.{has_cell, weight}
+use Rattle.gm_board.specs.Masks.{has_cell, bit_weight}
 use Rattle.gm_board.specs.laws.Masks.{weight_bit}
 use Rattle.gm_stacks.specs.Heights.{stackings, total, rank_heights, sum_down}
 use Rattle.gm_stacks.specs.Stacks.{how_many, height_of, heights}
@@ -21,9 +21,9 @@ bit_small m k = let e = shr_and_one m k in let l = bit_at-lt m k in omega (arith
 pub one_row : (p : ℕ → ℕ) (m n k : ℕ) → k ≡ n + 1 → how_many (λ r. has_cell m (p r)) k ≡ how_many (λ r. has_cell m (p r)) n + bit_and (m / 2 ^ p n) 1
 one_row p m n k e =
     ap (how_many (λ r. has_cell m (p r))) (let z : k ≡ suc n = omega arith in z)
-    ∙ (let b : weight (has_cell m (p n)) ≡ bit_and (m / 2 ^ p n) 1 = weight_bit m (p n) ∙ sym (shr_and_one m (p n)) in omega (arith, b, weighed (has_cell m (p n))))
+    ∙ (let b : bit_weight (has_cell m (p n)) ≡ bit_and (m / 2 ^ p n) 1 = weight_bit m (p n) ∙ sym (shr_and_one m (p n)) in omega (arith, b, weighed (has_cell m (p n))))
   where
-    weighed : (x : Bool) → cond x 1 0 ≡ weight x
+    weighed : (x : Bool) → cond x 1 0 ≡ bit_weight x
     weighed true = refl
     weighed false = refl
 

@@ -1,9 +1,8 @@
 -- The constant table of the ways to place fewer than n pieces.
 use Rattle.std.proofs.Common.{◌≡◌, ℕ, zero, suc, ◌+◌, ◌-◌, ◌<◌, Bool, true, ◌&&◌, List, [], ◌∷◌, length, get_or, eqb, eqb-true, zero-add, sym, ap, ◌∙◌, subst, arith}
 use Rattle.std.specs.List.{list_all, range_with_len}
-use Rattle.gm_board.specs.laws.Lists.{and_left, and_right}
+use Rattle.gm_board.specs.laws.Lists.{and_left, and_right, contains_range}
 use Rattle.gm_board.specs.laws.Permutations.{all_at}
-use Rattle.gm_board.specs.laws.Lists.{contains_range}
 use Rattle.gm_stacks.specs.Heights.{sum_up, stackings}
 use Rattle.gm_stacks.specs.laws.Sums.{next_sum, no_column}
 

@@ -1,6 +1,5 @@
 -- The steps of filling columns by the rank of their heights.
-use Rattle.std.proofs.Common.{◌≡◌, ℕ, suc, ◌+◌, ◌-◌, ◌*◌, ◌/◌, ◌%◌, ◌^◌, ◌<◌, ◌≤◌, ◌≢◌, Bool, false, ◌&&◌, ◌||◌, eqb, eq-eqb, ltb, lt-ltb, leb, le-leb, List, ◌∷◌}
-use Rattle.std.proofs.Common.{length, get_or, drop, w32, sym, ap, ap₂, ◌∙◌, subst, arith, inl, inr, mod-lt, pow_pos, mul-le-mul_right}
+use Rattle.std.proofs.Common.{◌≡◌, ℕ, suc, ◌+◌, ◌-◌, ◌*◌, ◌/◌, ◌%◌, ◌^◌, ◌<◌, ◌≤◌, ◌≢◌, Bool, false, ◌&&◌, ◌||◌, eqb, eq-eqb, ltb, lt-ltb, leb, le-leb, List, ◌∷◌, length, get_or, drop, w32, sym, ap, ap₂, ◌∙◌, subst, arith, inl, inr, mod-lt, pow_pos, mul-le-mul_right}
 use Rattle.std.proofs.lemmas.Bool.{cases_eq, cases_lt, ne_eqb}
 use Rattle.std.proofs.lemmas.Bool.Decides.{nat_tests}
 use Rattle.std.proofs.lemmas.List.{drop_more}

@@ -1,12 +1,14 @@
 -- Tables that are cached: one is found there, and one more is put there; and positions that are read one by one.
-use Rattle.gm_table.proofs.Lower.{◌≡◌, ◌≢◌, ℕ, ◌+◌, ◌<◌, ◌≤◌, ◌==◌, ◌⊎◌, inl, inr, Bool, true, false, if◌then◌else◌, List, [], ◌∷◌, ◌++◌, Option, None, Some}
-use Rattle.gm_table.proofs.Lower.{IsSome, length, map, take, get_or, set, option_copied, cond, refl, sym, ap, subst, ◌∙◌, eqb, eqb-true, eq-eqb, ne_eqb, arith}
-use Rattle.gm_table.proofs.Lower.{Contains, Contains-push_cases, Shorts, Summary, Bor, cases_Bool, eqb-false, length-set, get_or-set_same, get_or-set_other}
-use Rattle.gm_table.proofs.Lower.{get_or_default, TableData, table_of, record_of, Position, Solved, lost_in, tied_in, is_decided, record_of_short}
-use Rattle.gm_table.proofs.Lower.{contains_none, take_more, take_all, map_more, map-append, length-map, length-take, AreCached, AreRead, AreShorts, CacheData}
-use Rattle.gm_table.proofs.Lower.{IsSumOf, IsSummary, other_record, other_table, Rules, IsGame, IsCanonical, AreResults, settle, settled_by, near_child}
-use Rattle.gm_table.proofs.Lower.{contains_first, contains_later, look_up, lesser, greater, won_in, value_in}
-use Rattle.std.proofs.Common.{filter}
+use Rattle.gm_table.proofs.Lower.{◌≡◌, ◌≢◌, ℕ, ◌+◌, ◌<◌, ◌≤◌, ◌==◌, ◌⊎◌, inl, inr, Bool, true, false, if◌then◌else◌, List, [], ◌∷◌, ◌++◌, Option, None, Some, IsSome, length, map, take, get_or, set, option_copied, cond, refl, sym, ap, subst, ◌∙◌, eqb-true, eq-eqb, ne_eqb, arith, Contains, Summary, TableData, table_of, record_of, Position, Solved, is_decided, record_of_short, contains_none, take_more, take_all, map-append, length-map, length-take, CacheData, IsSummary, other_table, Rules, IsGame, IsCanonical, AreResults, contains_first, contains_later, look_up, value_in}
+use Rattle.std.proofs.Common.{eqb, filter}
+use Rattle.std.proofs.lemmas.List.Elements.{Contains-push_cases}
+use Rattle.gm_table.specs.declared.cache.Shorts.{Shorts}
+use Rattle.std.specs.Borrow.{Bor}
+use Rattle.std.proofs.lemmas.Bool.{cases_Bool, eqb-false}
+use Rattle.std.proofs.lemmas.List.{length-set, get_or-set_same, get_or-set_other, get_or_default, map_more}
+use Rattle.gm_game.specs.Records.{lost_in, tied_in, settle, settled_by, lesser, greater, won_in}
+use Rattle.gm_table.specs.inner.Caches.{AreCached, AreRead, AreShorts, IsSumOf, other_record}
+use Rattle.gm_game.proofs.Symmetry.{near_child}
 use Rattle.gm_table.proofs.CheckLemmas.{found_tier, look_up_value, settled_results, value_canonical}
 use Rattle.gm_table.proofs.ReadLemmas.{summary_more, decided_more}
 use Rattle.gm_table.proofs.ValueLemmas.{record_held}

@@ -1,9 +1,16 @@
 -- What a checked position's canonical children say, and the records that fit.
-use Rattle.gm_table.proofs.Lower.{◌≡◌, ◌≢◌, ◌==◌, ℕ, ◌<◌, ◌+◌, true, false, Bool, ne_eqb, eq-eqb, eqb-true, if◌then◌else◌, MatchOption, List, [], ◌∷◌, map}
-use Rattle.gm_table.proofs.Lower.{length, get_or, refl, sym, ap, ◌∙◌, subst, arith, inl, inr, Option, None, Some, Summary, IsSummary, is_some, cases_eq}
-use Rattle.gm_table.proofs.Lower.{same_Some, slice_get-get_or, slice_get_within, Contains-get_or, Position, End, Solved, Rules, at, IsCanonical, IsGame}
-use Rattle.gm_table.proofs.Lower.{AreResults, settle, settled_by, from_end, near_child, settled_by_list, TableData, table_of, record_at, record_of, record_in}
-use Rattle.gm_table.proofs.Lower.{value_in, look_up, RecordFits, FitsAt, IsFirstWrong, IsFirstWrongIn, FitBetween}
+use Rattle.gm_table.proofs.Lower.{◌≡◌, ◌≢◌, ◌==◌, ℕ, ◌<◌, ◌+◌, true, false, Bool, ne_eqb, eq-eqb, eqb-true, if◌then◌else◌, List, [], ◌∷◌, map, length, get_or, refl, sym, ap, ◌∙◌, subst, arith, inl, inr, Option, None, Some, Summary, IsSummary, same_Some, slice_get-get_or, Position, Solved, Rules, at, IsCanonical, IsGame, AreResults, TableData, table_of, record_at, record_of, value_in, look_up, RecordFits, IsFirstWrong, FitBetween}
+use Rattle.std.proofs.Common.{MatchOption}
+use Rattle.std.specs.Option.{is_some}
+use Rattle.std.proofs.lemmas.Bool.{cases_eq}
+use Rattle.std.proofs.lemmas.Option.{slice_get_within}
+use Rattle.std.proofs.lemmas.List.Elements.{Contains-get_or}
+use Rattle.gm_game.specs.declared.position.End.{End}
+use Rattle.gm_game.specs.Records.{settle, settled_by, from_end}
+use Rattle.gm_game.proofs.Symmetry.{near_child}
+use Rattle.gm_game.proofs.Sets.{settled_by_list}
+use Rattle.gm_table.specs.Tables.{record_in}
+use Rattle.gm_table.specs.Checks.{FitsAt, IsFirstWrongIn}
 
 -- a canonical child is canonical
 pub child_canonical : (r : Rules) (g : IsGame r) (p : Position) (cs : List Position) (i : ℕ) (d : Position) → r.is_legal p ≡ true → AreResults r p cs → i <

@@ -1,8 +1,14 @@
 -- The number of a record tells it apart from each other record.
-use Rattle.gm_table.proofs.Lower.{◌≡◌, ◌≢◌, ℕ, suc, ◌+◌, ◌<◌, ◌≤◌, ◌^◌, List, Option, None, Some, refl, ap, sym, ◌∙◌, arith, from_le_bytes-to_le_bytes_2}
-use Rattle.gm_table.proofs.Lower.{from_le_bytes-to_le_bytes_4, REMOTENESS, Value, Lose, Draw, Tie, Win, Solved, Position, Rules, IsTrueValue, HasValue}
-use Rattle.gm_table.proofs.Lower.{IsRecord, solved, Version, One, Two, word, width, step, most, code, IsStorableSolved, IsStorable, record_number, record_bytes}
-use Rattle.std.proofs.Common.{◌*◌}
+use Rattle.gm_table.proofs.Lower.{◌≡◌, ◌≢◌, ℕ, suc, ◌+◌, ◌<◌, ◌≤◌, List, Option, None, Some, refl, ap, sym, ◌∙◌, arith, REMOTENESS, Solved, Position, Rules, IsTrueValue, IsRecord}
+use Rattle.std.proofs.Common.{◌^◌, ◌*◌}
+use Rattle.std.proofs.lemmas.Nat.{from_le_bytes-to_le_bytes_2, from_le_bytes-to_le_bytes_4}
+use Rattle.gm_game.specs.declared.position.Value.{Value}
+use Rattle.gm_game.specs.declared.position.Value.TheVariants.{Lose, Draw, Tie, Win}
+use Rattle.gm_game.specs.Values.{HasValue}
+use Rattle.gm_game.specs.Records.{solved}
+use Rattle.gm_table.specs.declared.version.Version.{Version}
+use Rattle.gm_table.specs.declared.version.Version.TheVariants.{One, Two}
+use Rattle.gm_table.specs.RecordCodes.{record_width, width, step, most, code, IsStorableSolved, IsStorable, record_number, record_bytes}
 use Rattle.std.specs.Int.{from_le_bytes, to_le_bytes}
 
 -- the limits of the versions
@@ -71,21 +77,22 @@ number_small One (Some s) h = let high = (code_small s.value).1 in let small = r
 number_small Two (Some s) h = let high = (code_small s.value).1 in let small = remoteness_small Two s.value s.remoteness h in omega arith
 
 -- the bytes of a number give it back
-number_back : (v : Version) (n : ℕ) → n < 256 ^ width v → from_le_bytes (word v) (to_le_bytes (word v) n) ≡ n
+number_back : (v : Version) (n : ℕ) → n < 256 ^ width v → from_le_bytes (record_width v) (to_le_bytes (record_width v) n) ≡ n
 number_back One n h = from_le_bytes-to_le_bytes_2 n h
 number_back Two n h = from_le_bytes-to_le_bytes_4 n h
 
 -- if a number is that of no record, its bytes are those of none
-pub none_here : (v : Version) (number : ℕ) (one : List ℕ) → number < 256 ^ width v → to_le_bytes (word v) number ≡ one →
+pub none_here : (v : Version) (number : ℕ) (one : List ℕ) → number < 256 ^ width v → to_le_bytes (record_width v) number ≡ one →
     ((o : Option Solved) → IsStorable v o → record_number v o ≢ number)
     → (o : Option Solved) → IsStorable v o → one ≢ record_bytes v o
 none_here v number one small e none o ok same =
-    none o ok (sym (number_back v (record_number v o) (number_small v o ok)) ∙ ap (from_le_bytes (word v)) (sym (e ∙ same)) ∙ number_back v number small)
+    none o ok (sym (number_back v (record_number v o) (number_small v o ok)) ∙ ap (from_le_bytes (record_width v)) (sym (e ∙ same)) ∙ number_back v number
+    small)
 
 -- so do those of a record
 pub same_bytes : (v : Version) (o p : Option Solved) → IsStorable v o → IsStorable v p → record_bytes v o ≡ record_bytes v p → o ≡ p
 same_bytes v o p ho hp e =
-    same_record v o p ho hp (sym (number_back v (record_number v o) (number_small v o ho)) ∙ ap (from_le_bytes (word v)) e ∙ number_back v
+    same_record v o p ho hp (sym (number_back v (record_number v o) (number_small v o ho)) ∙ ap (from_le_bytes (record_width v)) e ∙ number_back v
     (record_number v p) (number_small v p hp))
 
 -- a record of a table can be in a file

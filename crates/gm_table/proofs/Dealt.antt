@@ -1,7 +1,11 @@
 -- Blocks that are dealt out, and what is found of them, item by item.
-use Rattle.gm_table.proofs.Lower.{◌≡◌, ℕ, zero, suc, ◌+◌, ◌-◌, ◌/◌, ◌%◌, ◌<◌, ◌⊎◌, inl, inr, List, [], ◌∷◌, ◌++◌, length, slice_get, Some, sym, ap, subst, ◌∙◌}
-use Rattle.gm_table.proofs.Lower.{arith, AllZip, range_with_len, div-lt_iff_lt-mul, mod-lt, mul-add-lt, mod-mul-add, div-mul-add, div-add-mod', AllZip-long}
-use Rattle.gm_table.proofs.Lower.{length-range_with_len, block_in}
+use Rattle.gm_table.proofs.Lower.{◌≡◌, ℕ, zero, suc, ◌+◌, ◌-◌, ◌/◌, ◌%◌, ◌<◌, ◌⊎◌, inl, inr, List, [], ◌∷◌, ◌++◌, length, slice_get, Some, sym, ap, subst, ◌∙◌, arith}
+use Rattle.std.specs.List.{AllZip, range_with_len}
+use Rattle.std.proofs.Math.Nat.{div-lt_iff_lt-mul, mod-lt}
+use Rattle.std.proofs.lemmas.Nat.{mul-add-lt, mod-mul-add, div-mul-add, div-add-mod'}
+use Rattle.std.proofs.lemmas.Slice.Zip.{AllZip-long}
+use Rattle.std.proofs.lemmas.List.FromFn.{length-range_with_len}
+use Rattle.gm_table.specs.inner.Dealing.{block_in}
 use Rattle.std.proofs.Common.{◌*◌}
 
 -- an item of two lists, one after the other, is in one of them

@@ -1,11 +1,10 @@
 -- Lists without repeats: joined, mapped, filtered, and taken apart.
-use Rattle.gm_table.proofs.Lower.{◌≡◌, ◌≢◌, ℕ, zero, suc, ◌<◌, inl, inr, Bool, true, false, List, [], ◌∷◌, ◌++◌, length, get_or, map, filter, refl, sym, ap}
-use Rattle.gm_table.proofs.Lower.{subst, ◌∙◌, arith, if◌then◌else◌, Contains, IsAscending, contains_none, contains_first, contains_later, contains_cases}
+use Rattle.gm_table.proofs.Lower.{◌≡◌, ◌≢◌, ℕ, zero, suc, ◌<◌, inl, inr, Bool, true, false, List, [], ◌∷◌, ◌++◌, length, get_or, map, refl, sym, ap, subst, ◌∙◌, arith, if◌then◌else◌, Contains, IsAscending, contains_none, contains_first, contains_later}
+use Rattle.std.specs.List.{filter, flat_map}
+use Rattle.gm_game.proofs.Lists.{contains_cases, map_from, map_in}
 use Rattle.gm_game.proofs.Counts.{HasNoRepeats}
-use Rattle.gm_game.proofs.Lists.{map_from, map_in}
 use Rattle.std.proofs.Common.{AllPairs}
 use Rattle.std.proofs.lemmas.List.Elements.{Contains-append_left, Contains-append_right, Contains-append_cases}
-use Rattle.std.specs.List.{flat_map}
 
 -- by places, and back
 pub no_repeats_from : {X : Type 0} (xs : List X) → AllPairs (λ x y. x ≢ y) xs → HasNoRepeats xs

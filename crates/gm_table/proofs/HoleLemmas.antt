@@ -1,8 +1,11 @@
 -- What indexes without a record leave unchanged.
 use Rattle.gm_table.specs.declared.number.TheConstants.{STEP}
-use Rattle.gm_table.proofs.Lower.{◌≡◌, ℕ, zero, suc, ◌+◌, ◌/◌, ◌<◌, ◌≤◌, List, [], ◌∷◌, Option, None, map, take, length, slice_get, IfSome, refl, sym, ap, ◌∙◌}
-use Rattle.gm_table.proofs.Lower.{arith, inl, inr, eq-eqb, cases_lt, Solved, Phase, record_at, wide, unpacked, indexes_at, greatest_of}
-use Rattle.gm_table.proofs.Lower.{Bool, true, replicate, subst, ◌++◌, ◌-◌, eqb, length-append, take_all, drop, length-drop, starts_with, starts_is, Decides-eqb}
+use Rattle.gm_table.proofs.Lower.{◌≡◌, ℕ, zero, suc, ◌+◌, ◌/◌, ◌<◌, ◌≤◌, List, [], ◌∷◌, Option, None, map, take, length, slice_get, IfSome, refl, sym, ap, ◌∙◌, arith, inl, inr, eq-eqb, cases_lt, Solved, Phase, record_at, wide, unpacked, indexes_at, greatest_of, Bool, true, replicate, subst, ◌++◌, ◌-◌, take_all}
+use Rattle.std.proofs.Common.{eqb, length-append, drop}
+use Rattle.std.proofs.lemmas.List.{length-drop}
+use Rattle.std.specs.List.{starts_with}
+use Rattle.std.proofs.lemmas.Slice.Eq.{starts_is}
+use Rattle.std.proofs.lemmas.Bool.Decides.{Decides-eqb}
 use Rattle.gm_table.proofs.LevelLemmas.{greatest_without}
 use Rattle.gm_table.proofs.RunLemmas.{indexes_with}
 

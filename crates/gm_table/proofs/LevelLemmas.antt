@@ -1,8 +1,8 @@
 -- The greatest level of the records, and the indexes of those at a place.
-use Rattle.gm_table.proofs.Lower.{◌≡◌, ℕ, zero, suc, ◌<◌, ◌+◌, max, List, [], ◌∷◌, ◌++◌, take, length, get_or, refl, sym, ap, ◌∙◌, subst, arith, false, Option}
-use Rattle.gm_table.proofs.Lower.{None, Some, ◌⊎◌, inl, inr, take_more, none-some, same_Some, slice_get-get_or, cases_lt, Solved, Phase, record_at, level_in}
-use Rattle.gm_table.proofs.Lower.{HasLevel, IsGreatest, later, greatest_of}
-use Rattle.std.proofs.Common.{is_some}
+use Rattle.gm_table.proofs.Lower.{◌≡◌, ℕ, zero, suc, ◌<◌, ◌+◌, List, [], ◌∷◌, ◌++◌, take, length, get_or, refl, sym, ap, ◌∙◌, subst, arith, false, Option, None, Some, ◌⊎◌, inl, inr, take_more, same_Some, slice_get-get_or, cases_lt, Solved, Phase, record_at, level_in, greatest_of}
+use Rattle.std.proofs.Common.{max, is_some}
+use Rattle.std.proofs.lemmas.Option.{none-some}
+use Rattle.gm_table.specs.Levels.{HasLevel, HasGreatest, later}
 
 -- the record at an index
 pub record_read : (os : List (Option Solved)) (i : ℕ) → i < length os → record_at os i ≡ get_or os i None
@@ -57,7 +57,7 @@ level_cases : (phase : Phase) (o : Option Solved) (os : List (Option Solved)) (n
 level_cases phase o os n (zero, x, s, t) = inl (ap (level_in phase) (same_Some o x s) ∙ t)
 level_cases phase o os n (suc i, x, s, t) = inr (i, x, s, t)
 
-greatest_with : (phase : Phase) (o : Option Solved) (os : List (Option Solved)) (a b : Option ℕ) → level_in phase o ≡ a → IsGreatest phase os b → IsGreatest
+greatest_with : (phase : Phase) (o : Option Solved) (os : List (Option Solved)) (a b : Option ℕ) → level_in phase o ≡ a → HasGreatest phase os b → HasGreatest
     phase (o ∷ os) (later a b)
 greatest_with phase o os None None e h = λ n x. elim (level_cases phase o os n x) [ inl s ↦ none-some n (sym e ∙ s) | inr t ↦ h n t ]
 greatest_with phase o os None (Some m) e h = record {
@@ -80,9 +80,9 @@ greatest_with phase o os (Some k) (Some m) e h = record {
   ];
 }
 
-greatest_exact : (phase : Phase) (os : List (Option Solved)) → IsGreatest phase os (greatest_of phase os)
+greatest_exact : (phase : Phase) (os : List (Option Solved)) → HasGreatest phase os (greatest_of phase os)
 greatest_exact phase [] = λ n (i, x, s, t). none-some x s
 greatest_exact phase (o ∷ os) = greatest_with phase o os (level_in phase o) (greatest_of phase os) refl (greatest_exact phase os)
 
-pub greatest_is : (phase : Phase) (os : List (Option Solved)) (a : Option ℕ) → a ≡ greatest_of phase os → IsGreatest phase os a
-greatest_is phase os a e = subst (IsGreatest phase os) (sym e) (greatest_exact phase os)
+pub greatest_is : (phase : Phase) (os : List (Option Solved)) (a : Option ℕ) → a ≡ greatest_of phase os → HasGreatest phase os a
+greatest_is phase os a e = subst (HasGreatest phase os) (sym e) (greatest_exact phase os)

@@ -1,5 +1,6 @@
 -- Short forms one after the other.
-use Rattle.gm_table.proofs.Lower.{◌≡◌, ℕ, zero, suc, List, ◌∷◌, ◌++◌, map, take, replicate, refl, ap, sym, ◌∙◌, take-map, map-append, wide}
+use Rattle.gm_table.proofs.Lower.{◌≡◌, ℕ, zero, suc, List, ◌∷◌, ◌++◌, map, take, replicate, refl, ap, sym, ◌∙◌, map-append, wide}
+use Rattle.std.proofs.lemmas.List.{take-map}
 
 -- the first numbers are those of the first short forms
 pub take_wide : (n : ℕ) (xs : List ℕ) → map wide (take n xs) ≡ take n (map wide xs)

@@ -1,9 +1,10 @@
 -- Records that are packed one by one.
-use Rattle.gm_table.proofs.Lower.{◌≡◌, ℕ, zero, suc, ◌+◌, ◌<◌, ◌≤◌, List, [], ◌∷◌, ◌++◌, Option, None, length, map, take, replicate, get_or, refl, ap, ◌∙◌, sym}
-use Rattle.gm_table.proofs.Lower.{map-append, take_more, take_all, map-map, slice_get-get_or, Solved, wide, unpacked, IsNear, AreNear}
+use Rattle.gm_table.proofs.Lower.{◌≡◌, ℕ, zero, suc, ◌+◌, ◌<◌, ◌≤◌, List, [], ◌∷◌, ◌++◌, Option, None, length, map, take, replicate, get_or, refl, ap, ◌∙◌, sym, map-append, take_more, take_all, slice_get-get_or, Solved, wide, unpacked}
+use Rattle.std.proofs.lemmas.Simd.{map-map}
+use Rattle.gm_table.specs.Packed.{IsInLimit, AreInLimit}
 
 -- the record at an index is near
-pub near_at : (records : List (Option Solved)) (i : ℕ) (d : Option Solved) → AreNear records → i < length records → IsNear (get_or records i d)
+pub near_at : (records : List (Option Solved)) (i : ℕ) (d : Option Solved) → AreInLimit records → i < length records → IsInLimit (get_or records i d)
 near_at records i d near inside = near i (get_or records i d) (slice_get-get_or records i d inside)
 
 -- one record more is packed

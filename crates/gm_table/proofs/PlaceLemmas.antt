@@ -1,9 +1,15 @@
 -- Records at a place are those of the positions that are there.
-use Rattle.gm_table.proofs.Lower.{◌≡◌, ℕ, zero, suc, ◌<◌, ◌≤◌, ◌+◌, ◌↔◌, Bool, true, false, if◌then◌else◌, List, [], ◌∷◌, get_or, refl, sym, ap, ◌∙◌, subst}
-use Rattle.gm_table.proofs.Lower.{inl, inr, arith, Option, None, Some, IsSome, slice_get, eq-eqb, eqb-true, Contains, same_Some, none-some, slice_get-get_or}
-use Rattle.gm_table.proofs.Lower.{Position, Solved, Value, Lose, Draw, Tie, Win, Phase, WinLose, Ties, Rules, at, IsCanonical, IsAscending, IsGame, HasValue}
-use Rattle.gm_table.proofs.Lower.{IsTrueValue, solved, StandsAt, contains_none, contains_first, contains_later, contains_cases, HasValue_once, level_in}
-use Rattle.gm_table.proofs.Lower.{HasLevel, is_level, indexes_from, indexes_at, TableData, IsTable, table_of, IsHeld, AreTables, run_of}
+use Rattle.gm_table.proofs.Lower.{◌≡◌, ℕ, zero, suc, ◌<◌, ◌≤◌, ◌+◌, ◌↔◌, Bool, true, false, if◌then◌else◌, List, [], ◌∷◌, get_or, refl, sym, ap, ◌∙◌, subst, inl, inr, arith, Option, None, Some, IsSome, slice_get, eq-eqb, eqb-true, Contains, same_Some, slice_get-get_or, Position, Solved, Phase, WinLose, Ties, Rules, at, IsCanonical, IsAscending, IsGame, IsTrueValue, contains_none, contains_first, contains_later, level_in, indexes_at, TableData, IsTable, table_of, IsHeld, AreTables}
+use Rattle.std.proofs.lemmas.Option.{none-some}
+use Rattle.gm_game.specs.declared.position.Value.{Value}
+use Rattle.gm_game.specs.declared.position.Value.TheVariants.{Lose, Draw, Tie, Win}
+use Rattle.gm_game.specs.Values.{HasValue}
+use Rattle.gm_game.specs.Records.{solved}
+use Rattle.gm_game.specs.Places.{StandsAt}
+use Rattle.gm_game.proofs.Lists.{contains_cases}
+use Rattle.gm_game.proofs.Basic.{HasValue_once}
+use Rattle.gm_table.specs.Levels.{HasLevel, is_level, indexes_from}
+use Rattle.gm_table.specs.Tables.{run_of}
 
 -- the test of a level
 level_is : (n : ℕ) (a : Option ℕ) → is_level n a ≡ true → a ≡ Some n

@@ -1,8 +1,11 @@
 -- Records that are read one by one.
-use Rattle.gm_table.proofs.Lower.{◌≡◌, ◌+◌, ◌<◌, ◌≤◌, ◌∙◌, ℕ, Bool, true, false, List, [], ◌∷◌, ◌++◌, length, length-append, map, take, get_or, not, cond}
-use Rattle.gm_table.proofs.Lower.{Option, ap, refl, sym, arith, map_more, take_all, length-map, length-take, filter-append, length-filter_both, Solved, lost_in}
-use Rattle.gm_table.proofs.Lower.{won_in, tied_in, lesser, greater, least_of, all_won, least_push, all_won_push, is_decided, IsSummary, Summary}
-use Rattle.std.proofs.Common.{filter}
+use Rattle.gm_table.proofs.Lower.{◌≡◌, ◌+◌, ◌<◌, ◌≤◌, ◌∙◌, ℕ, Bool, true, false, List, [], ◌∷◌, ◌++◌, length, map, take, get_or, cond, Option, ap, refl, sym, arith, take_all, length-map, length-take, Solved, is_decided, IsSummary, Summary}
+use Rattle.std.proofs.Common.{length-append, not, filter}
+use Rattle.std.proofs.lemmas.List.{map_more}
+use Rattle.std.proofs.lemmas.List.Elements.{filter-append}
+use Rattle.std.proofs.lemmas.List.Filters.{length-filter_both}
+use Rattle.gm_game.specs.Records.{lost_in, won_in, tied_in, lesser, greater, least_of, all_won}
+use Rattle.gm_game.proofs.Folding.{least_push, all_won_push}
 
 -- one of a list passes a test, or none
 one_passes : (p : Option Solved → Bool) (o : Option Solved) → length (filter p (o ∷ [])) ≡ cond (p o) 1 0

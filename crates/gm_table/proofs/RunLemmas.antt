@@ -1,8 +1,11 @@
 -- The indexes at a place with one record more, and a run with one index more.
-use Rattle.gm_table.proofs.Lower.{◌≡◌, ℕ, suc, ◌<◌, ◌+◌, ◌==◌, Bool, true, false, if◌then◌else◌, List, [], ◌∷◌, ◌++◌, map, set, take, length, get_or}
-use Rattle.gm_table.proofs.Lower.{slice_index_or, refl, sym, ap, ◌∙◌, subst, arith, Option, None, Vec, inl, inr, eq-eqb, ne_eqb, take_more, map-set, get_or-map}
-use Rattle.gm_table.proofs.Lower.{get_or-set_same, get_or-set_other, length-map, length-take, cases_eq, Global, Solved, Phase, WinLose, Ties, level_in}
-use Rattle.gm_table.proofs.Lower.{is_level, indexes_from, indexes_at, run_at, run_in, record_at}
+use Rattle.gm_table.proofs.Lower.{◌≡◌, ℕ, suc, ◌<◌, ◌+◌, ◌==◌, Bool, true, false, if◌then◌else◌, List, [], ◌∷◌, ◌++◌, map, set, take, length, get_or, refl, sym, ap, ◌∙◌, subst, arith, Option, None, inl, inr, eq-eqb, ne_eqb, take_more, length-map, length-take, Solved, Phase, WinLose, Ties, level_in, indexes_at, run_in, record_at}
+use Rattle.std.proofs.Common.{slice_index_or, Vec}
+use Rattle.std.proofs.lemmas.List.{map-set, get_or-map, get_or-set_same, get_or-set_other}
+use Rattle.std.proofs.lemmas.Bool.{cases_eq}
+use Rattle.std.specs.declared.alloc.Global.{Global}
+use Rattle.gm_table.specs.Levels.{is_level, indexes_from}
+use Rattle.gm_table.specs.inner.Runs.{run_at}
 use Rattle.gm_table.proofs.LevelLemmas.{record_read}
 
 push_first : (c : Bool) (k : ℕ) → (if c then k ∷ [] else []) ≡ (if c then (k + 0) ∷ [] else [])

@@ -1,6 +1,5 @@
 -- Lists of tiers and of their tables, and what is in them.
-use Rattle.gm_table.proofs.Lower.{◌≡◌, ℕ, zero, suc, ◌+◌, ◌<◌, ◌==◌, ◌++◌, Bool, true, false, if◌then◌else◌, cond, List, [], ◌∷◌, refl, sym, ap, ◌∙◌, subst, arith, Option, None, Some}
-use Rattle.gm_table.proofs.Lower.{ne_eqb, eq-eqb, eqb-true, same_Some, length, get_or, slice_get, Rules, TableData, IsTable, table_of, AreTables, AreKept}
+use Rattle.gm_table.proofs.Lower.{◌≡◌, ℕ, zero, suc, ◌+◌, ◌<◌, ◌==◌, ◌++◌, Bool, true, false, if◌then◌else◌, cond, List, [], ◌∷◌, refl, sym, ap, ◌∙◌, subst, arith, Option, None, Some, ne_eqb, eq-eqb, eqb-true, same_Some, length, get_or, slice_get, Rules, TableData, IsTable, table_of, AreTables, AreKept}
 use Rattle.std.specs.List.{slice_set}
 
 pub kept_length : (r : Rules) (ns : List ℕ) (ts : List TableData) → AreKept r ns ts → length ts ≡ length ns

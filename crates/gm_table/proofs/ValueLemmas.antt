@@ -1,8 +1,10 @@
 -- The values that tables give.
-use Rattle.gm_table.proofs.Lower.{◌≡◌, ℕ, ◌<◌, ◌≤◌, ◌↔◌, true, false, List, length, get_or, refl, sym, ap, ◌∙◌, subst, Bool, Option, None, Some, IsSome, IfSome}
-use Rattle.gm_table.proofs.Lower.{slice_get, slice_get-get_or, Position, Solved, REMOTENESS, Rules, at, IsCanonical, IsGame, IsTrueValue, IsTrueTable, IsRecord}
-use Rattle.gm_table.proofs.Lower.{HoldsChildren, IsKnown, Fits, IsTrueValue-canonical, known_since, true_iff_fits, TableData, IsTable, record_at, table_of}
-use Rattle.gm_table.proofs.Lower.{IsHeld, AreHeld, AreTables, record_in, value_in}
+use Rattle.gm_table.proofs.Lower.{◌≡◌, ℕ, ◌<◌, ◌≤◌, ◌↔◌, true, false, List, length, get_or, refl, sym, ap, ◌∙◌, subst, Bool, Option, None, Some, IsSome, IfSome, slice_get, slice_get-get_or, Position, Solved, REMOTENESS, Rules, at, IsCanonical, IsGame, IsTrueValue, IsRecord, TableData, IsTable, record_at, table_of, IsHeld, AreTables, value_in}
+use Rattle.gm_game.specs.Records.{IsTrueTable, HoldsChildren, IsKnown, Fits}
+use Rattle.gm_game.proofs.Symmetry.{IsTrueValue-canonical}
+use Rattle.gm_game.proofs.Settled.{known_since}
+use Rattle.gm_game.proofs.Checker.{true_iff_fits}
+use Rattle.gm_table.specs.Tables.{AreHeld, record_in}
 
 -- a true table has the record of each canonical position of its tier
 pub canonical_record : (r : Rules) → IsGame r → (tier : ℕ) (records : List (Option Solved)) → IsTrueTable r REMOTENESS tier records → (c : Position)

@@ -1,6 +1,10 @@
 -- What the checker says of records, each reason by itself.
-use Rattle.gm_table.proofs.Lower.{◌≡◌, ◌↔◌, ℕ, inl, inr, List, length, Option, ap, subst, cases_order, Solved, REMOTENESS, Rules, IsTrueTable, TableData}
-use Rattle.gm_table.proofs.Lower.{CheckError, OutOfMemory, WrongSize, WrongRecord, FitTables, IsFirstWrong, AreWrong}
+use Rattle.gm_table.proofs.Lower.{◌≡◌, ◌↔◌, ℕ, inl, inr, List, length, Option, ap, subst, Solved, REMOTENESS, Rules, TableData, IsFirstWrong}
+use Rattle.std.proofs.lemmas.Bool.{cases_order}
+use Rattle.gm_game.specs.Records.{IsTrueTable}
+use Rattle.gm_table.specs.declared.checker.CheckError.{CheckError}
+use Rattle.gm_table.specs.declared.checker.CheckError.TheVariants.{OutOfMemory, WrongSize, WrongRecord}
+use Rattle.gm_table.specs.Checks.{FitTables, AreWrong}
 
 module _ (r : Rules) (entries : List TableData) (tier : ℕ) (records : List (Option Solved))
     (same : IsTrueTable r REMOTENESS tier records ↔ FitTables r entries tier records) where

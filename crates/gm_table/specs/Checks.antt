@@ -1,6 +1,11 @@
 -- Records that are checked one by one.
 use Rattle.std.specs.Prelude.{◌≡◌, ◌≢◌, ℕ, ◌+◌, ◌*◌, ◌/◌, ◌<◌, ◌≤◌, List, Option, None, Some, IfSome, MatchOption, length, map, get_or, slice_get}
-use Rattle.gm_table.specs.Lower.{Position, Solved, REMOTENESS, Rules, at, canonical_children_of, IsRecord, settled_by, look_in, Fits}
+use Rattle.gm_game.specs.declared.position.Position.{Position}
+use Rattle.gm_game.specs.declared.position.Solved.{Solved}
+use Rattle.gm_game.specs.declared.limits.TheConstants.{REMOTENESS}
+use Rattle.gm_game.specs.Rules.{Rules, at}
+use Rattle.gm_game.specs.Children.{canonical_children_of}
+use Rattle.gm_game.specs.Records.{IsRecord, settled_by, look_in, Fits}
 use Rattle.gm_table.specs.declared.checker.CheckError.{CheckError}
 use Rattle.gm_table.specs.declared.checker.CheckError.TheVariants.{OutOfMemory, WrongSize, WrongRecord}
 use Rattle.gm_table.specs.Tables.{TableData, value_in}
@@ -61,7 +66,7 @@ AreWrong r entries tier records WrongSize = length records ≢ r.tier_size tier
 AreWrong r entries tier records (WrongRecord index) = (length records ≡ r.tier_size tier) × IsFirstWrong r entries tier records index
 
 -- the numbers of the errors
-abbrev pub number_of : CheckError → ℕ
-number_of OutOfMemory = 1
-number_of WrongSize = 2
-number_of (WrongRecord index) = 3
+abbrev pub check_error_number : CheckError → ℕ
+check_error_number OutOfMemory = 1
+check_error_number WrongSize = 2
+check_error_number (WrongRecord index) = 3

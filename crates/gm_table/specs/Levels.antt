@@ -1,6 +1,9 @@
 -- The levels of the records of a table.
 use Rattle.std.specs.Prelude.{◌≡◌, ℕ, suc, ◌≤◌, max, Bool, false, ◌==◌, List, [], ◌∷◌, Option, None, Some, slice_get, if◌then◌else◌}
-use Rattle.gm_table.specs.Lower.{Lose, Draw, Tie, Win, Solved, Phase, WinLose, Ties}
+use Rattle.gm_game.specs.declared.position.Value.TheVariants.{Lose, Draw, Tie, Win}
+use Rattle.gm_game.specs.declared.position.Solved.{Solved}
+use Rattle.gm_game.specs.declared.position.Phase.{Phase}
+use Rattle.gm_game.specs.declared.position.Phase.TheVariants.{WinLose, Ties}
 
 -- the level at which a record is in a phase: its remoteness, if its value is settled in that phase
 abbrev pub level_in : Phase → Option Solved → Option ℕ
@@ -18,9 +21,9 @@ pub record IsGreatestLevel (phase : Phase) (records : List (Option Solved)) (n :
   pub greatest : (m : ℕ) → HasLevel phase records m → m ≤ n
 
 -- this is the greatest level of a record in the phase, or the phase has no record
-abbrev pub IsGreatest : Phase → List (Option Solved) → Option ℕ → Type 0
-IsGreatest phase records None = (n : ℕ) → HasLevel phase records n → ⊥
-IsGreatest phase records (Some n) = IsGreatestLevel phase records n
+abbrev pub HasGreatest : Phase → List (Option Solved) → Option ℕ → Type 0
+HasGreatest phase records None = (n : ℕ) → HasLevel phase records n → ⊥
+HasGreatest phase records (Some n) = IsGreatestLevel phase records n
 
 -- the later of two levels, if there are any
 abbrev pub later : Option ℕ → Option ℕ → Option ℕ

@@ -1,13 +1,8 @@
 pub mod Checks
-pub mod Dealing
-pub mod Caches
 pub mod Levels
 pub mod Numbers
 pub mod Packed
-pub mod Runs
-pub mod Outlines
 pub mod Solving
-pub mod Shorts
 pub mod Tables
-pub mod Lower
 pub mod RecordCodes
+pub mod inner

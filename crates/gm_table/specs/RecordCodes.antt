@@ -11,9 +11,9 @@ use Rattle.gm_table.specs.declared.version.Version.{Version}
 use Rattle.gm_table.specs.declared.version.Version.TheVariants.{One, Two}
 
 -- the word of a record
-abbrev pub word : Version → Width
-word One = w16
-word Two = w32
+abbrev pub record_width : Version → Width
+record_width One = w16
+record_width Two = w32
 
 -- how many bytes that word has
 abbrev pub width : Version → ℕ
@@ -56,4 +56,4 @@ record_number v (Some s) = code s.value * step v + s.remoteness
 
 -- the bytes of a record, the lowest one first
 abbrev pub record_bytes : Version → Option Solved → List ℕ
-record_bytes v o = to_le_bytes (word v) (record_number v o)
+record_bytes v o = to_le_bytes (record_width v) (record_number v o)

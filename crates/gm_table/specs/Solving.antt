@@ -1,6 +1,14 @@
 -- The duties of a solver of a tier.
 use Rattle.std.specs.Prelude.{◌≡◌, ℕ, ◌+◌, List, Option, Some, slice_get}
-use Rattle.gm_table.specs.Lower.{REMOTENESS, Position, Value, Draw, Solved, Rules, at, IsCanonical, IsParent, IsRecord, IsTrueValue, HasValue, AreThere}
+use Rattle.gm_game.specs.declared.limits.TheConstants.{REMOTENESS}
+use Rattle.gm_game.specs.declared.position.Position.{Position}
+use Rattle.gm_game.specs.declared.position.Value.{Value}
+use Rattle.gm_game.specs.declared.position.Value.TheVariants.{Draw}
+use Rattle.gm_game.specs.declared.position.Solved.{Solved}
+use Rattle.gm_game.specs.Rules.{Rules, at, IsCanonical, IsParent}
+use Rattle.gm_game.specs.Records.{IsRecord}
+use Rattle.gm_game.specs.Values.{IsTrueValue, HasValue}
+use Rattle.gm_game.specs.Numbers.{AreThere}
 
 -- a pair of the tier whose child is no draw
 pub record IsDelivery (r : Rules) (tier : ℕ) (pair : Position × ℕ) : Type 0 where

@@ -1,9 +1,15 @@
 -- Tables as data.
 use Rattle.std.specs.Prelude.{◌≡◌, ℕ, ◌<◌, ◌≤◌, ◌==◌, if◌then◌else◌, List, [], ◌∷◌, Option, None, Some, IsSome, length, slice_get, get_or}
-use Rattle.gm_table.specs.Lower.{Contains, Position, Phase, Solved, REMOTENESS, TIER_SIZE, Rules, IsTrueTable}
+use Rattle.std.specs.List.{Contains}
+use Rattle.gm_game.specs.declared.position.Position.{Position}
+use Rattle.gm_game.specs.declared.position.Phase.{Phase}
+use Rattle.gm_game.specs.declared.position.Solved.{Solved}
+use Rattle.gm_game.specs.declared.limits.TheConstants.{REMOTENESS, TIER_SIZE}
+use Rattle.gm_game.specs.Rules.{Rules}
+use Rattle.gm_game.specs.Records.{IsTrueTable}
 use Rattle.gm_table.specs.declared.outline.Outline.{Outline}
 use Rattle.gm_table.specs.Levels.{indexes_at}
-use Rattle.gm_table.specs.Outlines.{IsOutlineOf}
+use Rattle.gm_table.specs.inner.Outlines.{IsOutlineOf}
 
 -- what a table shows
 pub record TableData : Type 0 where
@@ -70,7 +76,7 @@ AreKept r [] (t ∷ ts) = ⊥
 AreKept r (n ∷ ns) [] = ⊥
 
 -- the first place of a tier in a list
-pub record IsPlaceOf (tiers : List ℕ) (tier k : ℕ) : Type 0 where
+pub record IsFirstPlaceOf (tiers : List ℕ) (tier k : ℕ) : Type 0 where
   pub inside : k < length tiers
   pub here : get_or tiers k 0 ≡ tier
   pub first : (j : ℕ) → j < k → get_or tiers j 0 ≡ tier → ⊥

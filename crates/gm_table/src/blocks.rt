@@ -1,7 +1,9 @@
 //! Records checked by threads.
 ghost use Rattle.std.specs.Prelude.{◌≡◌, ◌↔◌, ◌+◌, ◌*◌, ◌/◌, ◌<◌, ◌≤◌, ℕ, length, All, IsTrue, None, MatchOption};
-ghost use Rattle.gm_table.specs.Lower.{AreResults, AreHoles, IsCanonical, at, TIER_SIZE};
-ghost use Rattle.gm_table.specs.Caches.{cache_of};
+ghost use Rattle.gm_game.specs.Children.{AreResults};
+ghost use Rattle.gm_game.specs.Rules.{AreHoles, IsCanonical, at};
+ghost use Rattle.gm_game.specs.declared.limits.TheConstants.{TIER_SIZE};
+ghost use Rattle.gm_table.specs.inner.Caches.{cache_of};
 ghost use Rattle.gm_table.specs.Checks.{FitsAt, IsFirstWrong, IsFirstWrongIn, IsFirstWrongOf, AreFirstWrongOf};
 
 use crate::cache::TableCache;

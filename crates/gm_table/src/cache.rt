@@ -1,8 +1,10 @@
 //! The tables that were read last.
 ghost use Rattle.std.specs.Prelude.{◌≡◌, ◌<◌, ◌≤◌, ℕ, None, Some, IsTrue, IfNone, IfSome, length, option_copied, get_or, cond};
-ghost use Rattle.gm_table.specs.Lower.{Contains, MOVES, Position};
-ghost use Rattle.gm_table.specs.Caches.{IsSumOf, cache_of, other_table, other_record};
-ghost use Rattle.gm_table.specs.Shorts.{record_of_short, is_decided};
+ghost use Rattle.std.specs.List.{Contains};
+ghost use Rattle.gm_game.specs.declared.limits.TheConstants.{MOVES};
+ghost use Rattle.gm_game.specs.declared.position.Position.{Position};
+ghost use Rattle.gm_table.specs.inner.Caches.{IsSumOf, cache_of, other_table, other_record};
+ghost use Rattle.gm_table.specs.inner.Shorts.{record_of_short, is_decided};
 ghost use Rattle.gm_table.specs.Tables.{TableData, AreTables, record_at};
 
 use crate::shorts::sum_of_shorts;
@@ -37,7 +39,7 @@ pub struct TableCache<'a, G: Game> {
 }
 
 impl<'a, G: Game> Model for TableCache<'a, G> {
-    ghost use Rattle.gm_table.specs.Caches.{CacheData, AreCached, cache_of};
+    ghost use Rattle.gm_table.specs.inner.Caches.{CacheData, AreCached, cache_of};
 
     ghost Value = { CacheData };
 

@@ -2,8 +2,8 @@
 ghost use Rattle.std.specs.Prelude.{◌≡◌, ◌≢◌, ◌↔◌, ◌≤◌, ℕ, length, None, IfSome, IsOk, IfOk, IfErr, IsErrOf, IsOkUnless, MatchOption};
 ghost use Rattle.gm_game.specs.Records.{IsTrueTable};
 ghost use Rattle.gm_table.specs.Tables.{IsTable, AreHeld};
-ghost use Rattle.gm_table.specs.Outlines.{IsOutlineOf};
-ghost use Rattle.gm_table.specs.Checks.{FitTables, FitsAt, IsFirstWrong, AreWrong, number_of};
+ghost use Rattle.gm_table.specs.inner.Outlines.{IsOutlineOf};
+ghost use Rattle.gm_table.specs.Checks.{FitTables, FitsAt, IsFirstWrong, AreWrong, check_error_number};
 
 use crate::blocks::{first_wrong, first_wrong_by};
 use crate::outline::Outline;
@@ -32,7 +32,7 @@ pub enum CheckError {
 impl CheckError {
     /// Returns the number of the error.
     pub fn number(&self) -> u8
-        ensures { result ≡ number_of self.now }
+        ensures { result ≡ check_error_number self.now }
     {
         match self {
             CheckError::OutOfMemory => 1,

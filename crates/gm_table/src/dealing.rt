@@ -1,7 +1,7 @@
 //! A tier's indexes in blocks, for as many threads as there are processors.
 ghost use Rattle.std.specs.Prelude.{◌≡◌, ◌+◌, ◌*◌, ◌<◌, ◌≤◌, min, suc};
 ghost use Rattle.gm_game.specs.declared.limits.TheConstants.{TIER_SIZE};
-ghost use Rattle.gm_table.specs.Dealing.{block_in};
+ghost use Rattle.gm_table.specs.inner.Dealing.{block_in};
 
 use gm_game::limits::TIER_SIZE;
 

@@ -27,7 +27,7 @@ impl<G: Game> Model for Entry<G> {
 
     ghost Value = { TableData };
 
-    ghost use Rattle.gm_table.specs.Runs.{AreRunsOf};
+    ghost use Rattle.gm_table.specs.inner.Runs.{AreRunsOf};
 
     ghost view = { λ e. e.table };
 

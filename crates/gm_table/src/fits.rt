@@ -1,6 +1,8 @@
 //! Whether one record follows from the records of its position's canonical children.
 ghost use Rattle.std.specs.Prelude.{◌≡◌, ◌↔◌, ◌≤◌, IsTrue, None, option_copied};
-ghost use Rattle.gm_table.specs.Lower.{IsCanonical, IsInner, AreResults, settle};
+ghost use Rattle.gm_game.specs.Rules.{IsCanonical, IsInner};
+ghost use Rattle.gm_game.specs.Children.{AreResults};
+ghost use Rattle.gm_game.specs.Records.{settle};
 ghost use Rattle.gm_table.specs.Checks.{look_up, value_from, RecordFits};
 
 use crate::cache::TableCache;

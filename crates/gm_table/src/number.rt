@@ -4,7 +4,7 @@ ghost use Rattle.std.specs.Prelude.{◌≡◌, ◌≢◌, ◌+◌, ◌*◌, ◌<
 ghost use Rattle.gm_game.specs.declared.position.Solved.{Solved};
 ghost use Rattle.gm_table.specs.declared.version.Version.TheVariants.{Two};
 ghost use Rattle.gm_table.specs.Numbers.{wide, IsShort};
-ghost use Rattle.gm_table.specs.Packed.{unpacked, IsNear};
+ghost use Rattle.gm_table.specs.Packed.{unpacked, IsInLimit};
 ghost use Rattle.gm_table.specs.RecordCodes.{code, record_number, IsStorable};
 
 use crate::version::Version;
@@ -34,7 +34,7 @@ fn code_of(value: Value) -> u32
 
 /// Returns the number of a record within the greatest remoteness: that of a tier file of version 2 (docs/FORMATS.md, "Tier file"). It is never 1.
 pub fn number_of(known: Option<Solved>) -> u32
-    requires { IsNear known }
+    requires { IsInLimit known }
     ensures stored { result ≡ record_number Two known }
     ensures number { unpacked result ≡ known }
     ensures apart { result ≢ 1 }

@@ -1,7 +1,7 @@
 //! What records are found to have by going over them.
 ghost use Rattle.std.specs.Prelude.{◌≡◌, ◌↔◌, ◌≤◌, length, None, IsTrue, IsSome, IfSome};
-ghost use Rattle.gm_table.specs.Outlines.{IsOutlineOf};
-ghost use Rattle.gm_table.specs.Runs.{AreRunsOf};
+ghost use Rattle.gm_table.specs.inner.Outlines.{IsOutlineOf};
+ghost use Rattle.gm_table.specs.inner.Runs.{AreRunsOf};
 
 use crate::levels::greatest_levels;
 use crate::packed::Packed;

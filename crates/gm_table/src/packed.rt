@@ -1,12 +1,12 @@
 //! Records of one byte or four each.
 ghost use Rattle.std.specs.Prelude.{◌≡◌, ℕ, ◌*◌, ◌≤◌, ◌<◌, ◌++◌, [], ◌∷◌, None, map, replicate, take, IfSome, IfOk, length, get_or, OnOk, OnErr};
-ghost use Rattle.gm_table.specs.Lower.{REMOTENESS};
+ghost use Rattle.gm_game.specs.declared.limits.TheConstants.{REMOTENESS};
 ghost use Rattle.gm_table.specs.declared.version.Version.TheVariants.{Two};
 ghost use Rattle.gm_table.specs.RecordCodes.{record_number};
 ghost use Rattle.gm_table.specs.Numbers.{wide};
-ghost use Rattle.gm_table.specs.Packed.{unpacked, IsNear, AreNear};
+ghost use Rattle.gm_table.specs.Packed.{unpacked, IsInLimit, AreInLimit};
 ghost use Rattle.gm_table.specs.Tables.{record_at};
-ghost use Rattle.gm_table.specs.Shorts.{record_of_short};
+ghost use Rattle.gm_table.specs.inner.Shorts.{record_of_short};
 
 use crate::number::{number_of, stored, unpacked};
 use crate::numbers::Numbers;
@@ -51,7 +51,7 @@ impl Packed {
     /// Adds a record within the greatest remoteness at the end. If memory is refused, the records are unchanged.
     #[inline(always)]
     pub fn push(&mut self, known: Option<Solved>) -> Result<(), AllocError>
-        requires { IsNear known }
+        requires { IsInLimit known }
         ensures ok { OnOk result (self.new ≡ self.old ++ known ∷ []) }
         ensures err { OnErr result (self.new ≡ self.old) }
     {
@@ -94,7 +94,7 @@ impl Packed {
 
     /// Packs records within the greatest remoteness.
     pub(crate) fn of(alloc: Global, records: &[Option<Solved>]) -> Result<Packed, AllocError>
-        requires { AreNear records.now }
+        requires { AreInLimit records.now }
         ensures { IfOk result (λ packed. packed ≡ records.now) }
     {
         let mut numbers = Numbers::with_capacity(alloc, records.len())?;

@@ -2,7 +2,7 @@
 ghost use Rattle.std.specs.Prelude.{◌≡◌, ◌==◌, ◌<◌, ◌≤◌, ℕ, Some, [], ◌∷◌, ◌++◌, length, if◌then◌else◌, vec_len, OnOk, IfOk};
 ghost use Rattle.gm_game.specs.declared.position.Phase.{Phase as PhaseSpec};
 ghost use Rattle.gm_table.specs.Levels.{is_level, level_in};
-ghost use Rattle.gm_table.specs.Runs.{run_at, run_in, AreRunsOf};
+ghost use Rattle.gm_table.specs.inner.Runs.{run_at, run_in, AreRunsOf};
 
 use crate::packed::Packed;
 use gm_game::limits::TIER_SIZE;

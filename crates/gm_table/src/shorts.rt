@@ -1,7 +1,9 @@
 //! Records in their short forms of a byte each, and what those of children say. A processor folds many bytes at once.
 ghost use Rattle.std.specs.Prelude.{◌≡◌, ◌≤◌, ◌<◌, ◌+◌, map, length, cond};
-ghost use Rattle.gm_table.specs.Lower.{MOVES, filter, lost_in, won_in, tied_in, lesser, greater};
-ghost use Rattle.gm_table.specs.Shorts.{IsSummary, record_of_short, is_decided, marked_short};
+ghost use Rattle.gm_game.specs.declared.limits.TheConstants.{MOVES};
+ghost use Rattle.std.specs.List.{filter};
+ghost use Rattle.gm_game.specs.Records.{lost_in, won_in, tied_in, lesser, greater};
+ghost use Rattle.gm_table.specs.inner.Shorts.{IsSummary, record_of_short, is_decided, marked_short};
 
 use crate::number::SHORT_STEP;
 use crate::summary::Summary;

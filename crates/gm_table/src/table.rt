@@ -1,9 +1,11 @@
 //! The true table of a tier.
 ghost use Rattle.std.specs.Prelude.{◌≡◌, ℕ, ◌<◌, ◌≤◌, None, length, get_or, IfOk, IfSome};
-ghost use Rattle.gm_table.specs.Lower.{at, IsTrueValue, IsTrueTable, IsRecord};
-ghost use Rattle.gm_table.specs.Levels.{IsGreatest};
+ghost use Rattle.gm_game.specs.Rules.{at};
+ghost use Rattle.gm_game.specs.Values.{IsTrueValue};
+ghost use Rattle.gm_game.specs.Records.{IsTrueTable, IsRecord};
+ghost use Rattle.gm_table.specs.Levels.{HasGreatest};
 ghost use Rattle.gm_table.specs.RecordCodes.{record_number};
-ghost use Rattle.gm_table.specs.Shorts.{record_of_short};
+ghost use Rattle.gm_table.specs.inner.Shorts.{record_of_short};
 ghost use Rattle.gm_table.specs.declared.version.Version.TheVariants.{Two};
 
 use crate::outline::Outline;
@@ -36,8 +38,8 @@ impl<G: Game> Model for Table<G> {
 
 impl<G: Game> Table<G> {
     ghost use Rattle.gm_table.specs.Tables.{record_at, IsTable};
-    ghost use Rattle.gm_table.specs.Outlines.{IsOutlineOf};
-    ghost use Rattle.gm_table.specs.Runs.{AreRunsOf};
+    ghost use Rattle.gm_table.specs.inner.Outlines.{IsOutlineOf};
+    ghost use Rattle.gm_table.specs.inner.Runs.{AreRunsOf};
 
     /// Makes a table of the true records of a tier within the limits. A table takes a byte an index, or four if a remoteness is above 31.
     pub fn from_true(
@@ -148,7 +150,7 @@ impl<G: Game> Table<G> {
 
     /// Returns the greatest remoteness of wins and losses, or of ties; `None` if the table has no such record.
     pub fn greatest(&self, phase: Phase) -> Option<u32>
-        ensures value { IsGreatest phase self.now.records result }
+        ensures value { HasGreatest phase self.now.records result }
         ensures table { IsTable G.rules self.now }
     {
         match phase {

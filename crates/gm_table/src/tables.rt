@@ -1,7 +1,10 @@
 //! Tables by tier.
 ghost use Rattle.std.specs.Prelude.{◌≡◌, ◌↔◌, ◌<◌, ℕ, [], true, None, IsTrue, IsSome, IfSome, OnOk, OnErr, IfErr, option_copied, length, get_or};
-ghost use Rattle.gm_table.specs.Tables.{IsPlaceOf};
-ghost use Rattle.gm_table.specs.Lower.{Contains, at, IsCanonical, IsAscending, StandsAt, IsTrueValue};
+ghost use Rattle.gm_table.specs.Tables.{IsFirstPlaceOf};
+ghost use Rattle.std.specs.List.{Contains};
+ghost use Rattle.gm_game.specs.Rules.{at, IsCanonical, IsAscending};
+ghost use Rattle.gm_game.specs.Places.{StandsAt};
+ghost use Rattle.gm_game.specs.Values.{IsTrueValue};
 
 use crate::entry::Entry;
 use crate::table::Table;
@@ -31,7 +34,7 @@ impl<G: Game> Model for Tables<G> {
 
 // Returns the place of a tier among these, the first if it is there more than once.
 fn place_of(tiers: &[u64], tier: u64) -> Option<usize>
-    ensures some { IfSome result (λ k. IsPlaceOf tiers.now tier k) }
+    ensures some { IfSome result (λ k. IsFirstPlaceOf tiers.now tier k) }
     ensures none { result ≡ None → (j : ℕ) → j < length tiers.now → get_or tiers.now j 0 ≡ tier → ⊥ }
 {
     for k in 0..tiers.len() {

@@ -1,14 +1,18 @@
 -- The boards before a board: which numbers of segments give one.
-use Rattle.gm_tactix.proofs.Lower.{◌≡◌, ◌≢◌, ◌+◌, ◌-◌, ◌<◌, ◌≤◌, ℕ, Bool, true, false, eq-eqb, List, [], map, length, Some, refl, sym, ap, ap₂, ◌∙◌, subst}
-use Rattle.gm_tactix.proofs.Lower.{arith, ne_eqb, put, put_all, least_index, put_more_none, put_more_some, and_both, all_from, members, or_right, board_game}
-use Rattle.gm_tactix.proofs.Lower.{plays_on, before_at, befores, before_some, before_room, all_befores, false_from_ne_true, before_skip, puts_skip}
-use Rattle.gm_tactix.proofs.Lower.{segment_length, segment_cells, has_counter, is_among, with_counters, can_take, was_taken, end_by_last_move, tactix}
-use Rattle.gm_tactix.proofs.Lower.{AreBeforesBelow, number_below, length_bounds, cells_within, among_from, move_from, play_members, taken_in, redone, lawful}
+use Rattle.gm_tactix.proofs.Lower.{◌≡◌, ◌≢◌, ◌+◌, ◌-◌, ◌<◌, ◌≤◌, ℕ, Bool, true, false, eq-eqb, List, [], map, length, refl, sym, ap, ap₂, ◌∙◌, subst, arith, least_index, members, board_game, segment_length, segment_cells, has_counter, can_take, tactix}
+use Rattle.gm_pieces.specs.Common.{Some, ne_eqb, put, put_all, put_more_none, put_more_some, and_both, all_from, or_right, is_undecided, before_at, befores, before_some, before_room, all_befores, false_from_ne_true}
+use Rattle.gm_pieces.specs.laws.MoveLaws.{before_skip}
+use Rattle.gm_pieces.specs.laws.Skipped.{puts_skip}
+use Rattle.gm_tactix.specs.Board.{is_among, with_counters, was_taken, end_by_last_move}
+use Rattle.gm_tactix.specs.inner.Befores.{AreBeforesBelow}
+use Rattle.gm_tactix.specs.laws.SegmentFacts.{number_below, length_bounds, cells_within, among_from}
+use Rattle.gm_tactix.specs.laws.MoveFacts.{move_from, play_members, taken_in, redone}
+use Rattle.gm_tactix.specs.laws.TactixLaws.{lawful}
 use Rattle.std.specs.Prelude.{◌*◌}
 use Rattle.gm_tactix.specs.laws.CounterFacts.{length_with, with_at}
 
 -- with counters the game goes on, in the normal game and in misère
-with_some : (misere : Bool) (b : List Bool) → members b ≢ 0 → plays_on (end_by_last_move misere b) ≡ true
+with_some : (misere : Bool) (b : List Bool) → members b ≢ 0 → is_undecided (end_by_last_move misere b) ≡ true
 with_some misere b n = rw (ne_eqb (members b) 0 n) refl
 
 module _ (s t : ℕ) (d : List Bool) (low : 1 ≤ s) (high : s ≤ 5) (long : length d ≡ s * s) where

@@ -1,10 +1,8 @@
 -- The cells of a line as a mask of five bits.
-use Rattle.gm_tactix.proofs.Lower.{◌≡◌, ◌+◌, ◌-◌, ◌/◌, ◌%◌, ◌^◌, ◌<◌, ◌≤◌, ◌&&◌, ◌∷◌, ℕ, zero, suc, Bool, true, false, eqb, eqb-true, List, [], get_or, refl}
-use Rattle.gm_tactix.proofs.Lower.{sym, ap, ap₂, ◌∙◌, arith, bit_and, list_all, range_with_len, cond_below, cond-false, le-ltb, pow-add, and_le_r, bit_at_ones}
-use Rattle.gm_tactix.proofs.Lower.{has_cell, mask_of, mask_below, mask_tests_small, tests_mask, contains_range, and_true, has_and, all_at, and_comm, line_cell}
-use Rattle.gm_tactix.proofs.Lower.{for_sides, subst, div-div-eq-div-mul}
-use Rattle.std.specs.Prelude.{◌*◌}
-use Rattle.gm_pieces.specs.Common.{tests_of}
+use Rattle.gm_tactix.proofs.Lower.{◌≡◌, ◌+◌, ◌-◌, ◌^◌, ◌<◌, ◌≤◌, ◌&&◌, ℕ, Bool, true, false, eqb, eqb-true, List, [], get_or, refl, sym, ap, ap₂, ◌∙◌, arith, bit_and, list_all, range_with_len, cond-false, has_cell, all_at, line_cell, for_sides, subst}
+use Rattle.std.specs.Prelude.{◌/◌, ◌%◌, ◌∷◌, ◌*◌}
+use Rattle.gm_pieces.specs.Common.{zero, suc, cond_below, le-ltb, pow-add, and_le_r, bit_at_ones, mask_of, mask_below, mask_tests_small, tests_mask, contains_range, and_true, has_and, div-div-eq-div-mul, tests_of}
+use Rattle.std.proofs.Math.Bool.{and_comm}
 
 -- a cell of a mask moved down
 moved_down : (m k i : ℕ) → has_cell (m / 2 ^ k) i ≡ has_cell m (k + i)

@@ -1,10 +1,13 @@
 -- The segments of a line that can be taken.
-use Rattle.gm_tactix.proofs.Lower.{◌≡◌, ◌+◌, ◌<◌, ◌≤◌, ◌∷◌, ◌++◌, ℕ, Bool, true, eqb, List, [], length, take, set, get_or, append_assoc, refl, sym, ap, ◌∙◌}
-use Rattle.gm_tactix.proofs.Lower.{arith, Contains, filter, flat_map, range_with_len, append-nil, length-take-le, take-take, map_more, take_more_set}
-use Rattle.gm_tactix.proofs.Lower.{filter-append, contains_head, contains_later, filter_from, range_more, same_all, has_cell, flat_map-append, take-append-add}
-use Rattle.gm_tactix.proofs.Lower.{SHIFTS, segment_cells, is_segment, segments, move_number_bound, has_counter, can_take, counters_of, line_cell, line_place}
-use Rattle.gm_tactix.proofs.Lower.{line_of, counter_at}
-use Rattle.gm_tactix.specs.Lines.{lies_in, line_segments}
+use Rattle.gm_tactix.proofs.Lower.{◌≡◌, ◌+◌, ◌<◌, ◌≤◌, ◌++◌, ℕ, Bool, true, eqb, List, [], length, take, get_or, refl, sym, ap, ◌∙◌, arith, Contains, filter, range_with_len, has_cell, segment_cells, is_segment, has_counter, can_take, counters_of, line_cell}
+use Rattle.std.specs.Prelude.{◌∷◌}
+use Rattle.gm_pieces.specs.Common.{set, append_assoc, flat_map, append-nil, length-take-le, take-take, map_more, take_more_set, filter-append, contains_head, contains_later, filter_from, range_more, same_all}
+use Rattle.std.proofs.lemmas.Grind.{flat_map-append}
+use Rattle.std.proofs.Math.Seq.{take-append-add}
+use Rattle.gm_tactix.specs.declared.segments.TheConstants.{SHIFTS}
+use Rattle.gm_tactix.specs.Segments.{segments, move_number_bound}
+use Rattle.gm_tactix.specs.inner.Lines.{line_place, line_of, lies_in, line_segments}
+use Rattle.gm_tactix.specs.laws.CounterMaskFacts.{counter_at}
 use Rattle.gm_tactix.proofs.MaskMoves.{when_segment}
 use Rattle.gm_tactix.proofs.LineTable.{block, held, shifted, kept_is, placed}
 

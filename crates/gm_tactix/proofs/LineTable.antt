@@ -1,9 +1,10 @@
 -- The blocks of segments against the lines of the square of side 5.
-use Rattle.gm_tactix.proofs.Lower.{◌≡◌, ◌+◌, ◌/◌, ◌<◌, ◌≤◌, ◌&&◌, ◌||◌, ℕ, Bool, true, eqb, eqb-true, ltb, ltb-true, le-ltb, List, [], map, length, take}
-use Rattle.gm_tactix.proofs.Lower.{get_or, refl, sym, ap, ◌∙◌, arith, Contains, filter, list_all, range_with_len, get_or-map-range_with_len, and_left}
-use Rattle.gm_tactix.proofs.Lower.{and_right, all_at, at_each, at_below, BLOCKS, COUNTS, SHIFTS, line_cell, line_place}
+use Rattle.gm_tactix.proofs.Lower.{◌≡◌, ◌+◌, ◌<◌, ◌≤◌, ◌&&◌, ℕ, Bool, true, eqb, eqb-true, ltb, ltb-true, List, [], map, length, take, get_or, refl, sym, ap, ◌∙◌, arith, Contains, filter, list_all, range_with_len, and_left, and_right, all_at, at_below, line_cell}
+use Rattle.std.specs.Prelude.{◌/◌, ◌||◌}
+use Rattle.gm_pieces.specs.Common.{le-ltb, get_or-map-range_with_len, at_each}
+use Rattle.gm_tactix.specs.declared.segments.TheConstants.{BLOCKS, COUNTS, SHIFTS}
+use Rattle.gm_tactix.specs.inner.Lines.{line_place, lies_in, line_segments}
 use Rattle.gm_tactix.specs.Segments.{segment_cells, is_segment}
-use Rattle.gm_tactix.specs.Lines.{lies_in, line_segments}
 
 -- the block of a line's content
 abbrev pub block : ℕ → ℕ → List ℕ

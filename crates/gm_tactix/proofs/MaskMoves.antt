@@ -1,10 +1,12 @@
 -- Moves on masks, and the boards before a board.
-use Rattle.gm_tactix.proofs.Lower.{◌≡◌, ◌≢◌, ◌↔◌, ◌+◌, ◌^◌, ◌<◌, ◌≤◌, ◌&&◌, ℕ, Bool, true, false, not, eqb, List, w32, refl, sym, ap, ◌∙◌, subst, arith}
-use Rattle.gm_tactix.proofs.Lower.{bit_and, bit_or, count_ones, bit_not, true≢false, false_from_ne_true, pow-lt, has_cell, filled_by, same_all, pattern_mask}
-use Rattle.gm_tactix.proofs.Lower.{has_and, has_not, segment_length, segment_cells, is_segment, has_counter, is_full, is_free, with_counters, square_small}
-use Rattle.gm_tactix.proofs.Lower.{cells_within, taken_in, counters_of, counters_members, counter_at, free_mask, without_mask, with_mask}
+use Rattle.gm_tactix.proofs.Lower.{◌≡◌, ◌≢◌, ◌↔◌, ◌+◌, ◌^◌, ◌<◌, ◌≤◌, ◌&&◌, ℕ, Bool, true, false, eqb, List, refl, sym, ap, ◌∙◌, subst, arith, bit_and, count_ones, has_cell, segment_length, segment_cells, is_segment, has_counter, square_small, counters_of, counters_members}
+use Rattle.gm_pieces.specs.Common.{not, w32, bit_or, bit_not, true≢false, false_from_ne_true, pow-lt, same_all, pattern_mask, has_and, has_not}
+use Rattle.gm_board.specs.laws.BoardMasks.{filled_by}
+use Rattle.gm_tactix.specs.Board.{is_full, is_free, with_counters, can_take, play, was_taken}
+use Rattle.gm_tactix.specs.laws.SegmentFacts.{cells_within}
+use Rattle.gm_tactix.specs.laws.MoveFacts.{taken_in}
+use Rattle.gm_tactix.specs.laws.CounterMaskFacts.{counter_at, free_mask, without_mask, with_mask}
 use Rattle.std.specs.Prelude.{◌*◌}
-use Rattle.gm_tactix.specs.Board.{can_take, play, was_taken}
 
 -- ---- tests
 pub when_segment : (s : ℕ) (b : List Bool) (m : ℕ) → is_segment s m ≡ true → can_take s b m ≡ is_full b (segment_cells s m)

@@ -1,11 +1,12 @@
 -- The table of the segments' masks against the segments.
-use Rattle.gm_tactix.proofs.Lower.{◌≡◌, ◌≢◌, ◌+◌, ◌-◌, ◌^◌, ◌<◌, ◌≤◌, ◌&&◌, ℕ, Bool, true, false, not, cond, eqb, eqb-true, eq-eqb, ltb, ltb-true, get_or, refl}
-use Rattle.gm_tactix.proofs.Lower.{sym, ap, ◌∙◌, arith, list_all, range_with_len, cond-true, cond-false, true≢false, and_left, and_right, pattern_mask}
-use Rattle.gm_tactix.proofs.Lower.{at_below, MASKS, STARTS, for_sides, square_small, number_below}
+use Rattle.gm_tactix.proofs.Lower.{◌≡◌, ◌≢◌, ◌+◌, ◌-◌, ◌^◌, ◌<◌, ◌≤◌, ◌&&◌, ℕ, Bool, true, false, eqb, eqb-true, eq-eqb, ltb, ltb-true, get_or, refl, sym, ap, ◌∙◌, arith, list_all, range_with_len, cond-false, and_left, and_right, at_below, for_sides, square_small}
+use Rattle.gm_pieces.specs.Common.{not, cond, cond-true, true≢false, pattern_mask}
+use Rattle.gm_tactix.specs.declared.masks.TheConstants.{MASKS, STARTS}
+use Rattle.gm_tactix.specs.laws.SegmentFacts.{number_below}
 use Rattle.std.specs.Prelude.{◌*◌}
 use Rattle.std.proofs.lemmas.Bool.{false_from_ne_true, true_from_ne_false}
 use Rattle.gm_tactix.specs.Segments.{segment_cells, is_segment}
-use Rattle.gm_tactix.specs.SegmentMasks.{segment_mask}
+use Rattle.gm_tactix.specs.inner.SegmentMasks.{segment_mask}
 
 -- what the table says of a number
 abbrev place : ℕ → ℕ → ℕ

@@ -1,10 +1,15 @@
 -- Steps on the texts of boards.
-use Rattle.gm_tactix.proofs.Lower.{◌≡◌, ◌&&◌, ℕ, Bool, false, eqb, lt-ltb, List, length, get_or, refl, sym, ap, ap₂, ◌∙◌, arith, range_with_len, get_or-map}
-use Rattle.gm_tactix.proofs.Lower.{has_cell, IsRead, counter_back, same_mask, true, map-map, bit_at-zero, cell_by, same_map}
+use Rattle.gm_tactix.proofs.Lower.{◌≡◌, ◌&&◌, ℕ, Bool, false, eqb, List, length, get_or, refl, sym, ap, ap₂, ◌∙◌, arith, range_with_len, has_cell, true}
+use Rattle.gm_pieces.specs.Common.{lt-ltb, get_or-map, IsRead, bit_at-zero}
+use Rattle.gm_tactix.specs.laws.TextLaws.{counter_back}
+use Rattle.gm_tactix.specs.laws.CounterMaskFacts.{same_mask}
+use Rattle.std.proofs.lemmas.Simd.{map-map}
+use Rattle.gm_board.specs.Pieces.{cell_by}
+use Rattle.gm_pieces.specs.laws.MaskFacts.{same_map}
 use Rattle.gm_tactix.specs.Texts.{counter_text, board_text}
-use Rattle.gm_tactix.specs.CounterMasks.{counters_of}
+use Rattle.gm_tactix.specs.inner.CounterMasks.{counters_of}
 use Rattle.gm_board.specs.Images.{board_of}
-use Rattle.gm_pieces.specs.SideTexts.{cell_char, board_text as sides_text}
+use Rattle.gm_pieces.specs.SideTexts.{cell_char, cells_text as sides_text}
 
 byte_is : (x : Bool) → cell_char (cell_by x false) ≡ counter_text x
 byte_is true = refl

@@ -1,9 +1,6 @@
 pub mod Segments
-pub mod SegmentMasks
 pub mod Board
-pub mod CounterMasks
-pub mod Befores
 pub mod Texts
 pub mod TactixPicture
-pub mod Lines
+pub mod inner
 pub mod laws

@@ -1,6 +1,6 @@
 //! The masks of segments by number.
 ghost use Rattle.std.specs.Prelude.{◌≡◌, ◌≤◌, ◌<◌, ◌^◌, ◌*◌};
-ghost use Rattle.gm_tactix.specs.SegmentMasks.{segment_mask as segment_mask_of};
+ghost use Rattle.gm_tactix.specs.inner.SegmentMasks.{segment_mask as segment_mask_of};
 
 /// For each side from 1, the index of the first mask of its segments.
 const STARTS: [u32; 5] = [0, 16, 80, 224, 480];

@@ -2,7 +2,7 @@
 ghost use Rattle.std.specs.Prelude.{◌≡◌, ◌<◌, ◌≤◌, ◌^◌, ◌*◌, true};
 ghost use Rattle.gm_tactix.specs.Segments.{segment_cells};
 ghost use Rattle.gm_tactix.specs.Board.{can_take as can_take_of, play as play_of, was_taken as was_taken_of, with_counters};
-ghost use Rattle.gm_tactix.specs.CounterMasks.{counters_of};
+ghost use Rattle.gm_tactix.specs.inner.CounterMasks.{counters_of};
 
 use crate::masks::segment_mask;
 

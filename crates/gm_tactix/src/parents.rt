@@ -4,8 +4,8 @@ ghost use Rattle.gm_game.specs.Ascending.{put_all};
 ghost use Rattle.gm_game.specs.Boards.{least_index as least_index_of};
 ghost use Rattle.gm_pieces.specs.MoveGames.{board_game, befores};
 ghost use Rattle.gm_tactix.specs.Board.{tactix};
-ghost use Rattle.gm_tactix.specs.CounterMasks.{counters_of};
-ghost use Rattle.gm_tactix.specs.Befores.{AreBeforesBelow};
+ghost use Rattle.gm_tactix.specs.inner.CounterMasks.{counters_of};
+ghost use Rattle.gm_tactix.specs.inner.Befores.{AreBeforesBelow};
 
 use crate::counters::least_index;
 use crate::moves::{given_back, was_taken};

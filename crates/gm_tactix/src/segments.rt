@@ -3,8 +3,8 @@ ghost use Rattle.std.specs.Prelude.{◌≡◌, ℕ, ◌+◌, ◌*◌, ◌<◌, �
 ghost use Rattle.std.specs.List.{filter};
 ghost use Rattle.gm_board.specs.Masks.{has_cell};
 ghost use Rattle.gm_tactix.specs.Board.{can_take};
-ghost use Rattle.gm_tactix.specs.CounterMasks.{counters_of};
-ghost use Rattle.gm_tactix.specs.Lines.{line_cell, lies_in, line_segments, segments_by_line};
+ghost use Rattle.gm_tactix.specs.inner.CounterMasks.{counters_of};
+ghost use Rattle.gm_tactix.specs.inner.Lines.{line_cell, lies_in, line_segments, segments_by_line};
 
 /// For the first row and the first column, and each content: the numbers of its segments of that line, and zeros behind them.
 static BLOCKS: [[[u16; 16]; 32]; 2] = [

@@ -1,7 +1,7 @@
 //! Texts of boards and of moves.
 ghost use Rattle.std.specs.Prelude.{◌≡◌, ◌<◌, ◌≤◌, ◌^◌, ◌*◌, ◌==◌, true, Bool, List, length, slice_index};
 ghost use Rattle.gm_tactix.specs.Segments.{is_segment};
-ghost use Rattle.gm_tactix.specs.CounterMasks.{counters_of};
+ghost use Rattle.gm_tactix.specs.inner.CounterMasks.{counters_of};
 ghost use Rattle.gm_tactix.specs.Texts.{counter_text, board_text as board_text_of, last_cell as last_cell_of, segment_text as segment_text_of};
 ghost use Rattle.gm_board.specs.Masks.{has_cell};
 

@@ -3,7 +3,7 @@ ghost use Rattle.std.specs.Prelude.{◌≡◌, ◌+◌, ◌≤◌, length, IfOk,
 ghost use Rattle.gm_game.specs.declared.position.Phase.TheVariants.{Ties};
 ghost use Rattle.gm_table.specs.Tables.{AreHeld};
 ghost use Rattle.gm_frontier.specs.Levels.{AreTiles};
-ghost use Rattle.gm_counters.specs.Begin.{first_state};
+ghost use Rattle.gm_counters.specs.inner.Begin.{first_state};
 ghost use Rattle.gm_counters.specs.Steps.{place_of};
 ghost use Rattle.gm_locks.specs.Spots.{IsSameSpot};
 ghost use Rattle.gm_testing.specs.ByHand.{IsOfTier, IsCounted, IsLater};

@@ -1,20 +1,22 @@
 -- Bytes of records that are read in two parts.
-use Rattle.gm_tierdb.proofs.Lower.{◌≡◌, ℕ, ◌+◌, ◌<◌, ◌≤◌, List, ◌++◌, length, Option, None, Some, Result, Ok, Err, IfErr, IsErrAnd, sym, ap, subst, ◌∙◌}
-use Rattle.gm_tierdb.proofs.Lower.{append_assoc, length-append, arith, flat_map, take-append-le, Solved, Version, One, Two, width, record_bytes, IsStorable}
-use Rattle.gm_tierdb.proofs.Lower.{AreRecords, HasRecords, IsFirstBad, AreRead, IfSome, flat_map-append, All-append}
-use Rattle.std.proofs.Common.{◌*◌}
+use Rattle.gm_tierdb.proofs.Lower.{◌≡◌, ℕ, ◌+◌, ◌<◌, ◌≤◌, List, ◌++◌, length, Option, None, Result, Ok, Err, IfErr, sym, ap, subst, ◌∙◌, append_assoc, length-append, arith, flat_map, Solved, Version, One, Two, width, record_bytes, IsStorable, AreFileRecords, AreDecoded}
+use Rattle.std.proofs.Common.{Some, IsErrAnd, IfSome, ◌*◌}
+use Rattle.std.proofs.lemmas.List.{take-append-le}
+use Rattle.gm_tierdb.specs.Refusals.{HasRecords, IsFirstBad}
+use Rattle.std.proofs.lemmas.Grind.{flat_map-append}
+use Rattle.std.proofs.lemmas.List.Elements.{All-append}
 use Rattle.gm_tierdb.proofs.RecordLemmas.{length_records}
 
 -- the records of one part and of the other
 pub both_parts : (v : Version) (n k size : ℕ) (bytes first rest : List ℕ) (front back : List (Option Solved)) → bytes ≡ first ++ rest → size ≡ n + k
-    → AreRecords v n front first → AreRecords v k back rest → AreRecords v size (front ++ back) bytes
+    → AreFileRecords v n front first → AreFileRecords v k back rest → AreFileRecords v size (front ++ back) bytes
 both_parts v n k size bytes first rest front back e sum are more = record {
   whole = omega (arith, length-append front back, are.whole, more.whole, sum);
   storable = All-append (IsStorable v) front back are.storable more.storable;
   text = e ∙ (λ i. are.text i ++ more.text i) ∙ sym (flat_map-append (record_bytes v) front back);
 }
 
-pub has_read : (v : Version) (size : ℕ) (part : List ℕ) (read : Option (List (Option Solved))) → AreRead v size part read → HasRecords v size part
+pub has_read : (v : Version) (size : ℕ) (part : List ℕ) (read : Option (List (Option Solved))) → AreDecoded v size part read → HasRecords v size part
 has_read v size part None has = has
 has_read v size part (Some records) are = (records, are)
 
@@ -60,14 +62,15 @@ bad_second v n k size bytes first rest index e sum (front, are) is =
 
 -- what was read of both parts is what the bytes are
 pub read_joined : (v : Version) (n k size : ℕ) (bytes first rest : List ℕ) (front back all : Option (List (Option Solved))) → bytes ≡ first ++ rest
-    → size ≡ n + k → AreRead v n first front → AreRead v k rest back
-    → IfSome all (λ x. (a : List (Option Solved)) × (b : List (Option Solved)) × (front ≡ Some a) × (back ≡ Some b) × (x ≡ a ++ b)) → AreRead v size bytes all
+    → size ≡ n + k → AreDecoded v n first front → AreDecoded v k rest back
+    → IfSome all (λ x. (a : List (Option Solved)) × (b : List (Option Solved)) × (front ≡ Some a) × (back ≡ Some b) × (x ≡ a ++ b)) → AreDecoded v size bytes
+    all
 read_joined v n k size bytes first rest front back None e sum are more h =
     let (a, one) = has_read v n first front are in
     let (b, two) = has_read v k rest back more in (a ++ b, both_parts v n k size bytes first rest a b e sum one two)
 read_joined v n k size bytes first rest front back (Some x) e sum are more (a, b, ea, eb, ex) =
-    subst (λ records. AreRecords v size records bytes) (sym ex)
-    (both_parts v n k size bytes first rest a b e sum (subst (AreRead v n first) ea are) (subst (AreRead v k rest) eb more))
+    subst (λ records. AreFileRecords v size records bytes) (sym ex)
+    (both_parts v n k size bytes first rest a b e sum (subst (AreDecoded v n first) ea are) (subst (AreDecoded v k rest) eb more))
 
 -- an error that is passed on
 pub passed_on : {T : Type 0} (P : ℕ → Type 0) (result : Result T ℕ) (e : ℕ) → IsErrAnd result (λ y. y ≡ e) → P e → IfErr result P

@@ -1,5 +1,7 @@
 -- The first bytes of a tier's file, and the name of the game in them.
-use Rattle.gm_tierdb.proofs.Lower.{◌≡◌, ◌≤◌, ℕ, List, length, take, drop, sym, ap, ◌∙◌, take-take, owner_of, drop-take}
+use Rattle.gm_tierdb.proofs.Lower.{◌≡◌, ◌≤◌, ℕ, List, length, take, drop, sym, ap, ◌∙◌, take-take}
+use Rattle.gm_tierdb.specs.inner.Owners.{owner_of}
+use Rattle.std.proofs.lemmas.List.{drop-take}
 
 -- the name is in the first 24 bytes
 in_head : (text : List ℕ) → drop 8 (take 24 text) ≡ owner_of text

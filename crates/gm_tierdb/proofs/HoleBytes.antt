@@ -1,8 +1,8 @@
 -- The bytes of indexes without a record.
-use Rattle.gm_tierdb.proofs.Lower.{◌≡◌, ℕ, zero, suc, ◌+◌, ◌-◌, ◌<◌, ◌≤◌, List, ◌++◌, length, take, replicate, Option, None, refl, sym, ap, ◌∙◌, append_assoc}
-use Rattle.gm_tierdb.proofs.Lower.{append-nil, arith, inl, flat_map, Solved, record_at, Version, One, Two, width, record_bytes, inr, replicate-append-replicate}
+use Rattle.gm_tierdb.proofs.Lower.{◌≡◌, ℕ, ◌+◌, ◌-◌, ◌<◌, ◌≤◌, List, ◌++◌, length, take, Option, None, refl, sym, ap, ◌∙◌, append_assoc, append-nil, arith, flat_map, Solved, record_at, Version, One, Two, width, record_bytes}
+use Rattle.std.proofs.Common.{zero, suc, replicate, inl, inr, ◌*◌}
+use Rattle.std.proofs.lemmas.List.{replicate-append-replicate}
 use Rattle.std.proofs.lemmas.Bool.{cases_lt}
-use Rattle.std.proofs.Common.{◌*◌}
 use Rattle.gm_tierdb.proofs.RecordLemmas.{one_more}
 
 abbrev zeros : ℕ → List ℕ

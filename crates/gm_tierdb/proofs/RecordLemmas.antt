@@ -1,13 +1,18 @@
 -- Lists of records and their bytes.
-use Rattle.gm_tierdb.proofs.Lower.{◌≡◌, ℕ, zero, suc, ◌+◌, ◌-◌, ◌<◌, ◌≤◌, List, [], ◌∷◌, ◌++◌, length, take, drop, get_or, All, Option, None, refl, sym, ap}
-use Rattle.gm_tierdb.proofs.Lower.{◌∙◌, append_assoc, append-nil, length-append, arith, flat_map, to_le_bytes, Solved, Rules, record_at, Version, One, Two}
-use Rattle.gm_tierdb.proofs.Lower.{word, width, IsStorable, record_bytes, AreRecords, ◌≢◌, flat_map_more, take_more, nil_from_length, All-head, All-nil}
-use Rattle.gm_tierdb.proofs.Lower.{All-tail, slice_get-get_or, at, TableData, IsTable, record_number, IsFor, same_bytes, storable_record}
-use Rattle.std.proofs.Common.{◌*◌}
+use Rattle.gm_tierdb.proofs.Lower.{◌≡◌, ℕ, ◌+◌, ◌-◌, ◌<◌, ◌≤◌, List, [], ◌∷◌, ◌++◌, length, take, drop, All, Option, None, refl, sym, ap, ◌∙◌, append_assoc, append-nil, length-append, arith, flat_map, to_le_bytes, Solved, Rules, record_at, Version, One, Two, record_width, width, IsStorable, record_bytes, AreFileRecords}
+use Rattle.std.proofs.Common.{zero, suc, get_or, ◌≢◌, ◌*◌}
+use Rattle.std.proofs.lemmas.List.{flat_map_more, take_more, nil_from_length}
+use Rattle.std.proofs.lemmas.List.Elements.{All-head, All-nil, All-tail}
+use Rattle.std.proofs.lemmas.Option.{slice_get-get_or}
+use Rattle.gm_game.specs.Rules.{at}
+use Rattle.gm_table.specs.Tables.{TableData, IsTable}
+use Rattle.gm_table.specs.RecordCodes.{record_number}
+use Rattle.gm_tierdb.specs.TierText.{IsFor}
+use Rattle.gm_table.proofs.CodeLemmas.{same_bytes, storable_record}
 use Rattle.gm_tierdb.proofs.LimitLemmas.{old_record}
 
 -- each record has as many bytes
-length_bytes : (v : Version) (n : ℕ) → length (to_le_bytes (word v) n) ≡ width v
+length_bytes : (v : Version) (n : ℕ) → length (to_le_bytes (record_width v) n) ≡ width v
 length_bytes One n = refl
 length_bytes Two n = refl
 
@@ -51,17 +56,17 @@ length_records v (o ∷ os) =
     ∙ more_bytes v (length os)
 
 -- the first bytes of a list of records are those of the first one
-first_of : (v : Version) (n : ℕ) (rest : List ℕ) → take (width v) (to_le_bytes (word v) n ++ rest) ≡ to_le_bytes (word v) n
+first_of : (v : Version) (n : ℕ) (rest : List ℕ) → take (width v) (to_le_bytes (record_width v) n ++ rest) ≡ to_le_bytes (record_width v) n
 first_of One n rest = refl
 first_of Two n rest = refl
 
-rest_of : (v : Version) (n : ℕ) (rest : List ℕ) → drop (width v) (to_le_bytes (word v) n ++ rest) ≡ rest
+rest_of : (v : Version) (n : ℕ) (rest : List ℕ) → drop (width v) (to_le_bytes (record_width v) n ++ rest) ≡ rest
 rest_of One n rest = refl
 rest_of Two n rest = refl
 
 -- as many records with the same bytes are the same
-same_step : (v : Version) (n m : ℕ) (xs ys : List ℕ) → to_le_bytes (word v) n ++ xs ≡ to_le_bytes (word v) m ++ ys
-    → (to_le_bytes (word v) n ≡ to_le_bytes (word v) m) × (xs ≡ ys)
+same_step : (v : Version) (n m : ℕ) (xs ys : List ℕ) → to_le_bytes (record_width v) n ++ xs ≡ to_le_bytes (record_width v) m ++ ys
+    → (to_le_bytes (record_width v) n ≡ to_le_bytes (record_width v) m) × (xs ≡ ys)
 same_step v n m xs ys e = (
   sym (first_of v n xs) ∙ ap (take (width v)) e ∙ first_of v m ys,
   sym (rest_of v n xs) ∙ ap (drop (width v)) e ∙ rest_of v m ys,
@@ -122,7 +127,7 @@ none_read v bytes records size none len =
 
 pub all_read : (v : Version) (bytes rest : List ℕ) (records : List (Option Solved)) (index size : ℕ)
     → (bytes ≡ flat_map (record_bytes v) records ++ rest) × All (IsStorable v) records × (length records ≡ index) × (length rest ≡ width v * (size - index))
-    → index ≤ size → size ≤ index → AreRecords v size records bytes
+    → index ≤ size → size ≤ index → AreFileRecords v size records bytes
 all_read v bytes rest records index size (split, fit, len, left) within over =
     let last : index ≡ size = omega arith in
     let none : rest ≡ [] = nil_from_length rest (left ∙ ap (λ (n : ℕ). width v * (size - n)) last ∙ none_less v size) in

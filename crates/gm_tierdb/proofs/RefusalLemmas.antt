@@ -1,7 +1,9 @@
 -- What is refused, and what isn't.
-use Rattle.gm_tierdb.proofs.Lower.{◌≡◌, ℕ, ◌<◌, List, length, take, get_or, Option, Result, Ok, Err, IfOk, IfErr, IsErrOf, refl, sym, ap, ◌∙◌, arith, NAME}
-use Rattle.gm_tierdb.proofs.Lower.{Solved, Rules, FileError, OutOfMemory, Truncated, BadMagic, WrongGame, WrongTier, WrongSize, BadRecord, Trailing, BadDigest}
-use Rattle.gm_tierdb.proofs.Lower.{OldVersion, Version, One, Two, magic, IsVersionText, HasHeader, RefusesIn, file_len, MatchResult, ⊎_elim, IsOld}
+use Rattle.gm_tierdb.proofs.Lower.{◌≡◌, ℕ, ◌<◌, List, length, take, Option, Result, Ok, Err, IfErr, refl, sym, ap, ◌∙◌, arith, NAME, Solved, Rules, Version, One, Two, magic, IsVersionText, HasHeader, file_len}
+use Rattle.std.proofs.Common.{get_or, IfOk, IsErrOf, MatchResult, ⊎_elim}
+use Rattle.gm_tierdb.specs.declared.file_error.FileError.{FileError}
+use Rattle.gm_tierdb.specs.declared.file_error.FileError.TheVariants.{OutOfMemory, Truncated, BadMagic, WrongGame, WrongTier, WrongSize, BadRecord, Trailing, BadDigest, OldVersion}
+use Rattle.gm_tierdb.specs.Refusals.{RefusesIn, IsOld}
 use Rattle.gm_tierdb.proofs.RecordLemmas.{none_bad}
 use Rattle.gm_tierdb.proofs.TextLemmas.{parts_of_text, same_text}
 

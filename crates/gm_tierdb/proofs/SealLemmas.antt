@@ -1,9 +1,11 @@
 -- Files whose digest is tested apart.
-use Rattle.gm_tierdb.proofs.Lower.{◌≡◌, ℕ, ◌+◌, ◌-◌, List, length, take, drop, Option, Result, Ok, Err, IsErrAnd, IsErrOf, sym, ap, subst, ◌∙◌, arith, sha256}
-use Rattle.gm_tierdb.proofs.Lower.{NAME, Solved, Rules, Version, One, Two, width, FileError, OutOfMemory, Truncated, BadMagic, WrongGame, WrongTier, WrongSize}
-use Rattle.gm_tierdb.proofs.Lower.{BadRecord, Trailing, BadDigest, OldVersion, AreRecords, IsVersionText, HasHeader, RefusesIn, records_part, body_len}
-use Rattle.gm_tierdb.proofs.Lower.{file_len, IsSealed, IsTierText, IsUnsealed, IsWhole, RefusesWhole}
-use Rattle.std.proofs.Common.{◌*◌}
+use Rattle.gm_tierdb.proofs.Lower.{◌≡◌, ℕ, ◌+◌, ◌-◌, List, length, take, drop, Option, Result, Ok, Err, sym, ap, subst, ◌∙◌, arith, sha256, NAME, Solved, Rules, Version, One, Two, width, AreFileRecords, IsVersionText, HasHeader, records_part, file_len}
+use Rattle.std.proofs.Common.{IsErrAnd, IsErrOf, ◌*◌}
+use Rattle.gm_tierdb.specs.declared.file_error.FileError.{FileError}
+use Rattle.gm_tierdb.specs.declared.file_error.FileError.TheVariants.{OutOfMemory, Truncated, BadMagic, WrongGame, WrongTier, WrongSize, BadRecord, Trailing, BadDigest, OldVersion}
+use Rattle.gm_tierdb.specs.Refusals.{RefusesIn, body_len}
+use Rattle.gm_tierdb.specs.inner.Seals.{IsSealed, IsUnsealed, IsWhole, RefusesWhole}
+use Rattle.gm_tierdb.specs.TierText.{IsTierText}
 use Rattle.gm_tierdb.proofs.TextLemmas.{parts_of_text, text_of_parts, same_text}
 use Rattle.gm_tierdb.proofs.RefusalLemmas.{not_old, only_memory}
 
@@ -23,7 +25,7 @@ digest_sealed v r tier bytes len digest =
 
 -- the records of a whole file are those of a text, if it is sealed
 pub sealed_text : (v : Version) (r : Rules) (tier : ℕ) (bytes : List ℕ) → IsWhole v r tier bytes → IsSealed bytes → (records : List (Option Solved))
-    → AreRecords v (r.tier_size tier) records (records_part v (r.tier_size tier) bytes) → IsVersionText v r tier records bytes
+    → AreFileRecords v (r.tier_size tier) records (records_part v (r.tier_size tier) bytes) → IsVersionText v r tier records bytes
 sealed_text v r tier bytes whole seal records are = text_of_parts v r tier bytes records whole.0 are (sealed_digest v r tier bytes whole.1 seal)
 
 -- a whole file that is not sealed is refused for its digest
@@ -38,7 +40,7 @@ sealed_of_text v r named tier records bytes is = let p = parts_of_text v r named
 
 -- the same of the records that were read
 pub unsealed_text : (r : Rules) → length r.name ≡ NAME → (tier : ℕ) (bytes : List ℕ) → IsWhole Two r tier bytes → (records : List (Option Solved))
-    → AreRecords Two (r.tier_size tier) records (records_part Two (r.tier_size tier) bytes) → IsUnsealed r tier records bytes
+    → AreFileRecords Two (r.tier_size tier) records (records_part Two (r.tier_size tier) bytes) → IsUnsealed r tier records bytes
 unsealed_text r named tier bytes whole records are =
     let text : IsSealed bytes → IsTierText r tier records bytes = λ seal. sealed_text Two r tier bytes whole seal records are in
     record {

@@ -1,6 +1,9 @@
 -- Fronts of texts that are written.
-use Rattle.gm_tierdb.proofs.Lower.{◌≡◌, ℕ, ◌+◌, ◌≤◌, List, [], ◌++◌, length, length-append, arith, take, drop, Option, sym, subst, take-append-drop, append-nil}
-use Rattle.gm_tierdb.proofs.Lower.{Appends, Appends-trans, Keeps, Appends-kept, AppendsPart}
+use Rattle.gm_tierdb.proofs.Lower.{◌≡◌, ℕ, ◌+◌, ◌≤◌, List, [], ◌++◌, length, length-append, arith, take, drop, Option, sym, subst, append-nil, Appends}
+use Rattle.std.proofs.Common.{take-append-drop}
+use Rattle.std.proofs.KnownBytes.{Appends-trans, Appends-kept}
+use Rattle.std.specs.Io.KnownBytes.{Keeps}
+use Rattle.gm_tierdb.specs.inner.Streams.{AppendsPart}
 
 pub part_kept : (a b c : Option (List ℕ)) (n : ℕ) (xs : List ℕ) → Appends a b (take n xs) → Keeps b c → AppendsPart a c xs
 part_kept a b c n xs h k = (take n xs, drop n xs, sym (take-append-drop n xs), Appends-kept a b c (take n xs) h k)

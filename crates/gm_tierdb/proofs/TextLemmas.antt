@@ -1,10 +1,11 @@
 -- The parts of a text, and the text of the parts.
-use Rattle.gm_tierdb.proofs.Lower.{◌≡◌, ℕ, ◌+◌, List, [], ◌++◌, length, take, drop, Option, refl, sym, ap, ◌∙◌, append_assoc, take-add, take-append-drop}
-use Rattle.gm_tierdb.proofs.Lower.{length-append, arith, flat_map, to_le_bytes, w64, take-take, sha256, NAME, Solved, Rules, Version, One, Two, width}
-use Rattle.gm_tierdb.proofs.Lower.{record_bytes, magic, body, AreRecords, IsVersionText, HasHeader, records_part, body_len, file_len, length-sha256}
-use Rattle.std.proofs.Common.{◌*◌}
+use Rattle.gm_tierdb.proofs.Lower.{◌≡◌, ℕ, ◌+◌, List, [], ◌++◌, length, take, drop, Option, refl, sym, ap, ◌∙◌, append_assoc, length-append, arith, flat_map, to_le_bytes, take-take, sha256, NAME, Solved, Rules, Version, One, Two, width, record_bytes, magic, AreFileRecords, IsVersionText, HasHeader, records_part, file_len}
+use Rattle.std.proofs.Common.{take-add, take-append-drop, ◌*◌}
+use Rattle.std.specs.Int.{w64}
+use Rattle.gm_tierdb.specs.TierText.{body, version_text}
+use Rattle.gm_tierdb.specs.Refusals.{body_len}
+use Rattle.sha2.proofs.Facts256.{length-sha256}
 use Rattle.std.proofs.Math.Seq.{take-append_seam, drop-append_seam}
-use Rattle.gm_tierdb.specs.TierText.{version_text}
 use Rattle.gm_tierdb.proofs.RecordLemmas.{length_records, same_records}
 
 -- what stands between a front and a back
@@ -49,7 +50,7 @@ length_header v name tier size e =
 pub record TextParts (v : Version) (r : Rules) (tier : ℕ) (records : List (Option Solved)) (bytes : List ℕ) : Type 0 where
   pub header : HasHeader v r tier bytes
   pub len : length bytes ≡ file_len v (r.tier_size tier)
-  pub inner : AreRecords v (r.tier_size tier) records (records_part v (r.tier_size tier) bytes)
+  pub inner : AreFileRecords v (r.tier_size tier) records (records_part v (r.tier_size tier) bytes)
   pub digest : drop (body_len v (r.tier_size tier)) bytes ≡ sha256 (take (body_len v (r.tier_size tier)) bytes)
 
 pub parts_of_text : (v : Version) (r : Rules) → length r.name ≡ NAME → (tier : ℕ) (records : List (Option Solved)) (bytes : List ℕ)
@@ -104,7 +105,7 @@ head_of v r tier bytes h =
     e1 ∙ rw (e2, e3, h.0.0.0.1, h.0.0.1, h.0.1, h.1) refl
 
 pub text_of_parts : (v : Version) (r : Rules) (tier : ℕ) (bytes : List ℕ) (records : List (Option Solved)) → HasHeader v r tier bytes
-    → AreRecords v (r.tier_size tier) records (records_part v (r.tier_size tier) bytes)
+    → AreFileRecords v (r.tier_size tier) records (records_part v (r.tier_size tier) bytes)
     → drop (body_len v (r.tier_size tier)) bytes ≡ sha256 (take (body_len v (r.tier_size tier)) bytes) → IsVersionText v r tier records bytes
 unfolding version_text
 text_of_parts v r tier bytes records h are d =

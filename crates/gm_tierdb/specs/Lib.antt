@@ -1,9 +1,4 @@
 pub mod TierText
 pub mod Refusals
-pub mod Parts
-pub mod Seals
 pub mod StoreTexts
-pub mod Streams
-pub mod Turns
-pub mod Owners
-pub mod Lower
+pub mod inner

@@ -1,10 +1,16 @@
 -- Why bytes are refused: the first reason that applies, in the order of the tests.
 use Rattle.std.specs.Prelude.{◌≡◌, ◌≢◌, ℕ, ◌<◌, ◌≤◌, ◌+◌, ◌*◌, ◌⊎◌, List, ◌++◌, length, take, drop, Option, None, Some, All}
-use Rattle.gm_tierdb.specs.Lower.{flat_map, to_le_bytes, w64, sha256, Solved, Rules, Version, One, Two, width, record_bytes, IsStorable}
+use Rattle.std.specs.List.{flat_map}
+use Rattle.std.specs.Int.{to_le_bytes, w64}
+use Rattle.sha2.specs.Sha256.{sha256}
+use Rattle.gm_game.specs.declared.position.Solved.{Solved}
+use Rattle.gm_game.specs.Rules.{Rules}
+use Rattle.gm_table.specs.declared.version.Version.{Version}
+use Rattle.gm_table.specs.declared.version.Version.TheVariants.{One, Two}
+use Rattle.gm_table.specs.RecordCodes.{width, record_bytes, IsStorable}
 use Rattle.gm_tierdb.specs.declared.file_error.FileError.{FileError}
-use Rattle.gm_tierdb.specs.declared.file_error.FileError.TheVariants.{OutOfMemory, Truncated, BadMagic, WrongGame, WrongTier, WrongSize, BadRecord, Trailing}
-use Rattle.gm_tierdb.specs.declared.file_error.FileError.TheVariants.{BadDigest, OldVersion}
-use Rattle.gm_tierdb.specs.TierText.{magic, AreRecords, IsVersionText}
+use Rattle.gm_tierdb.specs.declared.file_error.FileError.TheVariants.{OutOfMemory, Truncated, BadMagic, WrongGame, WrongTier, WrongSize, BadRecord, Trailing, BadDigest, OldVersion}
+use Rattle.gm_tierdb.specs.TierText.{magic, AreFileRecords, IsVersionText}
 
 -- the first bytes are those of an older version
 abbrev pub IsOld : Version → List ℕ → Type 0
@@ -40,7 +46,7 @@ records_part v size bytes = drop 40 (take (body_len v size) bytes)
 
 -- these bytes are this many records
 abbrev pub HasRecords : Version → ℕ → List ℕ → Type 0
-HasRecords v size bytes = (records : List (Option Solved)) × AreRecords v size records bytes
+HasRecords v size bytes = (records : List (Option Solved)) × AreFileRecords v size records bytes
 
 -- the bytes begin with this many records, fewer than the size, and no record comes next
 pub record IsFirstBad (v : Version) (size : ℕ) (bytes : List ℕ) (index : ℕ) : Type 0 where
@@ -53,9 +59,9 @@ pub record IsFirstBad (v : Version) (size : ℕ) (bytes : List ℕ) (index : ℕ
   pub bad : (o : Option Solved) → IsStorable v o → take (width v) rest ≢ record_bytes v o
 
 -- these are the records that the bytes are, or there was no memory for them
-abbrev pub AreRead : Version → ℕ → List ℕ → Option (List (Option Solved)) → Type 0
-AreRead v size bytes None = HasRecords v size bytes
-AreRead v size bytes (Some records) = AreRecords v size records bytes
+abbrev pub AreDecoded : Version → ℕ → List ℕ → Option (List (Option Solved)) → Type 0
+AreDecoded v size bytes None = HasRecords v size bytes
+AreDecoded v size bytes (Some records) = AreFileRecords v size records bytes
 
 -- why the bytes are refused; memory comes last, if they are the text of some records
 abbrev pub RefusesIn : Version → Rules → ℕ → List ℕ → FileError → Type 0
@@ -82,14 +88,14 @@ abbrev pub Refuses1 : Rules → ℕ → List ℕ → FileError → Type 0
 Refuses1 = RefusesIn One
 
 -- the numbers of the errors
-abbrev pub number_of : FileError → ℕ
-number_of OutOfMemory = 1
-number_of Truncated = 2
-number_of BadMagic = 3
-number_of WrongGame = 4
-number_of WrongTier = 5
-number_of WrongSize = 6
-number_of (BadRecord index) = 7
-number_of Trailing = 8
-number_of BadDigest = 9
-number_of OldVersion = 10
+abbrev pub file_error_number : FileError → ℕ
+file_error_number OutOfMemory = 1
+file_error_number Truncated = 2
+file_error_number BadMagic = 3
+file_error_number WrongGame = 4
+file_error_number WrongTier = 5
+file_error_number WrongSize = 6
+file_error_number (BadRecord index) = 7
+file_error_number Trailing = 8
+file_error_number BadDigest = 9
+file_error_number OldVersion = 10

@@ -1,6 +1,16 @@
 -- The bytes of a tier file, in each version of its form.
 use Rattle.std.specs.Prelude.{◌≡◌, ℕ, ◌≤◌, List, ◌++◌, length, codes, All, Option}
-use Rattle.gm_tierdb.specs.Lower.{flat_map, to_le_bytes, w64, sha256, Solved, Phase, Rules, HasLevel, REMOTENESS_1, Version, One, Two, record_bytes, IsStorable}
+use Rattle.std.specs.List.{flat_map}
+use Rattle.std.specs.Int.{to_le_bytes, w64}
+use Rattle.sha2.specs.Sha256.{sha256}
+use Rattle.gm_game.specs.declared.position.Solved.{Solved}
+use Rattle.gm_game.specs.declared.position.Phase.{Phase}
+use Rattle.gm_game.specs.Rules.{Rules}
+use Rattle.gm_table.specs.Levels.{HasLevel}
+use Rattle.gm_table.specs.declared.version.TheConstants.{REMOTENESS_1}
+use Rattle.gm_table.specs.declared.version.Version.{Version}
+use Rattle.gm_table.specs.declared.version.Version.TheVariants.{One, Two}
+use Rattle.gm_table.specs.RecordCodes.{record_bytes, IsStorable}
 
 -- what a file of this version begins with
 abbrev pub magic : Version → List ℕ
@@ -8,7 +18,7 @@ magic One = codes "GMTIER01"
 magic Two = codes "GMTIER02"
 
 -- these bytes are this many records that a file can have
-pub record AreRecords (v : Version) (size : ℕ) (records : List (Option Solved)) (bytes : List ℕ) : Type 0 where
+pub record AreFileRecords (v : Version) (size : ℕ) (records : List (Option Solved)) (bytes : List ℕ) : Type 0 where
   pub whole : length records ≡ size
   pub storable : All (IsStorable v) records
   pub text : bytes ≡ flat_map (record_bytes v) records

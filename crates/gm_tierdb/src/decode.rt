@@ -1,10 +1,12 @@
 //! Reading the file of a tier.
 ghost use Rattle.std.specs.Prelude.{◌≡◌, ◌+◌, ◌*◌, ◌^◌, ◌<◌, ◌≤◌, ◌↔◌, IsTrue, IfOk, OnOk, IfErr, IsErrOf, IfSome, IfNone, length, Option, List, MatchResult};
-ghost use Rattle.gm_tierdb.specs.Lower.{to_le_bytes, Solved, width};
+ghost use Rattle.std.specs.Int.{to_le_bytes};
+ghost use Rattle.gm_game.specs.declared.position.Solved.{Solved};
+ghost use Rattle.gm_table.specs.RecordCodes.{width};
 ghost use Rattle.gm_tierdb.specs.TierText.{IsTierText, IsTierText1, IsVersionText};
-ghost use Rattle.gm_tierdb.specs.Refusals.{IsFirstBad, AreRead, HasHeader, Refuses, Refuses1, RefusesIn, records_part};
-ghost use Rattle.gm_tierdb.specs.Parts.{AreParts};
-ghost use Rattle.gm_tierdb.specs.Seals.{IsSealed, IsUnsealed, IsWhole, RefusesWhole, RefusesUnsealed};
+ghost use Rattle.gm_tierdb.specs.Refusals.{IsFirstBad, AreDecoded, HasHeader, Refuses, Refuses1, RefusesIn, records_part};
+ghost use Rattle.gm_tierdb.specs.inner.Parts.{AreParts};
+ghost use Rattle.gm_tierdb.specs.inner.Seals.{IsSealed, IsUnsealed, IsWhole, RefusesWhole, RefusesUnsealed};
 
 use crate::file_error::FileError;
 use crate::layout::{DIGEST_LEN, HEADER_LEN, MAGIC_LEN, NAME_END, TIER_END};
@@ -154,10 +156,10 @@ fn read_whole<G: Game>(
     read: Result<Option<Packed>, u64>,
 ) -> Result<Option<Packed>, FileError>
     requires parts { AreParts version G.rules tier bytes.now parts }
-    requires found { IfOk read (AreRead version parts.size parts.records.now) }
+    requires found { IfOk read (AreDecoded version parts.size parts.records.now) }
     requires bad { IfErr read (IsFirstBad version parts.size parts.records.now) }
     ensures whole { IfOk result (λ _. IsWhole version G.rules tier bytes.now) }
-    ensures found { IfOk result (λ read. AreRead version (G.rules.tier_size tier) (records_part version (G.rules.tier_size tier) bytes.now) read) }
+    ensures found { IfOk result (λ read. AreDecoded version (G.rules.tier_size tier) (records_part version (G.rules.tier_size tier) bytes.now) read) }
     ensures refused { IfErr result (RefusesWhole version G.rules tier bytes.now) }
 {
     let read = match read {

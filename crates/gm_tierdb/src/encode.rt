@@ -1,6 +1,9 @@
 //! Writing the file of a tier.
 ghost use Rattle.std.specs.Prelude.{◌≡◌, ◌↔◌, ◌≤◌, ◌*◌, ◌++◌, replicate, IsTrue, IfOk, OnOk, MatchOption, All};
-ghost use Rattle.gm_tierdb.specs.Lower.{flat_map, to_le_bytes, w64, width, record_bytes, IsStorable, One};
+ghost use Rattle.std.specs.List.{flat_map};
+ghost use Rattle.std.specs.Int.{to_le_bytes, w64};
+ghost use Rattle.gm_table.specs.RecordCodes.{width, record_bytes, IsStorable};
+ghost use Rattle.gm_table.specs.declared.version.Version.TheVariants.{One};
 ghost use Rattle.gm_table.specs.Tables.{record_at};
 ghost use Rattle.gm_tierdb.specs.TierText.{IsTierText, IsTierText1, IsVersionText, AreUpTo, IsFor};
 

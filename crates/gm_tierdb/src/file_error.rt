@@ -1,6 +1,6 @@
 //! Why bytes are not the file of a tier.
 ghost use Rattle.std.specs.Prelude.{◌≡◌};
-ghost use Rattle.gm_tierdb.specs.Refusals.{number_of};
+ghost use Rattle.gm_tierdb.specs.Refusals.{file_error_number};
 
 use thiserror::Error;
 
@@ -33,7 +33,7 @@ pub enum FileError {
 impl FileError {
     /// Returns the number of the error.
     pub fn number(&self) -> u8
-        ensures { result ≡ number_of self.now }
+        ensures { result ≡ file_error_number self.now }
     {
         match self {
             FileError::OutOfMemory => 1,

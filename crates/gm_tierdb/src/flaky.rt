@@ -1,8 +1,8 @@
 //! A store that fails on purpose.
 ghost use Rattle.std.specs.Prelude.{◌≡◌, ◌↔◌, ◌+◌, ◌<◌, ◌^◌, IsTrue, IfOk, OnOk, IsErrOf};
-ghost use Rattle.gm_tierdb.specs.Lower.{option_map};
+ghost use Rattle.std.specs.Option.{option_map};
 ghost use Rattle.gm_tierdb.specs.StoreTexts.{AreSame, AreSameBut, Sets, MaySet, failures_of};
-ghost use Rattle.gm_tierdb.specs.Turns.{next_call, FailsNext};
+ghost use Rattle.gm_tierdb.specs.inner.Turns.{next_call, FailsNext};
 
 use crate::store::Store;
 use crate::store_error::StoreError;

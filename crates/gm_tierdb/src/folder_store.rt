@@ -1,7 +1,7 @@
 //! A store in a folder of files.
 ghost use Rattle.std.specs.Prelude.{◌≡◌, ◌+◌, ◌<◌, ◌⊎◌, true, false, None, Some, Ok, IfOk, IsErrOf, string_bytes, string_len};
-ghost use Rattle.gm_tierdb.specs.Owners.{path_text};
-ghost use Rattle.gm_tierdb.specs.Lower.{option_or};
+ghost use Rattle.gm_tierdb.specs.inner.Owners.{path_text};
+ghost use Rattle.std.specs.Option.{option_or};
 ghost use Rattle.gm_tierdb.specs.StoreTexts.{failures_of};
 
 use crate::layout::{MAGIC_LEN, NAME_END};

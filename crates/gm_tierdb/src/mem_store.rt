@@ -1,6 +1,8 @@
 //! A store in memory.
 ghost use Rattle.std.specs.Prelude.{◌≡◌, ◌≢◌, ℕ, true, Ok, None, IfOk, IfErr};
-ghost use Rattle.gm_tierdb.specs.Lower.{option_map, nat_cmp, get};
+ghost use Rattle.std.specs.Option.{option_map};
+ghost use Rattle.std.specs.Ordering.{nat_cmp};
+ghost use Rattle.std.specs.BTreeMap.{get};
 
 use crate::store::Store;
 use crate::store_error::StoreError;

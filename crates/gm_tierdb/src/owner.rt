@@ -1,6 +1,6 @@
 //! Which game a tier file belongs to.
 ghost use Rattle.std.specs.Prelude.{◌≡◌, ◌↔◌, ◌≤◌, ℕ, List, IsTrue, length, take};
-ghost use Rattle.gm_tierdb.specs.Owners.{IsIntact, IsAnothers, owner_of};
+ghost use Rattle.gm_tierdb.specs.inner.Owners.{IsIntact, IsAnothers, owner_of};
 
 use crate::layout::{DIGEST_LEN, HEADER_LEN, MAGIC_LEN, NAME_END};
 use sha2::{Digest, Sha256};

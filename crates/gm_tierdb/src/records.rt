@@ -1,8 +1,10 @@
 //! The records of a file, from their bytes.
 ghost use Rattle.std.specs.Prelude.{◌≡◌, ◌*◌, ◌^◌, ◌<◌, ◌++◌, Some, List, Option, IfOk, IfErr, IfSome, length};
 ghost use Rattle.gm_game.specs.declared.position.Solved.{Solved as SolvedSpec};
-ghost use Rattle.gm_tierdb.specs.Lower.{to_le_bytes, word, width, IsSync};
-ghost use Rattle.gm_tierdb.specs.Refusals.{IsFirstBad, AreRead};
+ghost use Rattle.std.specs.Int.{to_le_bytes};
+ghost use Rattle.gm_table.specs.RecordCodes.{record_width, width};
+ghost use Rattle.std.specs.Thread.{IsSync};
+ghost use Rattle.gm_tierdb.specs.Refusals.{IsFirstBad, AreDecoded};
 
 use gm_table::number::record_in;
 use gm_table::packed::Packed;
@@ -29,7 +31,7 @@ pub(crate) fn read_records_by<R: Threads + Sync>(
     halvings: usize,
 ) -> Result<Option<Packed>, u64>
     requires { length bytes.now ≡ width version * size }
-    ensures found { IfOk result (AreRead version size bytes.now) }
+    ensures found { IfOk result (AreDecoded version size bytes.now) }
     ensures bad { IfErr result (IsFirstBad version size bytes.now) }
 {
     if size <= FEW || halvings == 0 {
@@ -42,12 +44,12 @@ pub(crate) fn read_records_by<R: Threads + Sync>(
         rt,
         || -> Result<Option<Packed>, u64>
             requires { IsSync R.row × (0 < halvings) × (length first.now ≡ width version * half) }
-            ensures found { IfOk result (AreRead version half first.entry.now) }
+            ensures found { IfOk result (AreDecoded version half first.entry.now) }
             ensures bad { IfErr result (IsFirstBad version half first.entry.now) }
         { read_records_by(rt, alloc, version, first, half, room, halvings - 1) },
         || -> Result<Option<Packed>, u64>
             requires { IsSync R.row × (0 < halvings) × (length rest.now ≡ width version * more) }
-            ensures found { IfOk result (AreRead version more rest.entry.now) }
+            ensures found { IfOk result (AreDecoded version more rest.entry.now) }
             ensures bad { IfErr result (IsFirstBad version more rest.entry.now) }
         { read_records_by(rt, alloc, version, rest, more, more, halvings - 1) },
     );
@@ -78,7 +80,7 @@ pub(crate) fn read_records(
     room: usize,
 ) -> Result<Option<Packed>, u64>
     requires { length bytes.now ≡ width version * size }
-    ensures found { IfOk result (AreRead version size bytes.now) }
+    ensures found { IfOk result (AreDecoded version size bytes.now) }
     ensures bad { IfErr result (IsFirstBad version size bytes.now) }
 {
     let mut records = match Packed::with_capacity(alloc, room) {
@@ -102,7 +104,7 @@ pub(crate) fn read_records(
 // Returns no records, or the first index without one.
 fn without_memory(version: Version, bytes: &[u8], size: usize) -> Result<Option<Packed>, u64>
     requires { length bytes.now ≡ width version * size }
-    ensures found { IfOk result (AreRead version size bytes.now) }
+    ensures found { IfOk result (AreDecoded version size bytes.now) }
     ensures bad { IfErr result (IsFirstBad version size bytes.now) }
 {
     let mut rest = bytes;
@@ -119,7 +121,7 @@ fn without_memory(version: Version, bytes: &[u8], size: usize) -> Result<Option<
 // Returns the number that the bytes of a record stand for.
 fn number_at(version: Version, bytes: &[u8]) -> u32
     requires { length bytes.now ≡ width version }
-    ensures bytes { to_le_bytes (word version) result ≡ bytes.now }
+    ensures bytes { to_le_bytes (record_width version) result ≡ bytes.now }
     ensures fits { result < 256 ^ width version }
 {
     match version {

@@ -1,6 +1,6 @@
 //! The texts of tiers.
 ghost use Rattle.std.specs.Prelude.{◌≡◌, ◌+◌, ◌<◌, ℕ, Bool, List, Option, IsTrue, IfOk, OnOk, IsErrOf};
-ghost use Rattle.gm_tierdb.specs.Lower.{option_map};
+ghost use Rattle.std.specs.Option.{option_map};
 ghost use Rattle.gm_tierdb.specs.StoreTexts.{AreSame, AreSameBut, Sets, MaySet, failures_of};
 
 use crate::store_error::StoreError;

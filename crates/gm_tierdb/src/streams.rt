@@ -1,7 +1,7 @@
 //! Texts from readers and to writers.
 ghost use Rattle.std.specs.Prelude.{◌≡◌, ◌⊎◌, ◌≤◌, [], IfOk, IsOk, OnOk, OnErr, IfErr, IsErrOf, length};
-ghost use Rattle.gm_tierdb.specs.Lower.{Appends, Consumes, IsAtEnd};
-ghost use Rattle.gm_tierdb.specs.Streams.{AppendsPart, ConsumesPart, ConsumesSome};
+ghost use Rattle.std.specs.Io.KnownBytes.{Appends, Consumes, IsAtEnd};
+ghost use Rattle.gm_tierdb.specs.inner.Streams.{AppendsPart, ConsumesPart, ConsumesSome};
 
 use crate::layout::FILE_LEN;
 use crate::store_error::StoreError;

@@ -1,8 +1,12 @@
 -- What a search answers, step by step.
-use Rattle.gm_tiers.proofs.Lower.{◌≡◌, ℕ, zero, suc, ◌+◌, ◌-◌, ◌<◌, ◌≤◌, inl, inr, List, [], ◌∷◌, ◌++◌, length, take, drop, get_or, slice_get, None, Some, Ok}
-use Rattle.gm_tiers.proofs.Lower.{Err, refl, ap, sym, subst, ◌∙◌, arith, take_all, take_more, take-append-drop, cases_lt, slice_get_past, slice_get-get_or}
-use Rattle.gm_tiers.proofs.Lower.{Contains, ⊎_elim, ◌⊎◌, contains_none, TooManyTiers, TierTooLarge, IsClosed, AreWithin, AreFound, HasTooMany, IsTooLarge}
-use Rattle.gm_tiers.proofs.Lower.{TIERS, Rules, TierError, Search, comes_to, comes_to_all, comes_to_children, goes_through, search_of, EndsWith}
+use Rattle.gm_tiers.proofs.Lower.{◌≡◌, ℕ, suc, ◌-◌, ◌<◌, ◌≤◌, List, [], ◌∷◌, length, take, get_or, Ok, refl, ap, sym, subst, ◌∙◌, arith, cases_lt, Contains, ⊎_elim, ◌⊎◌, contains_none, TooManyTiers, TierTooLarge, AreWithin, AreFound, HasTooMany, TIERS, Rules, comes_to_all, goes_through}
+use Rattle.std.proofs.Common.{zero, ◌+◌, inl, inr, ◌++◌, drop, slice_get, None, Some, Err}
+use Rattle.std.proofs.lemmas.List.{take_all, take_more, take-append-drop}
+use Rattle.std.proofs.lemmas.Option.{slice_get_past, slice_get-get_or}
+use Rattle.gm_tiers.specs.Reach.{IsClosed}
+use Rattle.gm_tiers.specs.Limits.{IsTooLarge}
+use Rattle.gm_tiers.specs.declared.tier_error.TierError.{TierError}
+use Rattle.gm_tiers.specs.Search.{Search, comes_to, comes_to_children, search_of, EndsWith}
 use Rattle.gm_tiers.proofs.SearchLemmas.{grown_has, grown_itself, closed_more, at_there, found_all}
 use Rattle.gm_tiers.proofs.StepLemmas.{Fails, Comes, comes_step, comes_all}
 

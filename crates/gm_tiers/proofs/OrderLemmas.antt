@@ -1,9 +1,19 @@
 -- What a sort of tiers by rank and number gives.
-use Rattle.gm_tiers.proofs.Lower.{◌≡◌, ◌≢◌, ℕ, suc, ◌<◌, ◌≤◌, ◌⊎◌, ⊎_elim, false, List, length, get_or, ap, sym, subst, ◌∙◌, arith, length-take, eq-or-lt_of_le}
-use Rattle.gm_tiers.proofs.Lower.{Contains, AllPairs, IsSortedBy, IsPermutation, nat_cmp, ordering_then, is_lt, Ordering, IsTotalOrder, cases_lt, nat_tests}
-use Rattle.gm_tiers.proofs.Lower.{sorted_far, ranks_by, Contains-permutation, IsPermutation-sym, length_permutation, get_or_from_slice_get, slice_get_within}
-use Rattle.gm_tiers.proofs.Lower.{get_or-take, get_or_default_zero, TIERS, Rules, IsGame, IsReachedFrom, AreFound, IsBefore, IsOrderFrom, ComeChildrenFirst}
-use Rattle.gm_tiers.proofs.Lower.{[], ◌∷◌, ◌==◌, map, refl, get_or-map, length-map, IsPermutation-map, Contains-get_or}
+use Rattle.gm_tiers.proofs.Lower.{◌≡◌, ◌≢◌, ℕ, suc, ◌<◌, ◌≤◌, ◌⊎◌, ⊎_elim, false, List, length, get_or, ap, sym, subst, ◌∙◌, arith, Contains, AllPairs, cases_lt, TIERS, Rules, AreFound, [], ◌∷◌, map, refl}
+use Rattle.std.proofs.Common.{length-take, eq-or-lt_of_le, ◌==◌}
+use Rattle.std.specs.List.Sorted.{IsSortedBy, IsPermutation}
+use Rattle.std.specs.Ordering.{nat_cmp, ordering_then, is_lt}
+use Rattle.std.specs.declared.cmp.Ordering.{Ordering}
+use Rattle.std.specs.Cmp.{IsTotalOrder}
+use Rattle.std.proofs.lemmas.Bool.Decides.{nat_tests}
+use Rattle.std.proofs.lemmas.List.Sorted.{sorted_far, ranks_by, Contains-permutation, IsPermutation-sym, length_permutation, IsPermutation-map}
+use Rattle.std.proofs.lemmas.Option.{get_or_from_slice_get, slice_get_within}
+use Rattle.std.proofs.lemmas.List.{get_or-take, get_or-map, length-map}
+use Rattle.std.proofs.lemmas.Grind.{get_or_default_zero}
+use Rattle.gm_game.specs.Laws.{IsGame}
+use Rattle.gm_tiers.specs.Reach.{IsReachedFrom}
+use Rattle.gm_tiers.specs.Orders.{IsTierBefore, IsOrderFrom, ComeChildrenFirst}
+use Rattle.std.proofs.lemmas.List.Elements.{Contains-get_or}
 use Rattle.std.proofs.lemmas.Cmp.{nat_cmp_total, then_total, on_total}
 use Rattle.gm_tiers.proofs.SearchLemmas.{search_reached, reached_found}
 
@@ -18,7 +28,7 @@ pair_cmp_total = then_total (on_total (λ (p : ℕ × ℕ). p.0) nat_cmp_total) 
 
 -- no two are the same, and each has at least the rank and number of the one before it
 pub ordered : (r : Rules) (tiers : List ℕ) → AllPairs (λ (t u : ℕ). t ≢ u) tiers → IsSortedBy
-    (λ t u. is_lt (pair_cmp (r.tier_rank t, t) (r.tier_rank u, u))) tiers → AllPairs (IsBefore r) tiers
+    (λ t u. is_lt (pair_cmp (r.tier_rank t, t) (r.tier_rank u, u))) tiers → AllPairs (IsTierBefore r) tiers
 ordered r tiers once up i j d i<j j<n =
     let key : ℕ → ℕ × ℕ = λ t. (r.tier_rank t, t) in
     let t = get_or tiers i d in
@@ -42,14 +52,15 @@ children_first r laws first tiers is k t child e c =
     (λ (same : k ≡ j). let e' : t ≡ child = sym here ∙ ap (λ i. get_or tiers i 0) same ∙ there' in
     let less : r.tier_rank t < r.tier_rank t = subst (λ u. r.tier_rank u < r.tier_rank t) (sym e') falls in omega arith)
     (λ (k<j : k < j).
-    let before : IsBefore r t child = subst (λ u. IsBefore r u child) here (subst (λ u. IsBefore r (get_or tiers k 0) u) there' (is.ordered k j 0 k<j j<n)) in
+    let before : IsTierBefore r t child = subst (λ u. IsTierBefore r u child) here
+    (subst (λ u. IsTierBefore r (get_or tiers k 0) u) there' (is.ordered k j 0 k<j j<n)) in
     ⊎_elim (λ (less : r.tier_rank t < r.tier_rank child). let none : ⊥ = omega arith in none)
     (λ (b : (r.tier_rank t ≡ r.tier_rank child) × (t < child)). let none : ⊥ = omega arith in none) before)
     (eq-or-lt_of_le k≤j)))
     (cases_lt j k)
 
 -- the tiers that a search finds, sorted
-pub order_is : (r : Rules) (first : ℕ) (found tiers : List ℕ) → AreFound r first found → IsPermutation found tiers → AllPairs (IsBefore r) tiers →
+pub order_is : (r : Rules) (first : ℕ) (found tiers : List ℕ) → AreFound r first found → IsPermutation found tiers → AllPairs (IsTierBefore r) tiers →
     IsOrderFrom r first tiers
 order_is r first found tiers is same up = record {
   each = λ t. (
@@ -95,7 +106,7 @@ stays_ranked r tiers pairs same k within =
 
 -- pairs in order have their tiers in order
 pub pairs_ordered : (r : Rules) (tiers : List ℕ) (pairs : List (ℕ × ℕ)) → AllPairs (λ (t u : ℕ). t ≢ u) (map tier_of pairs) →
-    IsPermutation (map (ranked r) tiers) pairs → IsSortedBy (λ x y. is_lt (pair_cmp x y)) pairs → AllPairs (IsBefore r) (map tier_of pairs)
+    IsPermutation (map (ranked r) tiers) pairs → IsSortedBy (λ x y. is_lt (pair_cmp x y)) pairs → AllPairs (IsTierBefore r) (map tier_of pairs)
 pairs_ordered r tiers pairs once same up i j d i<j j<n =
     let p = get_or pairs i (0, 0) in
     let q = get_or pairs j (0, 0) in
@@ -104,11 +115,11 @@ pairs_ordered r tiers pairs once same up i j d i<j j<n =
     let here : get_or (map tier_of pairs) i d ≡ p.1 = get_or-map tier_of pairs i (0, 0) d i<m in
     let there : get_or (map tier_of pairs) j d ≡ q.1 = get_or-map tier_of pairs j (0, 0) d j<m in
     let differ : p.1 ≢ q.1 = λ s. once i j d i<j j<n (here ∙ s ∙ sym there) in
-    let is : IsBefore r p.1 q.1 =
+    let is : IsTierBefore r p.1 q.1 =
     subst (λ b. (r.tier_rank p.1 < b) ⊎ ((r.tier_rank p.1 ≡ b) × (p.1 < q.1))) (stays_ranked r tiers pairs same j j<m)
     (subst (λ a. (a < q.0) ⊎ ((a ≡ q.0) × (p.1 < q.1))) (stays_ranked r tiers pairs same i i<m)
     (not_after p.0 q.0 p.1 q.1 (sorted_far (λ x y. is_lt (pair_cmp x y)) (ranks_by pair_cmp_total (λ (x : ℕ × ℕ). x)) pairs up i j (0, 0) (omega arith) j<m) differ)) in
-    subst (λ t. IsBefore r t (get_or (map tier_of pairs) j d)) (sym here) (subst (λ u. IsBefore r p.1 u) (sym there) is)
+    subst (λ t. IsTierBefore r t (get_or (map tier_of pairs) j d)) (sym here) (subst (λ u. IsTierBefore r p.1 u) (sym there) is)
 
 pub eqb_flips : (t u : ℕ) → (t == u) ≡ (u == t)
 eqb_flips t u = grind (arith, nat_tests)

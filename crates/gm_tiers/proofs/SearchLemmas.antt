@@ -1,10 +1,16 @@
 -- What a search for tiers keeps.
-use Rattle.gm_tiers.proofs.Lower.{◌≡◌, ◌≢◌, ℕ, zero, suc, ◌+◌, ◌<◌, ◌≤◌, ◌⊎◌, ⊎_elim, true, false, true≢false, List, [], ◌∷◌, ◌++◌, length, take, get_or}
-use Rattle.gm_tiers.proofs.Lower.{slice_get, Some, nat_eq, if◌then◌else◌, append_assoc, refl, ap, sym, subst, ◌∙◌, arith, length-append, Contains, AllPairs}
-use Rattle.gm_tiers.proofs.Lower.{list_any, eqb-true, eq-eqb, append-nil, take_all, take_more, take-append-le, Contains-append_left, Contains-push_cases}
-use Rattle.gm_tiers.proofs.Lower.{Contains-get_or, get_or_from_slice_get, slice_get_within, all_pairs_push, TIER_SIZE, TIERS, Rules, any_from, any_in}
-use Rattle.gm_tiers.proofs.Lower.{contains_none, contains_cases, IsReachedIn, IsReachedFrom, IsNext, IsSearchOn, IsSearch, IsClosed, IsGrown, AreWithin}
-use Rattle.gm_tiers.proofs.Lower.{AreFound, IsFoundNext, HasTooMany, AreMoreThan}
+use Rattle.gm_tiers.proofs.Lower.{◌≡◌, ◌≢◌, ℕ, suc, ◌<◌, ◌≤◌, ◌⊎◌, ⊎_elim, false, List, [], ◌∷◌, length, take, get_or, refl, ap, sym, subst, ◌∙◌, arith, Contains, AllPairs, TIERS, Rules, contains_none, AreWithin, AreFound, HasTooMany}
+use Rattle.std.proofs.Common.{zero, ◌+◌, true, true≢false, ◌++◌, slice_get, Some, nat_eq, if◌then◌else◌, append_assoc, length-append}
+use Rattle.std.specs.List.{list_any}
+use Rattle.std.proofs.lemmas.Bool.{eqb-true, eq-eqb}
+use Rattle.std.proofs.lemmas.List.{append-nil, take_all, take_more, take-append-le}
+use Rattle.std.proofs.lemmas.List.Elements.{Contains-append_left, Contains-push_cases, Contains-get_or}
+use Rattle.std.proofs.lemmas.Option.{get_or_from_slice_get, slice_get_within}
+use Rattle.std.proofs.lemmas.List.Quantifiers.{all_pairs_push}
+use Rattle.gm_game.specs.declared.limits.TheConstants.{TIER_SIZE}
+use Rattle.gm_game.proofs.Lists.{any_from, any_in, contains_cases}
+use Rattle.gm_tiers.specs.Reach.{IsReachedIn, IsReachedFrom, IsNext, IsSearchOn, IsSearch, IsClosed, IsGrown}
+use Rattle.gm_tiers.specs.Limits.{IsFoundNext, AreMoreThan}
 
 -- what the test of a set means
 pub there : (ks : List ℕ) (k : ℕ) → list_any (nat_eq k) ks ≡ true → Contains ks k

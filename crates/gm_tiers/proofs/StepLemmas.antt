@@ -1,9 +1,18 @@
 -- What one step of a search answers, and that what it has found, or why it has ended, is so.
-use Rattle.gm_tiers.proofs.Lower.{◌≡◌, ℕ, suc, ◌<◌, ◌≤◌, ◌⊎◌, ⊎_elim, inl, inr, true, false, nat_eq, List, [], ◌∷◌, length, Result, Ok, Err, refl, ap, sym}
-use Rattle.gm_tiers.proofs.Lower.{subst, ◌∙◌, arith, Contains, list_any, IsErrAnd, IsErrOf, err_from_is_err_and, cases_Bool, cases_lt, lt-ltb, le-ltb, le-leb}
-use Rattle.gm_tiers.proofs.Lower.{lt-leb, Contains-append_right, TIER_SIZE, TIERS, Rules, contains_none, contains_first, contains_cases, TierError, OutOfMemory}
-use Rattle.gm_tiers.proofs.Lower.{TooManyTiers, TierTooLarge, IsNext, IsGrown, Search, comes_to, comes_to_all, Answers, EndsWith, AreWithin, IsFoundNext}
-use Rattle.gm_tiers.proofs.Lower.{IsTooLarge, HasTooMany}
+use Rattle.gm_tiers.proofs.Lower.{◌≡◌, ℕ, suc, ◌<◌, ◌≤◌, ◌⊎◌, ⊎_elim, false, List, [], ◌∷◌, length, Ok, refl, ap, sym, subst, ◌∙◌, arith, Contains, cases_lt, TIERS, Rules, contains_none, TooManyTiers, TierTooLarge, comes_to_all, AreWithin, HasTooMany}
+use Rattle.std.proofs.Common.{inl, inr, true, nat_eq, Result, Err}
+use Rattle.std.specs.List.{list_any}
+use Rattle.std.specs.Result.{IsErrAnd, IsErrOf}
+use Rattle.std.proofs.lemmas.Result.{err_from_is_err_and}
+use Rattle.std.proofs.lemmas.Bool.{cases_Bool, lt-ltb, le-ltb, le-leb, lt-leb}
+use Rattle.std.proofs.lemmas.List.Elements.{Contains-append_right}
+use Rattle.gm_game.specs.declared.limits.TheConstants.{TIER_SIZE}
+use Rattle.gm_game.proofs.Lists.{contains_first, contains_cases}
+use Rattle.gm_tiers.specs.declared.tier_error.TierError.{TierError}
+use Rattle.gm_tiers.specs.declared.tier_error.TierError.TheVariants.{OutOfMemory}
+use Rattle.gm_tiers.specs.Reach.{IsNext, IsGrown}
+use Rattle.gm_tiers.specs.Search.{Search, comes_to, Answers, EndsWith}
+use Rattle.gm_tiers.specs.Limits.{IsFoundNext, IsTooLarge}
 use Rattle.gm_tiers.proofs.SearchLemmas.{there, not_there, one_more, next_child, grown_itself, grown_again, grown_has}
 
 -- what the exit of a `?` returns is refused as what it had

@@ -38,7 +38,7 @@ abbrev pub AreMoreThan : Rules → ℕ → ℕ → Type 0
 AreMoreThan r first n = (tiers : List ℕ) × (n < length tiers) × AllPairs (λ (t u : ℕ). t ≢ u) tiers × ((t : ℕ) → Contains tiers t → IsReachedFrom r first t)
 
 -- the numbers of the errors
-abbrev pub number_of : TierError → ℕ
-number_of OutOfMemory = 1
-number_of TooManyTiers = 2
-number_of (TierTooLarge tier) = 3
+abbrev pub tier_error_number : TierError → ℕ
+tier_error_number OutOfMemory = 1
+tier_error_number TooManyTiers = 2
+tier_error_number (TierTooLarge tier) = 3

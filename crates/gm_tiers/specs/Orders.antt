@@ -6,13 +6,13 @@ use Rattle.gm_game.specs.Rules.{Rules}
 use Rattle.gm_tiers.specs.Reach.{IsReachedFrom}
 
 -- t has a smaller rank, or the same rank and a smaller number
-abbrev pub IsBefore : Rules → ℕ → ℕ → Type 0
-IsBefore r t u = (r.tier_rank t < r.tier_rank u) ⊎ ((r.tier_rank t ≡ r.tier_rank u) × (t < u))
+abbrev pub IsTierBefore : Rules → ℕ → ℕ → Type 0
+IsTierBefore r t u = (r.tier_rank t < r.tier_rank u) ⊎ ((r.tier_rank t ≡ r.tier_rank u) × (t < u))
 
 -- exactly the tiers that are reached from the first one, each before those after it, within the limits
 pub record IsOrderFrom (r : Rules) (first : ℕ) (tiers : List ℕ) : Type 0 where
   pub each : (t : ℕ) → Contains tiers t ↔ IsReachedFrom r first t
-  pub ordered : AllPairs (IsBefore r) tiers
+  pub ordered : AllPairs (IsTierBefore r) tiers
   pub few : length tiers ≤ TIERS
   pub small : (t : ℕ) → Contains tiers t → r.tier_size t ≤ TIER_SIZE
 

@@ -1,7 +1,7 @@
 //! The order of tiers.
 ghost use Rattle.std.specs.Prelude.{◌≡◌, ℕ, List, map, Ok, IfOk, OnOk, OnErr, IsErrOf, IsPermutation};
 ghost use Rattle.std.specs.List.{AllPairs};
-ghost use Rattle.gm_tiers.specs.Orders.{IsBefore, IsTierOrder, IsOrderFrom, IsSomeOrder, ComeChildrenFirst};
+ghost use Rattle.gm_tiers.specs.Orders.{IsTierBefore, IsTierOrder, IsOrderFrom, IsSomeOrder, ComeChildrenFirst};
 ghost use Rattle.gm_tiers.specs.Reach.{IsReached, IsReachedFrom};
 ghost use Rattle.gm_tiers.specs.Search.{search_of, EndsWith};
 ghost use Rattle.gm_tiers.specs.declared.tier_error.TierError.{TierError};
@@ -85,7 +85,7 @@ impl<G: Game> TierOrder<G> {
 // Lists the tiers that were found by rank and then by number. It sorts pairs, since a program then has one sort for all its games.
 fn put_in_order<G: Game>(alloc: Global, found: &IndexSet<u64>) -> Result<Vec<u64>, AllocError>
     ensures same { IfOk result (λ tiers. IsPermutation found.now.keys tiers.items) }
-    ensures ordered { IfOk result (λ tiers. AllPairs (IsBefore G.rules) tiers.items) }
+    ensures ordered { IfOk result (λ tiers. AllPairs (IsTierBefore G.rules) tiers.items) }
 {
     let mut pairs = ranked::<G>(alloc, found.as_slice())?;
     pairs.sort_unstable();

@@ -1,6 +1,6 @@
 //! Why a game has no order of tiers.
 ghost use Rattle.std.specs.Prelude.{◌≡◌};
-ghost use Rattle.gm_tiers.specs.Limits.{number_of};
+ghost use Rattle.gm_tiers.specs.Limits.{tier_error_number};
 
 use thiserror::Error;
 
@@ -18,7 +18,7 @@ pub enum TierError {
 impl TierError {
     /// Returns the number of the error.
     pub fn number(&self) -> u8
-        ensures { result ≡ number_of self.now }
+        ensures { result ≡ tier_error_number self.now }
     {
         match self {
             TierError::OutOfMemory => 1,

@@ -1,6 +1,10 @@
 -- What reading a number says of positions.
-use Rattle.gm_toys.proofs.Lower.{◌≡◌, ◌≤◌, ◌↔◌, ℕ, List, Option, Some, true, refl, sym, subst, ap, ◌∙◌, arith, decimal, Position, Rules, at, same_position}
-use Rattle.gm_toys.proofs.Lower.{subtraction, legal_in, legal_from}
+use Rattle.gm_toys.proofs.Lower.{◌≡◌, ◌↔◌, ℕ, Some, refl, sym, arith, decimal, at, same_position}
+use Rattle.std.proofs.Common.{◌≤◌, List, Option, true, subst, ap, ◌∙◌}
+use Rattle.gm_game.specs.declared.position.Position.{Position}
+use Rattle.gm_game.specs.Rules.{Rules}
+use Rattle.gm_toys.specs.Subtraction.{subtraction}
+use Rattle.gm_toys.specs.laws.SubtractionLaws.{legal_in, legal_from}
 
 -- the number up to the last with this text has been read
 abbrev pub IsReadTo : ℕ → List ℕ → Option ℕ → Type 0

@@ -2,7 +2,7 @@
 pub use Rattle.gm_board.specs.Arrangements.{arrangements}
 pub use Rattle.gm_board.specs.BoardMasks.{pattern_mask}
 pub use Rattle.gm_board.specs.Cells.{cell_at, is_empty, is_mine, is_theirs, number_of}
-pub use Rattle.gm_board.specs.Groups.{is_group_table}
+pub use Rattle.gm_board.specs.inner.Groups.{is_group_table}
 pub use Rattle.gm_board.specs.Images.{board_of}
 pub use Rattle.gm_board.specs.Patterns.{has_filled, keeps_patterns}
 pub use Rattle.gm_board.specs.Permutations.{permute}
@@ -23,8 +23,8 @@ pub use Rattle.gm_game.specs.declared.limits.TheConstants.{NAME}
 pub use Rattle.gm_game.specs.declared.position.End.{End}
 pub use Rattle.gm_game.specs.declared.position.End.TheVariants.{Lose}
 pub use Rattle.gm_game.specs.declared.position.Position.{Position}
-pub use Rattle.gm_pieces.specs.SideTexts.{board_text}
-pub use Rattle.gm_pieces.specs.Sides.{board_index, board_numbered, brought_back, gone, least_index_under}
+pub use Rattle.gm_pieces.specs.SideTexts.{cells_text}
+pub use Rattle.gm_pieces.specs.Sides.{board_index, board_numbered, brought_back, mover_gone, least_index_under}
 pub use Rattle.gm_pieces.specs.Steps.{from_point, to_point}
 pub use Rattle.gm_pieces.specs.laws.MoveLaws.{move_in}
 pub use Rattle.gm_pieces.specs.laws.SideTextFacts.{text_length}

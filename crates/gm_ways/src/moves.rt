@@ -1,8 +1,7 @@
 //! Moves along ways.
 ghost use Rattle.std.specs.Prelude.{◌≡◌, ◌&&◌, true};
 ghost use Rattle.gm_ways.specs.Lower.{is_mine, is_theirs, is_empty, cell_at, board_of};
-ghost use Rattle.gm_ways.specs.Ways.{are_joined as are_joined_of, can_move as can_move_of, moved as moved_of, can_have_led_here as was_moved_of};
-ghost use Rattle.gm_ways.specs.Ways.{undo as taken_back_of};
+ghost use Rattle.gm_ways.specs.Ways.{are_joined as are_joined_of, way_can_move as can_move_of, way_moved as moved_of, way_can_have_led_here as was_moved_of, way_undo as taken_back_of};
 
 use crate::rules::WayRules;
 use gm_pieces::board::Board;
@@ -17,7 +16,7 @@ pub fn are_joined<const POINTS: u32, T: WayRules<POINTS>>(a: u32, c: u32) -> boo
 }
 
 /// Returns whether the move with this number can be made if the game is not over.
-#[tactic(auto, using(crate::specs::laws::WayFacts::joined_from, crate::specs::laws::WayFacts::joined_to), unfolding(crate::specs::Ways::can_move))]
+#[tactic(auto, using(crate::specs::laws::WayFacts::joined_from, crate::specs::laws::WayFacts::joined_to), unfolding(crate::specs::Ways::way_can_move))]
 pub fn can_move<const POINTS: u32, T: WayRules<POINTS>>(board: Board<POINTS>, number: u32) -> bool
     ensures { result ≡ can_move_of T.game (board_of POINTS board.entry.mine board.entry.theirs) number }
 {
@@ -28,7 +27,7 @@ pub fn can_move<const POINTS: u32, T: WayRules<POINTS>>(board: Board<POINTS>, nu
 }
 
 /// Returns the board after a move, as the other side sees it.
-#[tactic(auto, using(crate::specs::laws::WayMoves::board_step), unfolding(crate::specs::Ways::moved))]
+#[tactic(auto, using(crate::specs::laws::WayMoves::board_step), unfolding(crate::specs::Ways::way_moved))]
 pub fn moved<const POINTS: u32, T: WayRules<POINTS>>(
     board: Board<POINTS>,
     number: u32,
@@ -41,7 +40,7 @@ pub fn moved<const POINTS: u32, T: WayRules<POINTS>>(
 }
 
 /// Returns whether the move with this number can have led to the board.
-#[tactic(auto, using(crate::specs::laws::WayFacts::joined_from, crate::specs::laws::WayFacts::joined_to), unfolding(crate::specs::Ways::can_have_led_here))]
+#[tactic(auto, using(crate::specs::laws::WayFacts::joined_from, crate::specs::laws::WayFacts::joined_to), unfolding(crate::specs::Ways::way_can_have_led_here))]
 pub fn can_have_led_here<const POINTS: u32, T: WayRules<POINTS>>(
     board: Board<POINTS>,
     number: u32,
@@ -54,7 +53,7 @@ pub fn can_have_led_here<const POINTS: u32, T: WayRules<POINTS>>(
 }
 
 /// Returns the board before the move with this number, as the side that made it saw it.
-#[tactic(auto, using(crate::specs::laws::WayFacts::ends, crate::specs::laws::WayMoves::led_joined, crate::specs::laws::WayMoves::was_step), unfolding(crate::specs::Ways::undo))]
+#[tactic(auto, using(crate::specs::laws::WayFacts::ends, crate::specs::laws::WayMoves::led_joined, crate::specs::laws::WayMoves::was_step), unfolding(crate::specs::Ways::way_undo))]
 pub fn undo<const POINTS: u32, T: WayRules<POINTS>>(
     board: Board<POINTS>,
     number: u32,

@@ -1,9 +1,9 @@
 //! The game that follows from the tables of a game on points.
 ghost use Rattle.std.specs.Prelude.{◌≡◌, ◌<◌, ℕ, List};
 ghost use Rattle.gm_ways.specs.Lower.{Cell, board_of};
-ghost use Rattle.gm_pieces.specs.SideTexts.{board_text as board_text_of};
+ghost use Rattle.gm_pieces.specs.SideTexts.{cells_text as board_text_of};
 ghost use Rattle.gm_ways.specs.Ways.{way_game};
-ghost use Rattle.gm_ways.specs.WayTexts.{step_text as step_text_of};
+ghost use Rattle.gm_ways.specs.WayTexts.{way_step_text as step_text_of};
 ghost use Rattle.gm_ways.specs.laws.WayLaws.{way_lawful, way_numbered, way_symmetric};
 ghost use Rattle.gm_ways.specs.laws.WayTextLaws.{way_readable};
 

@@ -7,8 +7,8 @@
 
 ghost use Rattle.std.specs.Prelude.{◌≡◌};
 ghost use Rattle.gm_engine.specs.Games.{IsFor, IsNoGame};
-ghost use Rattle.gm_engine.specs.Records.{AreTrue, bytes_of};
-ghost use Rattle.gm_engine.specs.Replies.{IsAnswered, IsText, IsOrder, IsSolved, IsSolvedGame, IsChecked, refused};
+ghost use Rattle.gm_engine.specs.Records.{AreTrueTiers, bytes_of};
+ghost use Rattle.gm_engine.specs.Replies.{IsAskAnswered, IsText, IsOrder, IsSolved, IsSolvedGame, IsChecked, refused};
 
 use gm_engine::games;
 use std::alloc::Global;
@@ -60,7 +60,7 @@ pub extern "C" fn web_solve(
     tier: u64,
     out: &mut [u8],
 ) -> u64
-    requires known { IsFor game (λ g. AreTrue g.rules g.width solved.now records.now) }
+    requires known { IsFor game (λ g. AreTrueTiers g.rules g.width solved.now records.now) }
     ensures solved { IsFor game (λ g. IsSolved g solved.now tier out.old out.new result) }
     ensures none { IsNoGame game → result ≡ refused }
 {
@@ -88,8 +88,8 @@ pub extern "C" fn web_ask(
     lines: &[u8],
     out: &mut [u8],
 ) -> u64
-    requires known { IsFor game (λ g. AreTrue g.rules g.width solved.now records.now) }
-    ensures answered { IsFor game (λ g. IsAnswered g asked solved.now lines.now out.old out.new result) }
+    requires known { IsFor game (λ g. AreTrueTiers g.rules g.width solved.now records.now) }
+    ensures answered { IsFor game (λ g. IsAskAnswered g asked solved.now lines.now out.old out.new result) }
     ensures none { IsNoGame game → result ≡ refused }
 {
     games::ask(alloc, game, solved, records, asked, lines, out)

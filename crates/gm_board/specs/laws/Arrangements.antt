@@ -1,7 +1,11 @@
 -- What follows from the definitions of specs/Arrangements.antt.
-use Rattle.gm_board.specs.laws.Lower.{div-mul-add, mod-mul-add, mul-lt, mod-add-div', Cell, Empty, Mine, Theirs, binomial, members, rank, unrank}
-use Rattle.std.proofs.Common.{◌≡◌, ℕ, zero, suc, ◌+◌, ◌-◌, ◌*◌, ◌/◌, ◌%◌, ◌<◌, ◌≤◌, Bool, true, false, List, [], ◌∷◌, length, refl, sym, ap, ◌∙◌, subst, arith}
-use Rattle.std.proofs.Common.{mul-le-mul_right, mod-lt, mul-zero, ◌^◌, div-lt_iff_lt-mul}
+use Rattle.std.proofs.lemmas.Nat.{div-mul-add, mod-mul-add, mul-lt}
+use Rattle.std.proofs.Math.Nat.{mod-add-div'}
+use Rattle.gm_board.specs.declared.cell.Cell.{Cell}
+use Rattle.gm_board.specs.declared.cell.Cell.TheVariants.{Empty, Mine, Theirs}
+use Rattle.gm_board.specs.Binomials.{binomial}
+use Rattle.gm_board.specs.Ranks.{members, rank, unrank}
+use Rattle.std.proofs.Common.{◌≡◌, ℕ, zero, suc, ◌+◌, ◌-◌, ◌*◌, ◌/◌, ◌%◌, ◌<◌, ◌≤◌, Bool, true, false, List, [], ◌∷◌, length, refl, sym, ap, ◌∙◌, subst, arith, mul-le-mul_right, mod-lt, mul-zero, ◌^◌, div-lt_iff_lt-mul}
 use Rattle.gm_board.specs.laws.Binomials.{binomial_small}
 use Rattle.gm_board.specs.laws.Ranks.{members_le, rank_below, unrank_length, unrank_members, rank_unrank, unrank_rank}
 use Rattle.gm_board.specs.Arrangements.{mine_bits, their_bits, merge, arrangement_index, arrangement, arrangements, IsArrangement}

@@ -1,5 +1,5 @@
 -- What follows from the definitions of specs/Binomials.antt.
-use Rattle.gm_board.specs.laws.Lower.{pow_mono}
+use Rattle.std.proofs.Math.Pow.{pow_mono}
 use Rattle.std.proofs.Common.{◌≡◌, ℕ, zero, suc, ◌+◌, ◌^◌, ◌<◌, ◌≤◌, refl, arith, pow_pos, pow-suc}
 use Rattle.gm_board.specs.Binomials.{binomial}
 

@@ -1,10 +1,17 @@
 -- What follows from the definitions of specs/BoardMasks.antt.
-use Rattle.gm_board.specs.laws.Lower.{bit_and, bit_at, Contains, list_all, list_any, cases_eq, ext_get_or, get_or-map, length-map, bit_at-lt, bit_at-zero}
-use Rattle.gm_board.specs.laws.Lower.{bit_at_and, bit_at_or, bit_at-pow_same, bit_at-pow_other, same_from_bits, Cell, Empty, has_cell, cell_by, AreApart}
-use Rattle.gm_board.specs.laws.Lower.{board_of, turned, pattern_mask}
-use Rattle.std.proofs.Common.{◌≡◌, ◌≢◌, ℕ, ◌^◌, ◌<◌, min, max, Bool, true, false, ◌||◌, eqb, eqb-true, eq-eqb, List, [], ◌∷◌, map, get_or, set, refl, sym, ap}
-use Rattle.std.proofs.Common.{ap₂, ◌∙◌, subst, arith, inl, inr, length-set, get_or-set_same, get_or-set_other}
-use Rattle.std.specs.Prelude.{◌↔◌}
+use Rattle.std.specs.Prelude.{bit_and, ◌↔◌}
+use Rattle.std.specs.Int.{bit_at}
+use Rattle.std.specs.List.{Contains, list_all, list_any}
+use Rattle.std.proofs.lemmas.Bool.{cases_eq}
+use Rattle.std.proofs.lemmas.List.{ext_get_or, get_or-map, length-map}
+use Rattle.std.proofs.lemmas.Nat.Bits.{bit_at-lt, bit_at-zero, bit_at_and, bit_at_or, bit_at-pow_same, bit_at-pow_other, same_from_bits}
+use Rattle.gm_board.specs.declared.cell.Cell.{Cell}
+use Rattle.gm_board.specs.declared.cell.Cell.TheVariants.{Empty}
+use Rattle.gm_board.specs.Masks.{has_cell}
+use Rattle.gm_board.specs.Pieces.{cell_by, AreApart}
+use Rattle.gm_board.specs.Images.{board_of}
+use Rattle.gm_board.specs.BoardMasks.{turned, pattern_mask}
+use Rattle.std.proofs.Common.{◌≡◌, ◌≢◌, ℕ, ◌^◌, ◌<◌, min, max, Bool, true, false, ◌||◌, eqb, eqb-true, eq-eqb, List, [], ◌∷◌, map, get_or, set, refl, sym, ap, ap₂, ◌∙◌, subst, arith, inl, inr, length-set, get_or-set_same, get_or-set_other}
 use Rattle.gm_board.specs.laws.Lists.{contains_head, contains_later, contains_cases, all_from}
 use Rattle.gm_board.specs.laws.Masks.{bit_cases}
 use Rattle.gm_board.specs.laws.Patterns.{same_tests}

@@ -1,5 +1,6 @@
 -- The texts of the cells of a square tell them apart.
-use Rattle.gm_board.specs.laws.Lower.{div-add-mod, cell_text}
+use Rattle.std.proofs.Math.Nat.{div-add-mod}
+use Rattle.gm_board.specs.Squares.{cell_text}
 use Rattle.std.proofs.Common.{◌≡◌, ℕ, ◌+◌, ◌*◌, ◌/◌, ◌%◌, ◌∷◌, ◌++◌, sym, ap₂, ◌∙◌, arith}
 
 point_once : (s j k : ℕ) → 97 + j / s ≡ 97 + k / s → 49 + j % s ≡ 49 + k % s → j ≡ k

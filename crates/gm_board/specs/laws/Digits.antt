@@ -1,7 +1,7 @@
 -- What follows from the definitions of specs/Digits.antt.
-use Rattle.gm_board.specs.laws.Lower.{div-mul-add, mod-mul-add}
+use Rattle.std.proofs.lemmas.Nat.{div-mul-add, mod-mul-add}
 use Rattle.std.proofs.Common.{◌≡◌, ℕ, suc, ◌+◌, ◌*◌, ◌<◌, ◌≤◌, List, [], ◌∷◌, length, refl, ap, ap₂, ◌∙◌, arith, mul-le-mul_right}
-use Rattle.gm_board.specs.Digits.{radix_size, digits_number, number_digits, AreBelow}
+use Rattle.gm_board.specs.inner.Digits.{radix_size, digits_number, number_digits, AreBelow}
 
 -- a digit with the number of the digits after it is below the product
 pub digit_below : (r d s i : ℕ) → d < r → i < s → d * s + i < r * s

@@ -1,8 +1,10 @@
 -- Lists of numbers that pass a test, and what comes of them: how many, and one number at a time.
-use Rattle.gm_board.specs.laws.Lower.{Contains, list_any, filter, filter_map, cons_option, range_with_len, cases_Bool, cond_both, true≢false, append-nil}
-use Rattle.gm_board.specs.laws.Lower.{length-append, filter-append, filter_map-append, length-range_with_len, get_or-range_with_len}
-use Rattle.std.proofs.Common.{◌≡◌, ℕ, zero, suc, ◌+◌, ◌-◌, ◌<◌, ◌≤◌, Bool, true, false, eqb, eqb-true, eq-eqb, cond, List, [], ◌∷◌, ◌++◌, length, get_or}
-use Rattle.std.proofs.Common.{Option, None, Some, refl, sym, ap, ◌∙◌, subst, arith, inl, inr}
+use Rattle.std.specs.List.{Contains, list_any, filter, filter_map, cons_option, range_with_len}
+use Rattle.std.proofs.lemmas.Bool.{cases_Bool, cond_both, true≢false}
+use Rattle.std.proofs.lemmas.List.{append-nil, length-append}
+use Rattle.std.proofs.lemmas.List.Elements.{filter-append, filter_map-append}
+use Rattle.std.proofs.lemmas.List.FromFn.{length-range_with_len, get_or-range_with_len}
+use Rattle.std.proofs.Common.{◌≡◌, ℕ, zero, suc, ◌+◌, ◌-◌, ◌<◌, ◌≤◌, Bool, true, false, eqb, eqb-true, eq-eqb, cond, List, [], ◌∷◌, ◌++◌, length, get_or, Option, None, Some, refl, sym, ap, ◌∙◌, subst, arith, inl, inr}
 use Rattle.std.specs.Prelude.{◌↔◌, IsTrue}
 use Rattle.gm_board.specs.laws.Lists.{contains_head, range_more}
 use Rattle.gm_board.specs.laws.Groups.{any_at}

@@ -1,8 +1,9 @@
 -- Steps over lists: what is in them, the least of a list, ranges and filters.
-use Rattle.gm_board.specs.laws.Lower.{get_or-map, length-map, Contains-get_or, map-id, map-range_with_len_more, length-range_with_len, get_or-range_with_len}
-use Rattle.gm_board.specs.laws.Lower.{Contains, list_all, fold, filter, filter_map, cons_option, range_with_len}
-use Rattle.std.proofs.Common.{◌≡◌, ℕ, zero, suc, ◌+◌, ◌<◌, ◌≤◌, min, Bool, true, false, ◌&&◌, cond, if◌then◌else◌, List, [], ◌∷◌, ◌++◌, map, Option, None, Some}
-use Rattle.std.proofs.Common.{zero-add, length, get_or, ◌⊎◌, inl, inr, refl, sym, ap, ◌∙◌, subst, arith}
+use Rattle.std.proofs.lemmas.List.{get_or-map, length-map, map-id}
+use Rattle.std.proofs.lemmas.List.Elements.{Contains-get_or}
+use Rattle.std.proofs.lemmas.List.FromFn.{map-range_with_len_more, length-range_with_len, get_or-range_with_len}
+use Rattle.std.specs.List.{Contains, list_all, fold, filter, filter_map, cons_option, range_with_len}
+use Rattle.std.proofs.Common.{◌≡◌, ℕ, zero, suc, ◌+◌, ◌<◌, ◌≤◌, min, Bool, true, false, ◌&&◌, cond, if◌then◌else◌, List, [], ◌∷◌, ◌++◌, map, Option, None, Some, zero-add, length, get_or, ◌⊎◌, inl, inr, refl, sym, ap, ◌∙◌, subst, arith}
 pub use Rattle.std.proofs.Math.Bool.{and-true as and_true, and-false as and_false}
 pub use Rattle.std.proofs.lemmas.Bool.{and_from as and_both}
 

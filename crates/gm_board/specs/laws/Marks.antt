@@ -1,7 +1,10 @@
 -- Texts that have a byte for each cell: they tell boards apart. And marks: the mask of the cells at which a text has a byte, read one cell after the other.
-use Rattle.gm_board.specs.laws.Lower.{bit_and, bit_or, cases_eq, le-ltb, nat_tests, bit_at-zero, bit_at_set_same, bit_at_set_other, has_cell}
-use Rattle.std.proofs.Common.{◌≡◌, ◌≢◌, ℕ, ◌+◌, ◌*◌, ◌%◌, ◌^◌, ◌<◌, w32, Bool, true, false, ◌&&◌, eqb, ltb, lt-ltb, List, [], ◌∷◌, map, get_or, refl, sym, ap}
-use Rattle.std.proofs.Common.{ap₂, ◌∙◌, arith, inl, inr, eq-eqb}
+use Rattle.std.specs.Prelude.{bit_and, bit_or}
+use Rattle.std.proofs.lemmas.Bool.{cases_eq, le-ltb}
+use Rattle.std.proofs.lemmas.Bool.Decides.{nat_tests}
+use Rattle.std.proofs.lemmas.Nat.Bits.{bit_at-zero, bit_at_set_same, bit_at_set_other}
+use Rattle.gm_board.specs.Masks.{has_cell}
+use Rattle.std.proofs.Common.{◌≡◌, ◌≢◌, ℕ, ◌+◌, ◌*◌, ◌%◌, ◌^◌, ◌<◌, w32, Bool, true, false, ◌&&◌, eqb, ltb, lt-ltb, List, [], ◌∷◌, map, get_or, refl, sym, ap, ap₂, ◌∙◌, arith, inl, inr, eq-eqb}
 use Rattle.gm_board.specs.laws.MaskChanges.{has_and, has_none}
 
 -- ---- boards and their bytes

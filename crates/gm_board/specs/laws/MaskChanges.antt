@@ -1,8 +1,14 @@
 -- Masks that are made of masks: the cells of both and of either, a cell more, a cell less, and patterns of cells below n.
-use Rattle.gm_board.specs.laws.Lower.{bit_and, bit_or, bit_at, bit_not, Contains, list_all, list_any, pow-lt, cases_eq, nat_tests, or_lt, and_le_l, one_shl}
-use Rattle.gm_board.specs.laws.Lower.{bit_at-lt, bit_at-zero, bit_at_and, bit_at_or, bit_at_not, bit_at_set_other, same_from_bits, has_cell}
-use Rattle.std.proofs.Common.{◌≡◌, ℕ, ◌-◌, ◌*◌, ◌%◌, ◌^◌, ◌<◌, ◌≤◌, min, max, w32, Bool, true, false, not, ◌&&◌, ◌||◌, eqb, ltb, ltb-true, List, [], ◌∷◌, refl}
-use Rattle.std.proofs.Common.{sym, ap, ap₂, ◌∙◌, subst, arith, inl, inr}
+use Rattle.std.specs.Prelude.{bit_and, bit_or}
+use Rattle.std.specs.Int.{bit_at, bit_not}
+use Rattle.std.specs.List.{Contains, list_all, list_any}
+use Rattle.std.proofs.Math.Pow.{pow-lt}
+use Rattle.std.proofs.lemmas.Bool.{cases_eq}
+use Rattle.std.proofs.lemmas.Bool.Decides.{nat_tests}
+use Rattle.std.proofs.lemmas.Nat.{or_lt, and_le_l, one_shl}
+use Rattle.std.proofs.lemmas.Nat.Bits.{bit_at-lt, bit_at-zero, bit_at_and, bit_at_or, bit_at_not, bit_at_set_other, same_from_bits}
+use Rattle.gm_board.specs.Masks.{has_cell}
+use Rattle.std.proofs.Common.{◌≡◌, ℕ, ◌-◌, ◌*◌, ◌%◌, ◌^◌, ◌<◌, ◌≤◌, min, max, w32, Bool, true, false, not, ◌&&◌, ◌||◌, eqb, ltb, ltb-true, List, [], ◌∷◌, refl, sym, ap, ap₂, ◌∙◌, subst, arith, inl, inr}
 use Rattle.gm_board.specs.laws.Lists.{contains_head, contains_later}
 use Rattle.gm_board.specs.laws.Permutations.{all_at}
 

@@ -1,11 +1,15 @@
 -- What follows from the definitions of specs/Masks.antt.
-use Rattle.gm_board.specs.laws.Lower.{count_ones, bit_at, mod-eq_of_lt, mod_below, mod-pow-add, ones_cat, bit_at-lt, bit_at_cat_low, bit_at_cat_high}
-use Rattle.gm_board.specs.laws.Lower.{bit_at_above, binomial, members, rank, unrank, has_cell, mask_of, weight}
-use Rattle.std.proofs.Common.{◌≡◌, ℕ, zero, suc, ◌+◌, ◌-◌, ◌*◌, ◌%◌, ◌^◌, ◌<◌, ◌≤◌, Bool, true, false, eqb, List, [], ◌∷◌, length, refl, sym, ap, ap₂, ◌∙◌}
-use Rattle.std.proofs.Common.{subst, arith, ◌⊎◌, inl, inr, pow_pos, pow-suc}
+use Rattle.std.specs.Prelude.{count_ones}
+use Rattle.std.specs.Int.{bit_at}
+use Rattle.std.proofs.Math.Nat.{mod-eq_of_lt}
+use Rattle.std.proofs.lemmas.Nat.{mod_below, mod-pow-add, ones_cat}
+use Rattle.std.proofs.lemmas.Nat.Bits.{bit_at-lt, bit_at_cat_low, bit_at_cat_high, bit_at_above}
+use Rattle.gm_board.specs.Binomials.{binomial}
+use Rattle.gm_board.specs.Ranks.{members, rank, unrank}
+use Rattle.gm_board.specs.Masks.{has_cell, mask_of, bit_weight, tests_of, mask_rank, mask_unrank}
+use Rattle.std.proofs.Common.{◌≡◌, ℕ, zero, suc, ◌+◌, ◌-◌, ◌*◌, ◌%◌, ◌^◌, ◌<◌, ◌≤◌, Bool, true, false, eqb, List, [], ◌∷◌, length, refl, sym, ap, ap₂, ◌∙◌, subst, arith, ◌⊎◌, inl, inr, pow_pos, pow-suc}
 use Rattle.std.specs.Int.Count.{ones}
 use Rattle.gm_board.specs.laws.Ranks.{rank_below, unrank_rank, unrank_length, unrank_members, rank_unrank}
-use Rattle.gm_board.specs.Masks.{tests_of, mask_rank, mask_unrank}
 
 -- without cells there are no tests
 pub tests_none : (m : ℕ) → tests_of 0 m ≡ []
@@ -30,7 +34,7 @@ mask_below (true ∷ bs) = omega (arith, mask_below bs, pow-suc 2 (length bs))
 mask_below (false ∷ bs) = omega (arith, mask_below bs, pow-suc 2 (length bs))
 
 -- the mask with one more cell, by its weight
-pub mask_cons : (b : Bool) (bs : List Bool) → mask_of (b ∷ bs) ≡ weight b * 2 ^ length bs + mask_of bs
+pub mask_cons : (b : Bool) (bs : List Bool) → mask_of (b ∷ bs) ≡ bit_weight b * 2 ^ length bs + mask_of bs
 mask_cons true bs = omega arith
 mask_cons false bs = omega arith
 
@@ -39,7 +43,7 @@ pub bit_cases : (v : ℕ) → v < 2 → (v ≡ 0) ⊎ (v ≡ 1)
 bit_cases v l = grind arith
 
 -- the test of a bit, and its weight
-pub weight_bit : (m c : ℕ) → weight (has_cell m c) ≡ bit_at m c
+pub weight_bit : (m c : ℕ) → bit_weight (has_cell m c) ≡ bit_at m c
 weight_bit m c = elim (bit_cases (bit_at m c) (bit_at-lt m c)) [
   | inl e ↦ rw e refl
   | inr e ↦ rw e refl
@@ -73,15 +77,15 @@ pub tests_mask : (bs : List Bool) → tests_of (length bs) (mask_of bs) ≡ bs
 tests_mask [] = tests_none 0
 tests_mask (b ∷ bs) =
     let n = length bs in
-    let e : mask_of (b ∷ bs) ≡ weight b * 2 ^ n + mask_of bs = mask_cons b bs in
+    let e : mask_of (b ∷ bs) ≡ bit_weight b * 2 ^ n + mask_of bs = mask_cons b bs in
     ap (tests_of (suc n)) e
-    ∙ tests_more n (weight b * 2 ^ n + mask_of bs)
+    ∙ tests_more n (bit_weight b * 2 ^ n + mask_of bs)
     ∙ ap₂ (λ (t : Bool) (ts : List Bool). t ∷ ts)
-    (ap (λ (v : ℕ). eqb v 1) (bit_at_cat_high (weight b) n (mask_of bs) n (mask_below bs) (omega arith) ∙ ap (bit_at (weight b))
+    (ap (λ (v : ℕ). eqb v 1) (bit_at_cat_high (bit_weight b) n (mask_of bs) n (mask_below bs) (omega arith) ∙ ap (bit_at (bit_weight b))
     (let z : n - n ≡ 0 = omega arith in z)) ∙ head b)
-    (tests_same n (weight b * 2 ^ n + mask_of bs) (mask_of bs) (λ i l. bit_at_cat_low (weight b) n (mask_of bs) i l) ∙ tests_mask bs)
+    (tests_same n (bit_weight b * 2 ^ n + mask_of bs) (mask_of bs) (λ i l. bit_at_cat_low (bit_weight b) n (mask_of bs) i l) ∙ tests_mask bs)
   where
-    head : (b : Bool) → eqb (bit_at (weight b) 0) 1 ≡ b
+    head : (b : Bool) → eqb (bit_at (bit_weight b) 0) 1 ≡ b
     head true = refl
     head false = refl
 
@@ -133,7 +137,7 @@ members_ones (suc n) m =
     ∙ sym (ones_cat n (bit_at m n) (m % 2 ^ n) (mod_below m (2 ^ n) (pow_pos n)))
     ∙ ap count_ones (sym (mod-pow-add m 1 n) ∙ ap (λ (k : ℕ). m % 2 ^ k) (let e : 1 + n ≡ suc n = omega arith in e))
   where
-    counted : (b : Bool) (bs : List Bool) → members (b ∷ bs) ≡ count_ones (weight b) + members bs
+    counted : (b : Bool) (bs : List Bool) → members (b ∷ bs) ≡ count_ones (bit_weight b) + members bs
     counted true bs = omega arith
     counted false bs = omega arith
 

@@ -1,8 +1,11 @@
 -- What follows from the definitions of specs/NextCells.antt.
-use Rattle.gm_board.specs.laws.Lower.{bit_at, trailing_zeros, cases_lt, shr-shr, shr_split, mod_below, bit_at-trailing_zeros, bit_at_above, has_cell}
+use Rattle.std.specs.Int.{bit_at, trailing_zeros, w32}
+use Rattle.std.proofs.lemmas.Bool.{cases_lt}
+use Rattle.std.proofs.lemmas.Nat.{shr-shr, shr_split, mod_below}
+use Rattle.std.proofs.lemmas.Nat.Bits.{bit_at-trailing_zeros, bit_at_above}
+use Rattle.gm_board.specs.Masks.{has_cell}
 use Rattle.std.proofs.Common.{◌≡◌, ℕ, ◌+◌, ◌*◌, ◌/◌, ◌%◌, ◌^◌, ◌<◌, ◌≤◌, true, false, refl, sym, ap, ◌∙◌, arith, inl, inr, pow_pos}
-use Rattle.std.specs.Int.{w32}
-use Rattle.gm_board.specs.NextCells.{IsNext}
+use Rattle.gm_board.specs.inner.NextCells.{IsNext}
 
 -- a bit that is set is a cell, and one that is not is none
 pub cell_one : (m c : ℕ) → bit_at m c ≡ 1 → has_cell m c ≡ true

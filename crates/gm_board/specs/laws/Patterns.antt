@@ -1,7 +1,8 @@
 -- What follows from the definitions of specs/Patterns.antt.
-use Rattle.gm_board.specs.laws.Lower.{Contains, list_any, list_all, permute, same_list, IsGroup}
-use Rattle.std.proofs.Common.{◌≡◌, ℕ, ◌<◌, Bool, true, false, ◌&&◌, ◌||◌, ltb, List, [], ◌∷◌, length, get_or, refl, sym, ap, ap₂, ◌∙◌, subst, arith, inl}
-use Rattle.std.proofs.Common.{inr, ltb-true}
+use Rattle.std.specs.List.{Contains, list_any, list_all}
+use Rattle.gm_board.specs.Permutations.{permute, same_list}
+use Rattle.gm_board.specs.inner.Groups.{IsGroup}
+use Rattle.std.proofs.Common.{◌≡◌, ℕ, ◌<◌, Bool, true, false, ◌&&◌, ◌||◌, ltb, List, [], ◌∷◌, length, get_or, refl, sym, ap, ap₂, ◌∙◌, subst, arith, inl, inr, ltb-true}
 use Rattle.gm_board.specs.laws.Lists.{contains_cases, and_left, and_right}
 use Rattle.gm_board.specs.laws.Permutations.{same_list_true, all_at, permute_get}
 use Rattle.gm_board.specs.laws.Groups.{any_at, group_length, image_back}

@@ -1,12 +1,17 @@
 -- What follows from the definitions of specs/Pieces.antt.
-use Rattle.gm_board.specs.laws.Lower.{bit_and, bit_at, and_block, bit_at-lt, bit_at_and, bit_at-zero, Cell, Empty, Mine, Theirs, members, has_cell, tests_of}
-use Rattle.gm_board.specs.laws.Lower.{mask_of, weight, cell_by, HasPieces, their_tests, AreApart}
-use Rattle.std.proofs.Common.{◌≡◌, ℕ, zero, suc, ◌+◌, ◌-◌, ◌*◌, ◌^◌, ◌<◌, min, Bool, true, false, eqb, List, [], ◌∷◌, length, refl, sym, ap, ap₂, ◌∙◌, subst}
-use Rattle.std.proofs.Common.{arith}
+use Rattle.std.specs.Prelude.{bit_and}
+use Rattle.std.specs.Int.{bit_at}
+use Rattle.std.proofs.lemmas.Nat.{and_block}
+use Rattle.std.proofs.lemmas.Nat.Bits.{bit_at-lt, bit_at_and, bit_at-zero}
+use Rattle.gm_board.specs.declared.cell.Cell.{Cell}
+use Rattle.gm_board.specs.declared.cell.Cell.TheVariants.{Empty, Mine, Theirs}
+use Rattle.gm_board.specs.Ranks.{members}
+use Rattle.gm_board.specs.Masks.{has_cell, tests_of, mask_of, bit_weight}
+use Rattle.gm_board.specs.Pieces.{cell_by, HasPieces, their_tests, AreApart, cells_of, mine_mask, their_mask}
+use Rattle.std.proofs.Common.{◌≡◌, ℕ, zero, suc, ◌+◌, ◌-◌, ◌*◌, ◌^◌, ◌<◌, min, Bool, true, false, eqb, List, [], ◌∷◌, length, refl, sym, ap, ap₂, ◌∙◌, subst, arith}
 use Rattle.gm_board.specs.laws.Masks.{mask_cons, tests_none, tests_more, mask_below, mask_tests_small, tests_mask, members_small}
 use Rattle.gm_board.specs.Arrangements.{mine_bits, their_bits, arrangement_index, arrangement, arrangements}
 use Rattle.gm_board.specs.laws.Arrangements.{arrangement_is, index_below_at, back_at, mine_bits_length, their_bits_free}
-use Rattle.gm_board.specs.Pieces.{cells_of, mine_mask, their_mask}
 
 -- a board without cells is empty
 pub cells_none : (mine theirs : ℕ) → cells_of 0 mine theirs ≡ []
@@ -117,11 +122,12 @@ mask_within : (n : ℕ) (bs : List Bool) → length bs ≡ n → mask_of bs < 2 
 mask_within n bs e = subst (λ (k : ℕ). mask_of bs < 2 ^ k) e (mask_below bs)
 
 -- the masks of a board have no cell in common
-apart_cons : (a b : Bool) (xs bs : List Bool) → length xs ≡ length bs → bit_and (weight a) (weight b) ≡ 0 → bit_and (mask_of xs) (mask_of bs) ≡ 0
+apart_cons : (a b : Bool) (xs bs : List Bool) → length xs ≡ length bs → bit_and (bit_weight a) (bit_weight b) ≡ 0 → bit_and (mask_of xs) (mask_of bs) ≡ 0
     → bit_and (mask_of (a ∷ xs)) (mask_of (b ∷ bs)) ≡ 0
 apart_cons a b xs bs e f g =
-    ap₂ bit_and (mask_cons a xs) (mask_cons b bs ∙ ap (λ (k : ℕ). weight b * 2 ^ k + mask_of bs) (sym e))
-    ∙ and_block (length xs) (weight a) (weight b) (mask_of xs) (mask_of bs) (mask_below xs) (subst (λ (k : ℕ). mask_of bs < 2 ^ k) (sym e) (mask_below bs))
+    ap₂ bit_and (mask_cons a xs) (mask_cons b bs ∙ ap (λ (k : ℕ). bit_weight b * 2 ^ k + mask_of bs) (sym e))
+    ∙ and_block (length xs) (bit_weight a) (bit_weight b) (mask_of xs) (mask_of bs) (mask_below xs)
+    (subst (λ (k : ℕ). mask_of bs < 2 ^ k) (sym e) (mask_below bs))
     ∙ ap₂ (λ (x y : ℕ). x * 2 ^ length xs + y) f g
     ∙ (let z : 0 * 2 ^ length xs + 0 ≡ 0 = omega arith in z)
 

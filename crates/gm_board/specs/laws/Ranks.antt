@@ -1,5 +1,8 @@
 -- What follows from the definitions of specs/Ranks.antt.
-use Rattle.gm_board.specs.laws.Lower.{nat_tests, cases_lt, binomial, members, rank, unrank}
+use Rattle.std.proofs.lemmas.Bool.Decides.{nat_tests}
+use Rattle.std.proofs.lemmas.Bool.{cases_lt}
+use Rattle.gm_board.specs.Binomials.{binomial}
+use Rattle.gm_board.specs.Ranks.{members, rank, unrank}
 use Rattle.std.proofs.Common.{◌≡◌, ℕ, zero, suc, ◌-◌, ◌<◌, ◌≤◌, Bool, true, false, ltb, List, [], ◌∷◌, length, refl, ap, ◌∙◌, lt-ltb, arith, inl, inr}
 use Rattle.gm_board.specs.laws.Binomials.{binomial_zero, binomial_none, pascal, binomial_grows}
 

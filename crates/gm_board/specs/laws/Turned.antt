@@ -1,5 +1,8 @@
 -- Boards with the sides exchanged.
-use Rattle.gm_board.specs.laws.Lower.{Cell, Empty, Mine, Theirs, turned, permute}
+use Rattle.gm_board.specs.declared.cell.Cell.{Cell}
+use Rattle.gm_board.specs.declared.cell.Cell.TheVariants.{Empty, Mine, Theirs}
+use Rattle.gm_board.specs.BoardMasks.{turned}
+use Rattle.gm_board.specs.Permutations.{permute}
 use Rattle.std.proofs.Common.{◌≡◌, ℕ, List, [], ◌∷◌, map, get_or, refl, ap, ap₂, ◌∙◌}
 use Rattle.std.proofs.Math.ListN.{get_or-map}
 

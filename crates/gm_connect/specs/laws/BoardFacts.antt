@@ -1,9 +1,6 @@
 -- Boards of Connect Four: legal boards and images.
 use Rattle.std.specs.Prelude.{◌≡◌, ◌+◌, ◌/◌, ◌<◌, ◌≤◌, ◌||◌, ◌↔◌}
-use Rattle.gm_pieces.specs.Common.{ℕ, Bool, true, false, not, List, length, get_or, refl, sym, ap, ap₂, ◌∙◌, arith, inl, inr, cond, eqb, eqb-true, eq-eqb, leb, leb-true}
-use Rattle.gm_pieces.specs.Common.{le-leb, ltb, lt-ltb, Contains, not-true, true≢false, cases_lt, cases_Bool, nat_tests, or_right, range_with_len, all_at, all_from, contains_range, range_below}
-use Rattle.gm_pieces.specs.Common.{Cell, Empty, Mine, Theirs, and_left, and_right, and_both, IsGroup, IsPermutationOf, group_from_table, image_length, filled_image, permute, is_mine, is_theirs, is_empty}
-use Rattle.gm_pieces.specs.Common.{is_taken, cell_at, image_number, image_cell}
+use Rattle.gm_pieces.specs.Common.{ℕ, Bool, true, false, not, List, length, get_or, refl, sym, ap, ap₂, ◌∙◌, arith, inl, inr, cond, eqb, eqb-true, eq-eqb, leb, leb-true, le-leb, ltb, lt-ltb, Contains, not-true, true≢false, cases_lt, cases_Bool, nat_tests, or_right, range_with_len, all_at, all_from, contains_range, range_below, Cell, Empty, Mine, Theirs, and_left, and_right, and_both, IsGroup, IsPermutationOf, group_from_table, image_length, filled_image, permute, is_mine, is_theirs, is_empty, is_taken, cell_at, image_number, image_cell}
 use Rattle.gm_board.specs.laws.Groups.{group_permutation}
 use Rattle.gm_board.specs.laws.Permutations.{below_at}
 use Rattle.gm_stacks.specs.Stacks.{IsStacked, has_piece, mirror}

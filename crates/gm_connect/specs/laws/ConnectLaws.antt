@@ -1,8 +1,6 @@
 -- Connect Four has the laws of a game.
 use Rattle.std.specs.Prelude.{◌≡◌, ◌+◌, ◌/◌, ◌^◌, ◌<◌, ◌≤◌, ◌∷◌}
-use Rattle.gm_pieces.specs.Common.{ℕ, Bool, List, [], length, refl, sym, ap, ◌∙◌, subst, arith, inr, ltb, ltb-true, leb, leb-true, le-leb, cond-true, cond_both, lone_in}
-use Rattle.gm_pieces.specs.Common.{IsAscending, IsNumbered, Empty, not, filter, range_with_len, length-range_with_len, steps, board_game, IsMoveGame, IsMoveSymmetric}
-use Rattle.gm_pieces.specs.Common.{permuted_group, replicate, position_of, at, ap₂, Cell, least_index, min, permute}
+use Rattle.gm_pieces.specs.Common.{ℕ, Bool, List, [], length, refl, sym, ap, ◌∙◌, subst, arith, inr, ltb, ltb-true, leb, leb-true, le-leb, cond-true, cond_both, lone_in, IsAscending, IsNumbered, Empty, not, filter, range_with_len, length-range_with_len, steps, board_game, IsMoveGame, IsMoveSymmetric, permuted_group, replicate, position_of, at, ap₂, Cell, least_index, min, permute}
 use Rattle.std.proofs.lemmas.List.Filters.{length-filter_both}
 use Rattle.gm_board.specs.laws.Permutations.{permute_identity}
 use Rattle.gm_stacks.specs.Stacks.{stacked_boards, mirror}

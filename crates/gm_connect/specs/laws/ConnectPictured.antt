@@ -3,7 +3,7 @@ use Rattle.std.proofs.Common.{◌≡◌, ℕ, ◌<◌, true, map, refl, subst, �
 use Rattle.std.proofs.lemmas.Bool.{cond-true}
 use Rattle.std.specs.List.{range_with_len}
 use Rattle.gm_game.proofs.BoardLaws.{legal_board}
-use Rattle.gm_pieces.specs.Common.{arith, move_in, inl, lt-ltb, Contains, board_game, board_text, text_length, IsShown, texts_are_shown}
+use Rattle.gm_pieces.specs.Common.{arith, move_in, inl, lt-ltb, Contains, board_game, cells_text, text_length, IsShown, texts_are_shown}
 use Rattle.gm_pieces.specs.MoveGames.{move_rules}
 use Rattle.gm_draw.specs.Pictured.{IsMoveWord, IsPictured}
 use Rattle.gm_draw.specs.laws.Points.{named_point}
@@ -34,7 +34,7 @@ step_word s c low =
     (named_point (cell_name s) (cells s) c (omega (arith, low, few))))
 
 shown : (s : Size) → IsShown (move_rules (connect_four s)) (position_text s) (λ p c. step_text c)
-shown s = texts_are_shown (connect_four s) board_text (λ t c. step_text c) (numbered s) (readable s)
+shown s = texts_are_shown (connect_four s) cells_text (λ t c. step_text c) (numbered s) (readable s)
 
 pub connect_pictured : (s : Size) → IsPictured (move_rules (connect_four s)) (position_text s) (λ p c. step_text c) (connect_picture s)
 connect_pictured s = pictured_by (move_rules (connect_four s)) (position_text s) (λ p c. step_text c) (cells s) (connect_picture s) (set s) (shown s)

@@ -1,8 +1,6 @@
 -- A piece that comes to lie on a cell: the pieces still stand on one another, and the cell is known from its column.
 use Rattle.std.specs.Prelude.{◌≡◌, ◌+◌, ◌-◌, ◌*◌, ◌/◌, ◌%◌, ◌<◌, ◌≤◌, ◌≢◌, ◌||◌}
-use Rattle.gm_pieces.specs.Common.{ℕ, Bool, true, false, List, map, length, set, inl, inr, refl, sym, ap, ap₂, ◌∙◌, arith, leb, leb-true, le-leb, ltb, lt-ltb, get_or_past}
-use Rattle.gm_pieces.specs.Common.{cases_eq, cases_lt, or_cases, or_right, get_or-set_same, get_or-set_other, true≢false, Cell, Empty, Mine, Theirs, turned, cell_at, is_empty, is_taken}
-use Rattle.gm_pieces.specs.Common.{empty_cell}
+use Rattle.gm_pieces.specs.Common.{ℕ, Bool, true, false, List, map, length, set, inl, inr, refl, sym, ap, ap₂, ◌∙◌, arith, leb, leb-true, le-leb, ltb, lt-ltb, get_or_past, cases_eq, cases_lt, or_cases, or_right, get_or-set_same, get_or-set_other, true≢false, Cell, Empty, Mine, Theirs, turned, cell_at, is_empty, is_taken, empty_cell}
 use Rattle.std.proofs.Common.{mod-lt, mul-le-mul_right}
 use Rattle.std.proofs.lemmas.Nat.{div-add-mod', div-mul-add, mod-mul-add}
 use Rattle.gm_board.specs.laws.Turned.{cell_turned}

@@ -1,14 +1,10 @@
 -- Moves of Connect Four: a piece is dropped into a column, and taken back.
 use Rattle.std.specs.Prelude.{◌≡◌, ◌+◌, ◌%◌, ◌<◌, ◌≤◌, ◌≢◌, ◌||◌, ◌∷◌, if◌then◌else◌}
-use Rattle.gm_pieces.specs.Common.{ℕ, Bool, true, false, List, [], map, length, set, None, Some, inl, inr, refl, sym, ap, ◌∙◌, subst, arith, leb, lt-ltb, cases_lt, or_cases}
-use Rattle.gm_pieces.specs.Common.{or_right, get_or-set_same, get_or-set_other, get_or_past, cond-true, true≢false, length-map, Contains, Lose, Cell, Empty, Mine, Theirs}
-use Rattle.gm_pieces.specs.Common.{their_cell, turned, turned_cell, turned_twice, mine_turned, theirs_turned, permute_turned, filled_turned, cell_at, is_mine, is_theirs}
-use Rattle.gm_pieces.specs.Common.{is_empty, is_taken, image_set, image_cell, permute, IsMove, placed_left, set_and_back, all_cells}
+use Rattle.gm_pieces.specs.Common.{ℕ, Bool, true, false, List, [], map, length, set, None, Some, inl, inr, refl, sym, ap, ◌∙◌, subst, arith, leb, lt-ltb, cases_lt, or_cases, or_right, get_or-set_same, get_or-set_other, get_or_past, cond-true, true≢false, length-map, Contains, Lose, Cell, Empty, Mine, Theirs, their_cell, turned, turned_cell, turned_twice, mine_turned, theirs_turned, permute_turned, filled_turned, cell_at, is_mine, is_theirs, is_empty, is_taken, image_set, image_cell, permute, IsMove, placed_left, set_and_back, all_cells}
 use Rattle.std.proofs.Common.{mod-lt}
 use Rattle.gm_board.specs.laws.Turned.{cell_turned}
 use Rattle.gm_connect.specs.declared.size.Size.{Size}
-use Rattle.gm_connect.specs.ConnectFour.{pieces, legal, has_line, is_supported, end_by_last_move, can_move, play, landing, topmost, can_have_led_here, undo, mirrors}
-use Rattle.gm_connect.specs.ConnectFour.{child_tiers_of, connect_four}
+use Rattle.gm_connect.specs.ConnectFour.{pieces, legal, has_line, is_supported, end_by_last_move, can_move, play, landing, topmost, can_have_led_here, undo, mirrors, child_tiers_of, connect_four}
 use Rattle.gm_connect.specs.Lines.{lines}
 use Rattle.gm_connect.specs.Sizes.{columns, cells}
 use Rattle.gm_connect.specs.laws.BoardFacts.{some_columns, Stand, IsLegal, legal_in, group, image_over, image_supported, image_legal}

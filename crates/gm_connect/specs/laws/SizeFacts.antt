@@ -1,9 +1,8 @@
 -- What computing shows of each size.
 use Rattle.std.specs.Prelude.{◌≡◌, ◌+◌, ◌&&◌}
-use Rattle.gm_pieces.specs.Common.{ℕ, Bool, true, List, replicate, length, get_or, refl, eqb, leb, ltb, Empty, number_of, list_all, range_with_len, IsPaddedText}
-use Rattle.gm_pieces.specs.Common.{cond, keeps_patterns}
+use Rattle.gm_pieces.specs.Common.{ℕ, Bool, true, List, replicate, length, get_or, refl, eqb, leb, ltb, Empty, number_of, list_all, range_with_len, IsPaddedText, cond, keeps_patterns}
 use Rattle.gm_board.specs.Binomials.{binomial}
-use Rattle.gm_board.specs.Groups.{is_group_table}
+use Rattle.gm_board.specs.inner.Groups.{is_group_table}
 use Rattle.gm_stacks.specs.Heights.{stackings, rank_heights}
 use Rattle.gm_stacks.specs.Stacks.{heights, stacked_index}
 use Rattle.gm_connect.specs.declared.size.Size.{Size}

@@ -1,6 +1,6 @@
 -- The texts of Connect Four are plain, fit a line, and tell positions and moves apart.
 use Rattle.std.specs.Prelude.{◌≡◌, ◌+◌, ◌∷◌}
-use Rattle.gm_pieces.specs.Common.{ℕ, [], refl, arith, and_both, board_text, text_length, text_once, text_plain, AreTexts}
+use Rattle.gm_pieces.specs.Common.{ℕ, [], refl, arith, and_both, cells_text, text_length, text_once, text_plain, AreTexts}
 use Rattle.gm_game.proofs.PlainTexts.{plain_in}
 use Rattle.gm_connect.specs.declared.size.Size.{Size}
 use Rattle.gm_connect.specs.ConnectFour.{connect_four}
@@ -11,7 +11,7 @@ same_digit : (a b : ℕ) → (49 + a) ∷ [] ≡ (49 + b) ∷ [] → a ≡ b
 same_digit a b e = let z : 49 + a ≡ 49 + b = cc in omega (arith, z)
 
 -- the laws of texts
-pub readable : (s : Size) → AreTexts (connect_four s) board_text (λ t c. step_text c)
+pub readable : (s : Size) → AreTexts (connect_four s) cells_text (λ t c. step_text c)
 unfolding step_text
 readable s = record {
   text_plain = λ b l. text_plain b;

@@ -1,7 +1,6 @@
 -- The boards before a board of Dao: exactly those from which a move leads to it, and how many there are.
 use Rattle.std.specs.Prelude.{◌≡◌, ◌≤◌}
-use Rattle.gm_pieces.specs.Common.{ℕ, true, List, length, sym, ap, ◌∙◌, arith, filter, range_with_len, Cell, and_left, and_right, and_both, from_point}
-use Rattle.gm_pieces.specs.Common.{to_point, is_theirs, is_empty, cell_at, WasStep, their_cell, empty_cell, cells_counted, all_cells, gone_again, back_again}
+use Rattle.gm_pieces.specs.Common.{ℕ, true, List, length, sym, ap, ◌∙◌, arith, filter, range_with_len, Cell, and_left, and_right, and_both, from_point, to_point, is_theirs, is_empty, cell_at, WasStep, their_cell, empty_cell, cells_counted, all_cells, gone_again, back_again}
 use Rattle.gm_dao.specs.DaoRules.{in_line, move_number_bound, play, can_have_led_here, undo, legal}
 use Rattle.gm_dao.specs.laws.BoardFacts.{legal_in}
 use Rattle.gm_dao.specs.laws.CountFacts.{blocks_few}

@@ -1,8 +1,6 @@
 -- Boards of Dao: formations, images and legal boards.
 use Rattle.std.specs.Prelude.{◌≡◌}
-use Rattle.gm_pieces.specs.Common.{ℕ, Bool, true, false, not, List, map, length, ap, ◌∙◌, eqb-true, eq-eqb, Contains, not-true, Cell, Empty, and_left}
-use Rattle.gm_pieces.specs.Common.{and_right, and_both, turned, image_length, filled_image, permute, square_symmetries, is_mine, is_theirs, number_of}
-use Rattle.gm_pieces.specs.Common.{filled_turned, image_number, IsLeft, HasNumbers}
+use Rattle.gm_pieces.specs.Common.{ℕ, Bool, true, false, not, List, map, length, ap, ◌∙◌, eqb-true, eq-eqb, Contains, not-true, Cell, Empty, and_left, and_right, and_both, turned, image_length, filled_image, permute, square_symmetries, is_mine, is_theirs, number_of, filled_turned, image_number, IsLeft, HasNumbers}
 use Rattle.gm_dao.specs.DaoRules.{formations, has_formation, legal}
 use Rattle.gm_dao.specs.laws.SlideFacts.{group, formations_kept}
 

@@ -1,7 +1,6 @@
 -- How many numbers below a bound pass a test, as sums.
 use Rattle.std.specs.Prelude.{◌≡◌, ◌+◌, ◌*◌, ◌/◌, ◌<◌, ◌≤◌, ◌∷◌}
-use Rattle.gm_pieces.specs.Common.{ℕ, zero, suc, Bool, true, false, List, [], length, refl, sym, ap, ap₂, ◌∙◌, arith, inl, inr, cases_Bool, filter, filter_few}
-use Rattle.gm_pieces.specs.Common.{filter_in, filter_out, range_with_len, length-append, weight}
+use Rattle.gm_pieces.specs.Common.{ℕ, zero, suc, Bool, true, false, List, [], length, refl, sym, ap, ap₂, ◌∙◌, arith, inl, inr, cases_Bool, filter, filter_few, filter_in, filter_out, range_with_len, length-append, bit_weight}
 
 -- what a function gives for the first n numbers
 abbrev pub total : (ℕ → ℕ) → ℕ → ℕ
@@ -26,7 +25,7 @@ total_split f m zero = let e : m + 0 ≡ m = omega arith in rw e (omega arith)
 total_split f m (suc k) = let e : m + suc k ≡ suc (m + k) = omega arith in rw e (omega (arith, total_split f m k))
 
 -- numbers that pass, as a sum
-pub passed : (p : ℕ → Bool) (n : ℕ) → length (filter p (range_with_len 0 n)) ≡ total (λ k. weight (p k)) n
+pub passed : (p : ℕ → Bool) (n : ℕ) → length (filter p (range_with_len 0 n)) ≡ total (λ k. bit_weight (p k)) n
 passed p zero = refl
 passed p (suc n) =
     let i = passed p n in
@@ -34,43 +33,43 @@ passed p (suc n) =
     elim (cases_Bool (p n)) [
       | inl t ↦ (
           let x = ap (λ (xs : List ℕ). length xs) (filter_in p n t) ∙ length-append (filter p (range_with_len 0 n)) (n ∷ []) in
-          let w : weight (p n) ≡ 1 = rw t refl in
+          let w : bit_weight (p n) ≡ 1 = rw t refl in
           omega (arith, i, own, x, w))
       | inr t ↦ (
           let x = ap (λ (xs : List ℕ). length xs) (filter_out p n t) in
-          let w : weight (p n) ≡ 0 = rw t refl in
+          let w : bit_weight (p n) ≡ 0 = rw t refl in
           omega (arith, i, own, x, w))
     ]
 
 -- tests that agree pass equally many numbers
 pub same_number : (p q : ℕ → Bool) (n : ℕ) → ((k : ℕ) → k < n → p k ≡ q k) → length (filter p (range_with_len 0 n)) ≡ length (filter q (range_with_len 0 n))
-same_number p q n h = passed p n ∙ total_same (λ k. weight (p k)) (λ k. weight (q k)) n (λ k l. ap weight (h k l)) ∙ sym (passed q n)
+same_number p q n h = passed p n ∙ total_same (λ k. bit_weight (p k)) (λ k. bit_weight (q k)) n (λ k l. ap bit_weight (h k l)) ∙ sym (passed q n)
 
 -- the numbers from m on, by their distance from m
 pub number_from : (p q : ℕ → Bool) (m k : ℕ) → ((i : ℕ) → i < k → q i ≡ p (m + i)) → length (filter p (range_with_len 0 (m + k))) ≡ length
     (filter p (range_with_len 0 m)) + length (filter q (range_with_len 0 k))
 number_from p q m k h =
-    let rest = total_same (λ i. weight (q i)) (λ i. weight (p (m + i))) k (λ i l. ap weight (h i l)) in
-    omega (arith, passed p (m + k), passed p m, passed q k, total_split (λ i. weight (p i)) m k, rest)
+    let rest = total_same (λ i. bit_weight (q i)) (λ i. bit_weight (p (m + i))) k (λ i l. ap bit_weight (h i l)) in
+    omega (arith, passed p (m + k), passed p m, passed q k, total_split (λ i. bit_weight (p i)) m k, rest)
 
 -- no more of sixteen numbers pass
 pub sixteen_most : (p : ℕ → Bool) → length (filter p (range_with_len 0 16)) ≤ 16
 sixteen_most p = filter_few p (λ k. true) (λ k e. refl) (range_with_len 0 16)
 
-weight_le : (x y : Bool) → (x ≡ true → y ≡ true) → weight x ≤ weight y
+weight_le : (x y : Bool) → (x ≡ true → y ≡ true) → bit_weight x ≤ bit_weight y
 weight_le true y h = rw (h refl) (omega arith)
 weight_le false y h = omega arith
 
-blocks_sum : (p q : ℕ → Bool) (n : ℕ) → ((m : ℕ) → m < 16 * n → p m ≡ true → q (m / 16) ≡ true) → total (λ m. weight (p m)) (16 * n) ≤ 16 * total
-    (λ k. weight (q k)) n
+blocks_sum : (p q : ℕ → Bool) (n : ℕ) → ((m : ℕ) → m < 16 * n → p m ≡ true → q (m / 16) ≡ true) → total (λ m. bit_weight (p m)) (16 * n) ≤ 16 * total
+    (λ k. bit_weight (q k)) n
 blocks_sum p q zero h = omega arith
 blocks_sum p q (suc n) h =
     let e : 16 * suc n ≡ 16 * n + 16 = omega arith in
-    let sixteen : total (λ i. weight (q n)) 16 ≡ 16 * weight (q n) = omega arith in
+    let sixteen : total (λ i. bit_weight (q n)) 16 ≡ 16 * bit_weight (q n) = omega arith in
     let block =
-    total_le (λ i. weight (p (16 * n + i))) (λ i. weight (q n)) 16
+    total_le (λ i. bit_weight (p (16 * n + i))) (λ i. bit_weight (q n)) 16
     (λ i l. weight_le (p (16 * n + i)) (q n) (λ t. ap q (let d : n ≡ (16 * n + i) / 16 = omega (arith, l) in d) ∙ h (16 * n + i) (omega (arith, l)) t)) in
-    rw e (omega (arith, total_split (λ m. weight (p m)) (16 * n) 16, block, sixteen, blocks_sum p q n (λ m l. h m (omega (arith, l)))))
+    rw e (omega (arith, total_split (λ m. bit_weight (p m)) (16 * n) 16, block, sixteen, blocks_sum p q n (λ m l. h m (omega (arith, l)))))
 
 -- at most sixteen numbers for each n that passes the second test
 pub blocks_few : (p q : ℕ → Bool) (n : ℕ) → ((m : ℕ) → m < 16 * n → p m ≡ true → q (m / 16) ≡ true) → length (filter p (range_with_len 0 (16 * n))) ≤ 16 *

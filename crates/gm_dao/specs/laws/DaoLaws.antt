@@ -1,8 +1,6 @@
 -- Dao has the laws of a game.
 use Rattle.std.specs.Prelude.{◌≡◌, ◌<◌, if◌then◌else◌}
-use Rattle.gm_pieces.specs.Common.{ℕ, Bool, true, not, eqb, refl, sym, ap, subst, arith, inl, eq-eqb, at, position_of, IsNumbered}
-use Rattle.gm_pieces.specs.Common.{Empty, binomial, arrangements, arrangement_index, square_symmetries, board_game, IsMoveGame, IsMoveSymmetric, permuted_group}
-use Rattle.gm_pieces.specs.Common.{is_mine, number_of, board_index, board_numbers, index_below, board_back, index_back}
+use Rattle.gm_pieces.specs.Common.{ℕ, Bool, true, not, eqb, refl, sym, ap, subst, arith, inl, eq-eqb, at, position_of, IsNumbered, Empty, binomial, arrangements, arrangement_index, square_symmetries, board_game, IsMoveGame, IsMoveSymmetric, permuted_group, is_mine, number_of, board_index, board_numbers, index_below, board_back, index_back}
 use Rattle.gm_dao.specs.DaoRules.{formations, has_formation, legal, board_at, start_board, play, dao}
 use Rattle.gm_dao.specs.laws.SlideFacts.{group}
 use Rattle.gm_dao.specs.laws.BoardFacts.{legal_in, legal_numbers, image_legal}

@@ -1,8 +1,6 @@
 -- Moves of Dao: which there are, how many, and the ends of games.
 use Rattle.std.specs.Prelude.{◌≡◌, ◌/◌, ◌<◌, ◌≤◌}
-use Rattle.gm_pieces.specs.Common.{ℕ, true, false, List, length, None, Some, refl, sym, ap, ◌∙◌, arith, cond-true, Lose, Cell, Empty, Mine, and_left, and_right}
-use Rattle.gm_pieces.specs.Common.{and_both, fills, all_at, from_point, to_point, number_below, steps, is_mine, is_theirs, is_empty, is_taken, cell_at}
-use Rattle.gm_pieces.specs.Common.{number_of, IsStep, mine_cell, empty_cell, cells_counted, false_from_ne_true}
+use Rattle.gm_pieces.specs.Common.{ℕ, true, false, List, length, None, Some, refl, sym, ap, ◌∙◌, arith, cond-true, Lose, Cell, Empty, Mine, and_left, and_right, and_both, fills, all_at, from_point, to_point, number_below, steps, is_mine, is_theirs, is_empty, is_taken, cell_at, number_of, IsStep, mine_cell, empty_cell, cells_counted, false_from_ne_true}
 use Rattle.gm_dao.specs.DaoRules.{has_formation, in_line, path, beyond, can_move, move_number_bound, end_by_last_move, dao}
 use Rattle.gm_dao.specs.laws.CountFacts.{blocks_few}
 use Rattle.gm_dao.specs.laws.SlideFacts.{line_within, way}

@@ -1,10 +1,6 @@
 -- What a move of Dao leaves, and the moves and ends of images.
 use Rattle.std.specs.Prelude.{◌≡◌, ◌<◌}
-use Rattle.gm_pieces.specs.Common.{ℕ, Bool, true, cond, List, map, length, get_or, set, None, Some, refl, sym, ap, ap₂, ◌∙◌, arith, ltb, ltb-true, Contains}
-use Rattle.gm_pieces.specs.Common.{length-map, Lose, Win, Cell, Empty, Mine, all_from, and_left, and_right, and_both, turned, image_back, image_slide, any_at}
-use Rattle.gm_pieces.specs.Common.{fills, same_tests, any_from, permute, all_at, square_symmetries, step_number, from_point, to_point, from_back, to_back}
-use Rattle.gm_pieces.specs.Common.{IsMove, is_mine, is_theirs, is_empty, is_taken, cell_at, gone, step_left, permute_turned, mine_turned, theirs_turned}
-use Rattle.gm_pieces.specs.Common.{image_cell, image_fills}
+use Rattle.gm_pieces.specs.Common.{ℕ, Bool, true, cond, List, map, length, get_or, set, None, Some, refl, sym, ap, ap₂, ◌∙◌, arith, ltb, ltb-true, Contains, length-map, Lose, Win, Cell, Empty, Mine, all_from, and_left, and_right, and_both, turned, image_back, image_slide, any_at, fills, same_tests, any_from, permute, all_at, square_symmetries, step_number, from_point, to_point, from_back, to_back, IsMove, is_mine, is_theirs, is_empty, is_taken, cell_at, mover_gone, step_left, permute_turned, mine_turned, theirs_turned, image_cell, image_fills}
 use Rattle.gm_dao.specs.DaoRules.{corners, around, is_trapped, has_trapped, path, beyond, can_move, end_by_last_move, play, legal, dao}
 use Rattle.gm_dao.specs.laws.SlideFacts.{group, corner_kept, line_within, way, line_kept}
 use Rattle.gm_dao.specs.laws.BoardFacts.{formation_turned, formation_left, image_formation, legal_in, legal_from}
@@ -59,7 +55,7 @@ image_step g b m c e f =
     let slide : IsSlide image i j = image_slides g b i j c x.2 x.3 there in (
       n,
       slide_move image n (rw (from, to) slide),
-      ap₂ (λ (p q : ℕ). gone image p q) from to
+      ap₂ (λ (p q : ℕ). mover_gone image p q) from to
           ∙ ap (map turned) (sym x.6)
           ∙ sym (permute_turned g (set (set b a Empty) z Mine)),
     )

@@ -1,7 +1,6 @@
 -- The texts of Dao are plain, fit a line, and tell positions and moves apart.
 use Rattle.std.specs.Prelude.{◌≡◌, ◌<◌, ◌∷◌}
-use Rattle.gm_pieces.specs.Common.{ℕ, length, refl, arith, IsPlain, IsShown, plain_append, from_point, to_point, same_step, cell_text, board_text, text_length}
-use Rattle.gm_pieces.specs.Common.{text_once, text_plain, cell_plain, AreTexts, texts_are_shown}
+use Rattle.gm_pieces.specs.Common.{ℕ, length, refl, arith, IsPlain, IsShown, plain_append, from_point, to_point, same_step, cell_text, cells_text, text_length, text_once, text_plain, cell_plain, AreTexts, texts_are_shown}
 use Rattle.gm_board.specs.laws.CellTexts.{step_text_once}
 use Rattle.gm_dao.specs.DaoRules.{dao, dao_rules}
 use Rattle.gm_dao.specs.laws.BoardFacts.{legal_in}
@@ -28,7 +27,7 @@ step_plain m l h = plain_append (cell_text 4 (from_point m)) (45 ∷ cell_text 4
     (cell_plain 4 (to_point m) (omega arith) (omega arith))
 
 -- ---- the laws of texts
-pub readable : AreTexts dao board_text (λ t m. step_text m)
+pub readable : AreTexts dao cells_text (λ t m. step_text m)
 readable = record {
   text_plain = λ b l. text_plain b;
   text_fits = λ b l. let a = text_length b in let e = (legal_in b l).cells in omega (arith, a, e);
@@ -40,4 +39,4 @@ readable = record {
 
 -- the laws of texts, for positions and their moves
 pub texts_readable : IsShown dao_rules position_text move_text
-texts_readable = texts_are_shown dao board_text (λ t m. step_text m) numbered readable
+texts_readable = texts_are_shown dao cells_text (λ t m. step_text m) numbered readable

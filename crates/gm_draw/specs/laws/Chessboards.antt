@@ -1,7 +1,12 @@
 -- Drawings on the board of chess: what they have in common with their positions' texts.
-use Rattle.std.proofs.Common.{◌≡◌, ℕ, ◌+◌, ◌-◌, ◌*◌, ◌/◌, ◌%◌, ◌<◌, ◌≤◌, Bool, true, ◌&&◌, if◌then◌else◌, ◌||◌, List, [], ◌∷◌, ◌++◌, map, length, ◌∙◌}
-use Rattle.gm_draw.specs.Lower.{suc, false, eqb, eqb-true, ltb, refl, sym, ap, ap₂, subst, arith, inl, inr, Contains, list_all, list_any, range_with_len}
-use Rattle.gm_draw.specs.Lower.{cases_Bool, true≢false, nat_tests, length-map, length-range_with_len, and_left, and_right, contains_map, contains_range, all_at}
+use Rattle.std.proofs.Common.{◌≡◌, ℕ, ◌+◌, ◌-◌, ◌*◌, ◌/◌, ◌%◌, ◌<◌, ◌≤◌, Bool, true, ◌&&◌, if◌then◌else◌, ◌||◌, List, [], ◌∷◌, ◌++◌, map, length, ◌∙◌, suc, false, eqb, eqb-true, ltb, refl, sym, ap, ap₂, subst, arith, inl, inr}
+use Rattle.std.specs.List.{Contains, list_all, list_any, range_with_len}
+use Rattle.std.proofs.lemmas.Bool.{cases_Bool, true≢false}
+use Rattle.std.proofs.lemmas.Bool.Decides.{nat_tests}
+use Rattle.std.proofs.lemmas.List.{length-map}
+use Rattle.std.proofs.lemmas.List.FromFn.{length-range_with_len}
+use Rattle.gm_board.specs.laws.Lists.{and_left, and_right, contains_map, contains_range}
+use Rattle.gm_board.specs.laws.Permutations.{all_at}
 use Rattle.gm_draw.specs.declared.drawn.TheConstants.{DRAWING}
 use Rattle.gm_draw.specs.Templates.{is_slot, next_x, next_y, spread}
 use Rattle.gm_draw.specs.Chessboards.{square_name, chess_points, chess_board, file_at, rank_at, is_dark, man_on, man_at, square_byte, chess_drawing}

@@ -1,6 +1,7 @@
 -- The words of moves: names of points by a function of the point.
-use Rattle.std.proofs.Common.{ℕ, ◌<◌, List, ◌∷◌, ◌++◌, map}
-use Rattle.gm_draw.specs.Lower.{refl, inl, inr, Contains, range_with_len, contains_map, contains_range}
+use Rattle.std.proofs.Common.{ℕ, ◌<◌, List, ◌∷◌, ◌++◌, map, refl, inl, inr}
+use Rattle.std.specs.List.{Contains, range_with_len}
+use Rattle.gm_board.specs.laws.Lists.{contains_map, contains_range}
 use Rattle.gm_draw.specs.Points.{IsPointWord}
 
 pub named_point : (f : ℕ → List ℕ) (n k : ℕ) → k < n → Contains (map f (range_with_len 0 n)) (f k)

@@ -1,7 +1,12 @@
 -- The pictures of rows of numbers satisfy the laws of pictures: the bracket comes after the numbers before the current one.
-use Rattle.std.proofs.Common.{◌≡◌, ◌↔◌, ℕ, ◌+◌, ◌<◌, ◌≤◌, Bool, true, List, [], ◌∷◌, map, length, ◌∙◌}
-use Rattle.gm_draw.specs.Lower.{cond, eqb, leb, eqb-true, sym, ap, subst, decimal, Contains, list_all, range_with_len, Position, Rules, at}
-use Rattle.gm_draw.specs.Lower.{same_position, contains_range, contains_unmap, range_below, and_left, and_right, all_at}
+use Rattle.std.proofs.Common.{◌≡◌, ◌↔◌, ℕ, ◌+◌, ◌<◌, ◌≤◌, Bool, true, List, [], ◌∷◌, map, length, ◌∙◌, cond, eqb, leb, eqb-true, sym, ap, subst}
+use Rattle.std.specs.Fmt.{decimal}
+use Rattle.std.specs.List.{Contains, list_all, range_with_len}
+use Rattle.gm_game.specs.declared.position.Position.{Position}
+use Rattle.gm_game.specs.Rules.{Rules, at}
+use Rattle.gm_game.proofs.SetLemmas.{same_position}
+use Rattle.gm_board.specs.laws.Lists.{contains_range, contains_unmap, range_below, and_left, and_right}
+use Rattle.gm_board.specs.laws.Permutations.{all_at}
 use Rattle.std.specs.Prelude.{◌&&◌, not, slice_index_or}
 use Rattle.gm_draw.specs.declared.drawn.TheConstants.{DRAWING}
 use Rattle.gm_draw.specs.declared.pictured.Style.{Style}

@@ -1,8 +1,15 @@
 -- Pictures on templates: drawings distinguish positions, since each byte of a position's text has a slot.
-use Rattle.std.proofs.Common.{◌≡◌, ℕ, ◌+◌, ◌-◌, ◌<◌, ◌≤◌, Bool, true, List, [], ◌∷◌, map, length, ◌∙◌}
-use Rattle.gm_draw.specs.Lower.{false, cond, eqb, leb, eqb-true, get_or, refl, sym, ap, subst, arith, inl, inr, zero-add, Contains, list_all, range_with_len}
-use Rattle.gm_draw.specs.Lower.{cases_Bool, cond-true, true≢false, nat_tests, ext_get_or, length-map, sum_by-cons, Position, Rules, IsShown, contains_range}
-use Rattle.gm_draw.specs.Lower.{and_left, and_right, all_at}
+use Rattle.std.proofs.Common.{◌≡◌, ℕ, ◌+◌, ◌-◌, ◌<◌, ◌≤◌, Bool, true, List, [], ◌∷◌, map, length, ◌∙◌, false, cond, eqb, leb, eqb-true, get_or, refl, sym, ap, subst, arith, inl, inr, zero-add}
+use Rattle.std.specs.List.{Contains, list_all, range_with_len}
+use Rattle.std.proofs.lemmas.Bool.{cases_Bool, cond-true, true≢false}
+use Rattle.std.proofs.lemmas.Bool.Decides.{nat_tests}
+use Rattle.std.proofs.lemmas.List.{ext_get_or, length-map}
+use Rattle.std.proofs.lemmas.List.Sums.{sum_by-cons}
+use Rattle.gm_game.specs.declared.position.Position.{Position}
+use Rattle.gm_game.specs.Rules.{Rules}
+use Rattle.gm_game.specs.Shown.{IsShown}
+use Rattle.gm_board.specs.laws.Lists.{contains_range, and_left, and_right}
+use Rattle.gm_board.specs.laws.Permutations.{all_at}
 use Rattle.std.specs.Prelude.{◌&&◌, ◌==◌, count_by}
 use Rattle.gm_draw.specs.declared.drawn.TheConstants.{DRAWING}
 use Rattle.gm_draw.specs.declared.pictured.Layout.{Layout}

@@ -1,8 +1,6 @@
 -- Legal boards: what holds of each because a test passes at all of them, and boards that are the same.
 use Rattle.std.specs.Prelude.{◌≡◌, ◌<◌, ◌&&◌, ◌∷◌}
-use Rattle.gm_pieces.specs.Common.{ℕ, zero, suc, Bool, true, false, eqb, eqb-true, ltb-true, List, [], map, length, refl, sym, ap, ap₂, ◌∙◌, arith}
-use Rattle.gm_pieces.specs.Common.{list_all, range_with_len, true≢false, and_left, and_right, members, same_list, same_list_true, map_once, weight}
-use Rattle.gm_pieces.specs.Common.{at_below, agree, agree_same}
+use Rattle.gm_pieces.specs.Common.{ℕ, zero, suc, Bool, true, false, eqb, eqb-true, ltb-true, List, [], map, length, refl, sym, ap, ap₂, ◌∙◌, arith, list_all, range_with_len, true≢false, and_left, and_right, members, same_list, same_list_true, map_once, bit_weight, at_below, agree, agree_same}
 use Rattle.gm_pieces.specs.SmallTables.{implies}
 use Rattle.gm_hare.specs.declared.hunt.Hunt.{Hunt}
 use Rattle.gm_hare.specs.Board.{legal}
@@ -62,9 +60,9 @@ each p e b l =
 
 -- ---- boards that are the same
 abbrev pub same : Hunt → Hunt → Bool
-same x y = agree x.hounds_move y.hounds_move && (same_list (map weight x.hounds) (map weight y.hounds) && eqb x.hare y.hare)
+same x y = agree x.hounds_move y.hounds_move && (same_list (map bit_weight x.hounds) (map bit_weight y.hounds) && eqb x.hare y.hare)
 
-back : (x : Bool) → eqb (weight x) 1 ≡ x
+back : (x : Bool) → eqb (bit_weight x) 1 ≡ x
 back true = refl
 back false = refl
 
@@ -73,4 +71,4 @@ same_hunt x y e =
     let f = and_right (agree x.hounds_move y.hounds_move) _ e in
     ap (λ (t : Bool). hunt t x.hounds x.hare) (agree_same _ _ (and_left _ _ e))
     ∙ ap₂ (λ (h : List Bool) (r : ℕ). hunt y.hounds_move h r)
-    (map_once weight (λ n. eqb n 1) back x.hounds y.hounds (same_list_true _ _ (and_left _ _ f))) (eqb-true _ _ (and_right _ _ f))
+    (map_once bit_weight (λ n. eqb n 1) back x.hounds y.hounds (same_list_true _ _ (and_left _ _ f))) (eqb-true _ _ (and_right _ _ f))

@@ -1,14 +1,10 @@
 -- Hare and Hounds has the laws of a game.
 use Rattle.std.specs.Prelude.{◌≡◌, ◌+◌, ◌*◌, ◌<◌, ◌≤◌, ◌&&◌, ◌||◌, if◌then◌else◌, ◌∷◌, ◌⊎◌}
-use Rattle.gm_pieces.specs.Common.{ℕ, Bool, true, false, eqb, eqb-true, leb, leb-true, ltb, ltb-true, List, [], reverse, length, get_or, None, Some, refl, sym, ap, ◌∙◌, subst}
-use Rattle.gm_pieces.specs.Common.{arith, inl, inr, Contains, cond_both, nat_tests, Lose, Win, at, IsAscending, position_of, IsNumbered, lone_in, or_cases, any_at, list_any}
-use Rattle.gm_pieces.specs.Common.{binomial, members, rank, count_ones, range_with_len, and_left, and_right, filter_few, steps, mask_of, tests_of, at_below, agree, agree_same}
-use Rattle.gm_pieces.specs.Common.{board_game, IsMove, IsMoveGame, IsMoveSymmetric}
+use Rattle.gm_pieces.specs.Common.{ℕ, Bool, true, false, eqb, eqb-true, leb, leb-true, ltb, ltb-true, List, [], reverse, length, get_or, None, Some, refl, sym, ap, ◌∙◌, subst, arith, inl, inr, Contains, cond_both, nat_tests, Lose, Win, at, IsAscending, position_of, IsNumbered, lone_in, or_cases, any_at, list_any, binomial, members, rank, count_ones, range_with_len, and_left, and_right, filter_few, steps, mask_of, tests_of, at_below, agree, agree_same, board_game, IsMove, IsMoveGame, IsMoveSymmetric}
 use Rattle.std.specs.Int.Count.{ones, ones_in}
 use Rattle.gm_board.specs.Masks.{mask_rank}
 use Rattle.gm_hare.specs.declared.hunt.Hunt.{Hunt}
-use Rattle.gm_hare.specs.Board.{column, columns_from, hunt_tier, has_escaped, legal, end_by_last_move, can_move, play, can_have_led_here}
-use Rattle.gm_hare.specs.Board.{mirrored, hunt_index, hunt_board, hare_and_hounds}
+use Rattle.gm_hare.specs.Board.{column, columns_from, hunt_tier, has_escaped, legal, end_by_last_move, can_move, play, can_have_led_here, mirrored, hunt_index, hunt_board, hare_and_hounds}
 use Rattle.gm_hare.specs.laws.BoardFacts.{each_list, each, same, same_hunt}
 use Rattle.gm_hare.specs.laws.MoveFacts.{is_step, steps_few, move_joined, led_joined, image_step, kept, redone}
 

@@ -1,8 +1,6 @@
 -- Moves along edges and moves of boards: facts that are computed.
 use Rattle.std.specs.Prelude.{◌≡◌, ◌<◌, ◌≤◌, ◌&&◌, ◌||◌, if◌then◌else◌}
-use Rattle.gm_pieces.specs.Common.{ℕ, Bool, true, false, not, eqb, eqb-true, leb, leb-true, ltb, ltb-true, List, length, get_or, set, refl, arith}
-use Rattle.gm_pieces.specs.Common.{filter, list_all, list_any, range_with_len, and_left, and_right, is_plain, IsPlain, same_list, has_cell, contains_range, filter_to, all_at}
-use Rattle.gm_pieces.specs.Common.{at_below, agree, agree_same, step_number, from_point, to_point}
+use Rattle.gm_pieces.specs.Common.{ℕ, Bool, true, false, not, eqb, eqb-true, leb, leb-true, ltb, ltb-true, List, length, get_or, set, refl, arith, filter, list_all, list_any, range_with_len, and_left, and_right, is_plain, IsPlain, same_list, has_cell, contains_range, filter_to, all_at, at_below, agree, agree_same, step_number, from_point, to_point}
 use Rattle.gm_pieces.specs.SmallTables.{implies}
 use Rattle.gm_hare.specs.declared.hunt.Hunt.{Hunt}
 use Rattle.gm_hare.specs.declared.points.TheConstants.{EDGES, AHEAD}

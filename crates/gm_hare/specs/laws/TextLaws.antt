@@ -1,9 +1,7 @@
 -- The texts of Hare and Hounds are plain, fit a line, and tell positions and moves apart.
 use Rattle.std.specs.Prelude.{◌≡◌, ◌^◌, ◌<◌, ◌&&◌, ◌∷◌}
 use Rattle.std.specs.Int.Count.{count_trailing_zeros}
-use Rattle.gm_pieces.specs.Common.{ℕ, w32, Bool, true, eqb, List, [], map, reverse, get_or, refl, sym, ap, ap₂, ◌∙◌, arith, nat_tests, lt-ltb}
-use Rattle.gm_pieces.specs.Common.{IsShown, plain_map, has_cell, mask_of, mask_tests_small, tests_of, IsRead, trailing_zeros, AreTexts, texts_are_shown}
-use Rattle.gm_pieces.specs.Common.{Contains, contains_head, contains_later, range_below, range_with_len}
+use Rattle.gm_pieces.specs.Common.{ℕ, w32, Bool, true, eqb, List, [], map, reverse, get_or, refl, sym, ap, ap₂, ◌∙◌, arith, nat_tests, lt-ltb, IsShown, plain_map, has_cell, mask_of, mask_tests_small, tests_of, IsRead, trailing_zeros, AreTexts, texts_are_shown, Contains, contains_head, contains_later, range_below, range_with_len}
 use Rattle.gm_hare.specs.declared.hunt.Hunt.{Hunt}
 use Rattle.gm_hare.specs.Board.{legal, hare_and_hounds, hare_rules}
 use Rattle.gm_hare.specs.Texts.{hunt_char, hunt_text, step_text, position_text, move_text}

@@ -1,8 +1,6 @@
 -- Boards of nine points: legal boards and images.
 use Rattle.std.specs.Prelude.{◌≡◌, ◌-◌, ◌/◌, ◌≤◌}
-use Rattle.gm_pieces.specs.Common.{ℕ, Bool, true, false, not, List, length, refl, sym, ap, ◌∙◌, arith, eqb-true, eq-eqb, leb-true, le-leb, Contains, not-true}
-use Rattle.gm_pieces.specs.Common.{Cell, Empty, and_left, and_right, and_both, IsGroup, image_length, filled_image, permute, square_symmetries, square_group}
-use Rattle.gm_pieces.specs.Common.{is_mine, is_theirs, image_number, HasNumbers}
+use Rattle.gm_pieces.specs.Common.{ℕ, Bool, true, false, not, List, length, refl, sym, ap, ◌∙◌, arith, eqb-true, eq-eqb, leb-true, le-leb, Contains, not-true, Cell, Empty, and_left, and_right, and_both, IsGroup, image_length, filled_image, permute, square_symmetries, square_group, is_mine, is_theirs, image_number, HasNumbers}
 use Rattle.gm_morris.specs.declared.variant.Variant.{Variant}
 use Rattle.gm_morris.specs.Points.{last_tier, lines}
 use Rattle.gm_morris.specs.Morris.{mine, theirs, pieces, has_line, legal, end_by_last_move}

@@ -1,9 +1,6 @@
 -- The games of nine points have the laws of a game.
 use Rattle.std.specs.Prelude.{◌≡◌, ◌+◌, ◌-◌, ◌/◌, ◌^◌, ◌<◌, ◌≤◌, ◌∷◌}
-use Rattle.gm_pieces.specs.Common.{ℕ, Bool, true, eqb, List, [], map, length, refl, sym, ap, ◌∙◌, subst, arith, ltb, ltb-true, leb, le-leb}
-use Rattle.gm_pieces.specs.Common.{cond-true, cond_both, and_left, lone_in, IsAscending, IsNumbered, Empty, turned, arrangements}
-use Rattle.gm_pieces.specs.Common.{arrangements_fit, square_symmetries, steps, board_game, IsMoveGame, IsMoveSymmetric}
-use Rattle.gm_pieces.specs.Common.{permuted_group, board_index, index_below, board_back, index_back, all_cells}
+use Rattle.gm_pieces.specs.Common.{ℕ, Bool, true, eqb, List, [], map, length, refl, sym, ap, ◌∙◌, subst, arith, ltb, ltb-true, leb, le-leb, cond-true, cond_both, and_left, lone_in, IsAscending, IsNumbered, Empty, turned, arrangements, arrangements_fit, square_symmetries, steps, board_game, IsMoveGame, IsMoveSymmetric, permuted_group, board_index, index_below, board_back, index_back, all_cells}
 use Rattle.gm_morris.specs.declared.variant.Variant.{Variant}
 use Rattle.gm_morris.specs.Points.{last_tier}
 use Rattle.gm_morris.specs.Morris.{pieces, legal, can_move, move_number_bound, moved, play, can_have_led_here, undo, size_of, child_tiers_of, morris}

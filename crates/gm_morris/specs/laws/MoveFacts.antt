@@ -1,10 +1,6 @@
 -- Moves of the games of nine points: in the last tier a piece goes from point to point, and in any other a piece is placed.
 use Rattle.std.specs.Prelude.{◌≡◌, ◌+◌, ◌*◌, ◌/◌, ◌%◌, ◌<◌, ◌≤◌, ◌&&◌, if◌then◌else◌, ◌⊎◌}
-use Rattle.gm_pieces.specs.Common.{ℕ, Bool, true, false, List, map, length, set, None, Some, inl, inr, refl, sym, ap, ◌∙◌, subst, arith, eqb, eqb-true, eq-eqb, leb-true}
-use Rattle.gm_pieces.specs.Common.{lt-ltb, get_or-set_same, cond-true, true≢false, length-map, Contains, filter, range_with_len, Lose, Cell, Empty, Mine, Theirs}
-use Rattle.gm_pieces.specs.Common.{and_left, and_right, and_both, filter_few, mine_cell, their_cell, empty_cell, turned, turned_cell, turned_twice, mine_turned}
-use Rattle.gm_pieces.specs.Common.{theirs_turned, permute_turned, filled_turned, cell_at, is_mine, is_theirs, is_empty, image_set, image_slide, image_cell, permute}
-use Rattle.gm_pieces.specs.Common.{square_symmetries, IsMove, brought_back, IsStep, WasStep, IsLeft, step_left, placed_left, set_and_back, gone_again, back_again}
+use Rattle.gm_pieces.specs.Common.{ℕ, Bool, true, false, List, map, length, set, None, Some, inl, inr, refl, sym, ap, ◌∙◌, subst, arith, eqb, eqb-true, eq-eqb, leb-true, lt-ltb, get_or-set_same, cond-true, true≢false, length-map, Contains, filter, range_with_len, Lose, Cell, Empty, Mine, Theirs, and_left, and_right, and_both, filter_few, mine_cell, their_cell, empty_cell, turned, turned_cell, turned_twice, mine_turned, theirs_turned, permute_turned, filled_turned, cell_at, is_mine, is_theirs, is_empty, image_set, image_slide, image_cell, permute, square_symmetries, IsMove, brought_back, IsStep, WasStep, IsLeft, step_left, placed_left, set_and_back, gone_again, back_again}
 use Rattle.gm_morris.specs.declared.variant.Variant.{Variant}
 use Rattle.gm_morris.specs.Points.{last_tier, lines, joins}
 use Rattle.gm_morris.specs.Morris.{theirs, pieces, has_line, end_by_last_move, can_move, move_number_bound, moved, play, can_have_led_here, child_tiers_of, morris}

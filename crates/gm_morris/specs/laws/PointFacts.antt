@@ -1,7 +1,6 @@
 -- What computing shows of each game of nine points.
 use Rattle.std.specs.Prelude.{◌≡◌, ◌/◌, ◌%◌, ◌<◌, ◌≤◌}
-use Rattle.gm_pieces.specs.Common.{ℕ, Bool, true, List, replicate, length, get_or, refl, leb, leb-true, ltb-true, Empty, number_of, Contains, list_all, filter, range_with_len, IsPaddedText}
-use Rattle.gm_pieces.specs.Common.{and_left, and_right, has_cell, keeps_patterns, all_at, square_symmetries, at_all, at_each, agree, agree_same}
+use Rattle.gm_pieces.specs.Common.{ℕ, Bool, true, List, replicate, length, get_or, refl, leb, leb-true, ltb-true, Empty, number_of, Contains, list_all, filter, range_with_len, IsPaddedText, and_left, and_right, has_cell, keeps_patterns, all_at, square_symmetries, at_all, at_each, agree, agree_same}
 use Rattle.gm_morris.specs.declared.variant.Variant.{Variant}
 use Rattle.gm_morris.specs.declared.variant.Variant.TheVariants.{TicTacToe, ThreeMens, Achi}
 use Rattle.gm_morris.specs.declared.variant.TheConstants.{BESIDE, ALONG_LINES}

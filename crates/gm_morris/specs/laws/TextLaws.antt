@@ -1,7 +1,6 @@
 -- The texts of the games of nine points are plain, fit a line, and tell positions and moves apart.
 use Rattle.std.specs.Prelude.{◌≡◌, ◌/◌, ◌%◌, ◌<◌, ◌≤◌, ◌∷◌, ◌++◌, if◌then◌else◌}
-use Rattle.gm_pieces.specs.Common.{ℕ, Bool, true, false, List, length, arith, IsPlain, IsShown, plain_append, cell_text, board_text, text_length, text_once}
-use Rattle.gm_pieces.specs.Common.{text_plain, cell_plain, AreTexts, texts_are_shown}
+use Rattle.gm_pieces.specs.Common.{ℕ, Bool, true, false, List, length, arith, IsPlain, IsShown, plain_append, cell_text, cells_text, text_length, text_once, text_plain, cell_plain, AreTexts, texts_are_shown}
 use Rattle.gm_board.specs.laws.CellTexts.{cell_text_once, step_text_once}
 use Rattle.gm_morris.specs.declared.variant.Variant.{Variant}
 use Rattle.gm_morris.specs.Points.{variant_of}
@@ -30,7 +29,7 @@ step_is_text true m = record {
 step_is_text false m = record { plain = λ l. cell_plain 3 m (omega arith) (omega arith); short = omega arith; once = λ k e. cell_text_once 3 m k e }
 
 -- the laws of texts
-pub readable : (v : Variant) → AreTexts (morris v) board_text (step_text v)
+pub readable : (v : Variant) → AreTexts (morris v) cells_text (step_text v)
 unfolding step_text
 readable v = record {
   text_plain = λ b l. text_plain b;
@@ -43,4 +42,4 @@ readable v = record {
 
 -- the laws of texts, for positions and their moves in the game with this last tier
 pub texts_readable : (n : ℕ) → IsShown (morris_rules n) position_text (move_text n)
-texts_readable n = let v = variant_of n in texts_are_shown (morris v) board_text (step_text v) (numbered v) (readable v)
+texts_readable n = let v = variant_of n in texts_are_shown (morris v) cells_text (step_text v) (numbered v) (readable v)

@@ -1,21 +1,17 @@
 -- The game in tables has the rules and texts of Mu Torere.
 use Rattle.std.specs.Prelude.{◌≡◌, ◌+◌, ◌&&◌, if◌then◌else◌, ◌∷◌}
-use Rattle.gm_pieces.specs.Common.{ℕ, Bool, eqb, List, [], map, length, refl, ap, ap₂, ◌∙◌, Cell, Empty, Mine, Theirs}
-use Rattle.gm_pieces.specs.Common.{is_mine, is_theirs, is_empty, cell_at, number_of as number_on, board_index, board_numbered, cell_char}
-use Rattle.gm_pieces.specs.Common.{board_text as side_text, from_point, to_point, MoveGame, move_rules}
+use Rattle.gm_pieces.specs.Common.{ℕ, Bool, eqb, List, [], map, length, refl, ap, ap₂, ◌∙◌, Cell, Empty, Mine, Theirs, is_mine, is_theirs, is_empty, cell_at, number_of as number_on, board_index, board_numbered, cell_char, cells_text as side_text, from_point, to_point, MoveGame, move_rules}
 use Rattle.std.proofs.Math.Path.{fun_ext}
 use Rattle.std.proofs.lemmas.List.Sums.{sum_by-cons}
-use Rattle.gm_ways.specs.Ways.{has_numbers, legal as legal_on_ways, end_by_last_move, can_move as can_move_on_ways, moved as moved_on_ways}
-use Rattle.gm_ways.specs.Ways.{can_have_led_here as was_moved_on_ways}
-use Rattle.gm_ways.specs.Ways.{undo as taken_back_on_ways, way_game, way_rules}
-use Rattle.gm_ways.specs.WayTexts.{step_text as way_step_text, way_text, way_move_text}
-use Rattle.gm_mutorere.specs.Board.{number_of, legal, can_move, may_go, moved, can_have_led_here, undo, ring_index, ring_board, mutorere, mutorere_rules}
-use Rattle.gm_mutorere.specs.Texts.{cell_text, board_text, step_text, position_text, move_text}
+use Rattle.gm_ways.specs.Ways.{has_numbers, way_legal as legal_on_ways, way_end_by_last_move, way_can_move as can_move_on_ways, way_moved as moved_on_ways, way_can_have_led_here as was_moved_on_ways, way_undo as taken_back_on_ways, way_game, way_rules}
+use Rattle.gm_ways.specs.WayTexts.{way_step_text, way_text, way_move_text}
+use Rattle.gm_mutorere.specs.Board.{number_of_points, legal, can_move, may_go, moved, can_have_led_here, undo, ring_index, ring_board, mutorere, mutorere_rules}
+use Rattle.gm_mutorere.specs.Texts.{point_byte, board_text, step_text, position_text, move_text}
 use Rattle.gm_mutorere.specs.laws.RingTables.{ring_game}
 use Rattle.gm_mutorere.specs.laws.RingFacts.{joined_next}
 
 -- ---- the tests
-same_number : (p : Cell → Bool) (b : List Cell) → number_on p b ≡ number_of p b
+same_number : (p : Cell → Bool) (b : List Cell) → number_on p b ≡ number_of_points p b
 unfolding number_on
 same_number p [] = refl
 same_number p (c ∷ b) = sum_by-cons (λ (x : Cell). if p x then 1 else 0) c b ∙ ap (λ (n : ℕ). (if p c then 1 else 0) + n) (same_number p b)
@@ -43,7 +39,7 @@ abbrev with_tests : (List Cell → Bool) → (List Cell → ℕ → Bool) → (L
 with_tests l c w = record mutorere { legal = l; can_move = c; can_have_led_here = λ t d m. w d m }
 
 in_tables : way_game 9 ring_game ≡ with_tests (legal_on_ways 9 ring_game) (can_move_on_ways ring_game) (was_moved_on_ways ring_game)
-unfolding end_by_last_move moved_on_ways moved taken_back_on_ways undo board_index ring_index board_numbered ring_board
+unfolding way_end_by_last_move moved_on_ways moved taken_back_on_ways undo board_index ring_index board_numbered ring_board
 in_tables = refl
 
 same_game : way_game 9 ring_game ≡ mutorere
@@ -57,7 +53,7 @@ pub ring_rules : way_rules 9 ring_game ≡ mutorere_rules
 ring_rules = ap move_rules same_game
 
 -- ---- the texts
-same_char : (c : Cell) → cell_char c ≡ cell_text c
+same_char : (c : Cell) → cell_char c ≡ point_byte c
 same_char Empty = refl
 same_char Mine = refl
 same_char Theirs = refl

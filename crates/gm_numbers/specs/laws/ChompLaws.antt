@@ -1,14 +1,11 @@
 -- Chomp has the laws of a game. What holds of each bar is computed.
 use Rattle.std.specs.Prelude.{◌≡◌, ◌⊎◌, ◌+◌, ◌*◌, ◌/◌, ◌%◌, ◌<◌, ◌≤◌, ◌&&◌, ◌==◌, ◌∷◌, ◌^◌, nat_le}
 use Rattle.gm_game.proofs.PlainTexts.{plain_in}
-use Rattle.gm_pieces.specs.Common.{ℕ, zero, suc, Bool, true, false, length-range_with_len, eqb, eqb-true, eq-eqb, leb, leb-true, ltb, ltb-true, lt-ltb, List, [], length, refl, sym, ap, ap₂, ◌∙◌, subst, arith}
-use Rattle.gm_pieces.specs.Common.{inl, inr, Contains, list_all, range_with_len, true≢false, and_left, and_right, and_both, contains_head, at_below, cases_lt, cond_both, cond-true}
-use Rattle.gm_pieces.specs.Common.{range_below, contains_range, IsAscending, is_plain, board_game, steps, IsMove, IsMoveGame, IsMoveSymmetric, IsNumbered, AreTexts, IsShown, texts_are_shown}
-use Rattle.gm_pieces.specs.Tried.{one, AreCandidates}
+use Rattle.gm_pieces.specs.Common.{ℕ, zero, suc, Bool, true, false, length-range_with_len, eqb, eqb-true, eq-eqb, leb, leb-true, ltb, ltb-true, lt-ltb, List, [], length, refl, sym, ap, ap₂, ◌∙◌, subst, arith, inl, inr, Contains, list_all, range_with_len, true≢false, and_left, and_right, and_both, contains_head, at_below, cases_lt, cond_both, cond-true, range_below, contains_range, IsAscending, is_plain, board_game, steps, IsMove, IsMoveGame, IsMoveSymmetric, IsNumbered, AreTexts, IsShown, texts_are_shown}
+use Rattle.gm_pieces.specs.inner.Tried.{one, AreCandidates}
 use Rattle.gm_pieces.specs.SmallTables.{implies}
 use Rattle.gm_pieces.specs.laws.TriedFacts.{one_run, tried_few}
-use Rattle.gm_numbers.specs.Chomp.{chomp, chomp_rules, chomp_text, chomp_move, weight, row_of, legal, has_square, left_of, bitten, can_move, moved, can_have_led_here, undo, size_at}
-use Rattle.gm_numbers.specs.Chomp.{child_tiers_of, board_text, number_in, step_text}
+use Rattle.gm_numbers.specs.Chomp.{chomp, chomp_rules, chomp_text, chomp_move, weight, row_of, legal, has_square, left_of, bitten, can_move, moved, can_have_led_here, undo, size_at, child_tiers_of, board_text, number_in, step_text}
 use Rattle.gm_numbers.specs.laws.Counts.{count, none_in, blocks}
 
 -- ---- what computing shows of each bar

@@ -1,9 +1,7 @@
 -- The other tiers to which steps from a tier lead.
 use Rattle.std.specs.Prelude.{◌≡◌, ◌<◌, ◌≤◌, ◌&&◌, ◌==◌, ◌++◌, ◌+◌, if◌then◌else◌, None, Some}
-use Rattle.gm_pieces.specs.Common.{ℕ, Bool, true, false, not, eqb, eqb-true, leb, leb-true, le-leb, ltb-true, List, [], length, sym, ap, ap₂, ◌∙◌, subst, arith, inl, inr}
-use Rattle.gm_pieces.specs.Common.{cases_Bool, cases_lt, cond-true, cond-false, true≢false, or_cases, Contains, Contains-append_left, Contains-append_right}
-use Rattle.gm_pieces.specs.Common.{and_left, and_right, and_both, filter_map, put_all}
-use Rattle.gm_pieces.specs.Lower.{filter_map_from, filter_map_to}
+use Rattle.gm_pieces.specs.Common.{ℕ, Bool, true, false, not, eqb, eqb-true, leb, leb-true, le-leb, ltb-true, List, [], length, sym, ap, ap₂, ◌∙◌, subst, arith, inl, inr, cases_Bool, cases_lt, cond-true, cond-false, true≢false, or_cases, Contains, Contains-append_left, Contains-append_right, and_left, and_right, and_both, filter_map, put_all}
+use Rattle.gm_board.specs.laws.Lists.{filter_map_from, filter_map_to}
 use Rattle.gm_game.specs.Rules.{IsAscending}
 use Rattle.gm_game.proofs.Putting.{put_all_ascending, put_all_from, put_all_later}
 use Rattle.std.proofs.lemmas.Bool.{cond_both}

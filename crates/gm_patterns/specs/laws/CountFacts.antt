@@ -1,9 +1,7 @@
 -- The numbers of pieces after a step.
 use Rattle.std.specs.Prelude.{◌≡◌, ◌+◌, ◌<◌, ◌≤◌}
-use Rattle.gm_pieces.specs.Common.{ℕ, Bool, true, false, List, length, replicate, refl, sym, ap, ◌∙◌, subst, arith, inl, inr, cases_Bool, cases_lt, true≢false}
-use Rattle.gm_pieces.specs.Common.{le-leb, length-replicate, get_or_past, range_with_len, range_below, filter_few, and_both, has_cell, Cell, Empty}
-use Rattle.gm_pieces.specs.Common.{cell_at, is_mine, is_theirs, number_of, cells_counted, all_cells}
-use Rattle.gm_pieces.specs.Lower.{one_if}
+use Rattle.gm_pieces.specs.Common.{ℕ, Bool, true, false, List, length, replicate, refl, sym, ap, ◌∙◌, subst, arith, inl, inr, cases_Bool, cases_lt, true≢false, le-leb, length-replicate, get_or_past, range_with_len, range_below, filter_few, and_both, has_cell, Cell, Empty, cell_at, is_mine, is_theirs, number_of, cells_counted, all_cells}
+use Rattle.gm_board.specs.laws.CellCounts.{one_if}
 use Rattle.std.proofs.lemmas.List.{get_or-replicate}
 use Rattle.gm_patterns.specs.Patterns.{fits}
 use Rattle.gm_patterns.specs.Steps.{cells_in, laid, stepped}

@@ -1,9 +1,6 @@
 -- The indexes of boards: one to one on the legal boards of a tier.
 use Rattle.std.specs.Prelude.{◌≡◌, ◌+◌, ◌-◌, ◌*◌, ◌^◌, ◌<◌, ◌≤◌, ◌⊎◌, ◌∷◌, if◌then◌else◌}
-use Rattle.gm_pieces.specs.Common.{ℕ, zero, suc, min, fold, true, leb, eq-eqb, ne_eqb, le-leb, lt-ltb, List, [], map, refl, sym, ap, ap₂, ◌∙◌, subst}
-use Rattle.gm_pieces.specs.Common.{arith, inl, inr, cases_Bool, cases_lt, cond-true, cond-false, zero-add, pow_pos, pow_mono, binomial_zero, pascal, Cell, Empty}
-use Rattle.gm_pieces.specs.Common.{is_mine, is_theirs, number_of, permute, board_index, board_numbered, least_index_under, index_below, board_back, index_back}
-use Rattle.gm_pieces.specs.Common.{board_game, least_index}
+use Rattle.gm_pieces.specs.Common.{ℕ, zero, suc, min, fold, true, leb, eq-eqb, ne_eqb, le-leb, lt-ltb, List, [], map, refl, sym, ap, ap₂, ◌∙◌, subst, arith, inl, inr, cases_Bool, cases_lt, cond-true, cond-false, zero-add, pow_pos, pow_mono, binomial_zero, pascal, Cell, Empty, is_mine, is_theirs, number_of, permute, board_index, board_numbered, least_index_under, index_below, board_back, index_back, board_game, least_index}
 use Rattle.gm_pieces.specs.laws.NumberFacts.{board_numbers}
 use Rattle.gm_pieces.specs.laws.MaskFacts.{same_map}
 use Rattle.gm_board.specs.Arrangements.{arrangements}

@@ -1,10 +1,8 @@
 -- Boards on which a pattern is laid: what lies on a cell, steps made and taken back, and images.
 use Rattle.std.specs.Prelude.{◌≡◌, ◌^◌, ◌<◌, ◌||◌, if◌then◌else◌}
-use Rattle.gm_pieces.specs.Common.{ℕ, Bool, true, false, not, eqb, List, length, get_or, refl, sym, ap, ap₂, ◌∙◌, subst, inl, inr, cases_Bool}
-use Rattle.gm_pieces.specs.Common.{cond-true, cond-false, true≢false, ltb-true, and_left, and_right, bit_or, ext_get_or, range_with_len, length-map-range_with_len, zero-add, contains_range, all_at}
-use Rattle.gm_pieces.specs.Common.{bit_at, has_cell, has_or, Cell, Empty, Mine, Theirs, cell_at, permute, permute_get, permute_length, IsPermutationOf}
+use Rattle.gm_pieces.specs.Common.{ℕ, Bool, true, false, not, eqb, List, length, get_or, refl, sym, ap, ap₂, ◌∙◌, subst, inl, inr, cases_Bool, cond-true, cond-false, true≢false, ltb-true, and_left, and_right, bit_or, ext_get_or, range_with_len, length-map-range_with_len, zero-add, contains_range, all_at, bit_at, has_cell, has_or, Cell, Empty, Mine, Theirs, cell_at, permute, permute_get, permute_length, IsPermutationOf}
 use Rattle.std.proofs.lemmas.List.FromFn.{get_or-map-range_with_len}
-use Rattle.gm_board.specs.Words.{just_one}
+use Rattle.gm_board.specs.inner.Words.{just_one}
 use Rattle.gm_board.specs.laws.Images.{image_bit}
 use Rattle.gm_board.specs.laws.Permutations.{below_at}
 use Rattle.gm_patterns.specs.Patterns.{lets, fits, image_pattern}

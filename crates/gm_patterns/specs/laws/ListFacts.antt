@@ -1,8 +1,7 @@
 -- Lists: what fails a test, lists of lists, and counts that balance.
 use Rattle.std.specs.Prelude.{◌≡◌, ◌+◌, ◌∷◌, ◌++◌, ◌⊎◌, Option, None}
 use Rattle.std.specs.List.{cons_option}
-use Rattle.gm_pieces.specs.Common.{ℕ, Bool, true, not, List, [], length, refl, sym, ap, ◌∙◌, subst, arith, inl, inr, cases_Bool}
-use Rattle.gm_pieces.specs.Common.{Contains, contains_cases, contains_head, contains_later, filter, filter_map, filter_to, flat_map}
+use Rattle.gm_pieces.specs.Common.{ℕ, Bool, true, not, List, [], length, refl, sym, ap, ◌∙◌, subst, arith, inl, inr, cases_Bool, Contains, contains_cases, contains_head, contains_later, filter, filter_map, filter_to, flat_map}
 use Rattle.gm_board.specs.laws.CellCounts.{one_if}
 use Rattle.gm_patterns.specs.PatternTables.{failing}
 

@@ -1,12 +1,10 @@
 -- What the masks of the code say.
 use Rattle.std.specs.Prelude.{◌≡◌, ◌+◌, ◌-◌, ◌*◌, ◌%◌, ◌^◌, ◌<◌, ◌≤◌, ◌&&◌, ◌||◌, Option, None, Some, if◌then◌else◌}
-use Rattle.gm_pieces.specs.Common.{ℕ, w32, Bool, true, false, not, [], Contains-get_or, eqb, eqb-true, eq-eqb, leb-true, List, map, length, get_or, replicate, refl, sym, ap}
-use Rattle.gm_pieces.specs.Common.{ap₂, ◌∙◌, subst, arith, inl, inr, cases_Bool, cases_lt, cond-true, cond-false, true≢false, not-true, ext_get_or, length-replicate}
-use Rattle.gm_pieces.specs.Common.{pow_mono, bit_and, bit_or, bit_not, bit_at_above, bit_at_ones, one_shl, or_lt, and_le_l, and_left, and_right, has_cell, has_and, has_or, has_not}
-use Rattle.gm_pieces.specs.Common.{has_none, same_tests, Cell, Empty, Mine, Theirs, cell_at, is_mine, is_theirs, number_of, turned}
-use Rattle.gm_pieces.specs.Lower.{apart_below, cell_by, board_get, board_length}
+use Rattle.gm_pieces.specs.Common.{ℕ, w32, Bool, true, false, not, [], Contains-get_or, eqb, eqb-true, eq-eqb, leb-true, List, map, length, get_or, replicate, refl, sym, ap, ap₂, ◌∙◌, subst, arith, inl, inr, cases_Bool, cases_lt, cond-true, cond-false, true≢false, not-true, ext_get_or, length-replicate, pow_mono, bit_and, bit_or, bit_not, bit_at_above, bit_at_ones, one_shl, or_lt, and_le_l, and_left, and_right, has_cell, has_and, has_or, has_not, has_none, same_tests, Cell, Empty, Mine, Theirs, cell_at, is_mine, is_theirs, number_of, turned}
+use Rattle.gm_board.specs.laws.Pieces.{apart_below}
+use Rattle.gm_board.specs.Pieces.{cell_by}
+use Rattle.gm_board.specs.laws.Images.{board_get, board_length, image_apart, image_board, image_within}
 use Rattle.gm_board.specs.Images.{board_of}
-use Rattle.gm_board.specs.laws.Images.{image_apart, image_board, image_within}
 use Rattle.std.proofs.lemmas.List.{get_or_default, get_or-replicate}
 use Rattle.std.proofs.lemmas.Nat.{xor_lt}
 use Rattle.std.proofs.lemmas.Nat.Bits.{bit_at-zero, bit_at_ones_above}

@@ -1,13 +1,11 @@
 -- What holds of tables with which nothing is wrong.
 use Rattle.std.specs.Prelude.{◌≡◌, ◌≤◌, ◌∷◌}
-use Rattle.gm_pieces.specs.Common.{ℕ, Bool, true, false, List, [], length, map, refl, leb, leb-true, eqb-true, and_left, and_right, flat_map}
-use Rattle.gm_pieces.specs.Common.{is_group_table}
+use Rattle.gm_pieces.specs.Common.{ℕ, Bool, true, false, List, [], length, map, refl, leb, leb-true, eqb-true, and_left, and_right, flat_map, is_group_table}
 use Rattle.gm_draw.specs.Points.{are_apart}
 use Rattle.gm_game.specs.Texts.{IsPaddedText}
 use Rattle.gm_game.specs.declared.limits.TheConstants.{NAME}
 use Rattle.gm_patterns.specs.PatternGames.{PatternGame, legal}
-use Rattle.gm_patterns.specs.PatternTables.{Fault, faults, IsPatternGame, unless, wrong_steps, wrong_numbers, failing, is_cell_name, is_step, named_again, keeps_legal}
-use Rattle.gm_patterns.specs.PatternTables.{are_numbered, are_right, is_turn, has_steps, has_images}
+use Rattle.gm_patterns.specs.PatternTables.{Fault, faults, IsPatternGame, unless, wrong_steps, wrong_numbers, failing, is_cell_name, is_step, named_again, keeps_legal, are_numbered, are_right, is_turn, has_steps, has_images}
 use Rattle.gm_patterns.specs.laws.ListFacts.{both_nil}
 
 -- the tests that the tables pass, and what fails a test, which is nothing

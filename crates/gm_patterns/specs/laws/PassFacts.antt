@@ -1,11 +1,10 @@
 -- The board as the other player sees it.
 use Rattle.std.specs.Prelude.{◌≡◌, ◌<◌, Option, None, Some, if◌then◌else◌}
-use Rattle.gm_pieces.specs.Common.{ℕ, Bool, true, false, cond, List, length, arith, refl, sym, ap, ap₂, ◌∙◌, subst, Contains, all_at, and_left, and_right, Cell, Empty}
-use Rattle.gm_pieces.specs.Common.{is_mine, is_theirs, mine_turned, turned, turned_twice, permute, permute_length, permute_turned, IsPermutationOf, same_list}
-use Rattle.gm_pieces.specs.Common.{same_list_true}
-use Rattle.gm_pieces.specs.Lower.{length-map, theirs_turned, permute_identity}
+use Rattle.gm_pieces.specs.Common.{ℕ, Bool, true, false, cond, List, length, arith, refl, sym, ap, ap₂, ◌∙◌, subst, Contains, all_at, and_left, and_right, Cell, Empty, is_mine, is_theirs, mine_turned, turned, turned_twice, permute, permute_length, permute_turned, IsPermutationOf, same_list, same_list_true}
+use Rattle.std.proofs.lemmas.List.{length-map}
+use Rattle.gm_board.specs.laws.CellCounts.{theirs_turned}
+use Rattle.gm_board.specs.laws.Permutations.{permute_identity, below_in, permutation_from_test, permute_permute, permuted_sum}
 use Rattle.gm_board.specs.Cells.{number_of}
-use Rattle.gm_board.specs.laws.Permutations.{below_in, permutation_from_test, permute_permute, permuted_sum}
 use Rattle.gm_patterns.specs.Patterns.{fits}
 use Rattle.gm_patterns.specs.PatternGames.{PatternGame, tier_by, tier_of, tier_on, swap_by, turn_by, passed}
 use Rattle.gm_patterns.specs.PatternTables.{swap_pattern, turn_pattern, pass_pattern, is_turn}

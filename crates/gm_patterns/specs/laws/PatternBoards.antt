@@ -1,9 +1,7 @@
 -- Legal boards, ends, and what images keep of them.
 use Rattle.std.specs.Prelude.{◌≡◌, ◌+◌, ◌<◌, ◌≤◌, ◌∷◌, min, max, nat_le, if◌then◌else◌, Option, None, Some}
 use Rattle.std.specs.Option.{is_none}
-use Rattle.gm_pieces.specs.Common.{ℕ, Bool, true, false, not, not-true, eqb-true, eq-eqb, List, length, refl, ap, ap₂, ◌∙◌, subst, arith, Contains}
-use Rattle.gm_pieces.specs.Common.{[], get_or, Contains-get_or, list_any, all_at, any_at, any_from, same_tests, and_left, and_right, and_both, Cell, Empty, is_mine, is_theirs, number_of}
-use Rattle.gm_pieces.specs.Common.{permute, IsGroup, group_permutation, image_back, image_length, image_number}
+use Rattle.gm_pieces.specs.Common.{ℕ, Bool, true, false, not, not-true, eqb-true, eq-eqb, List, length, refl, ap, ap₂, ◌∙◌, subst, arith, Contains, [], get_or, Contains-get_or, list_any, all_at, any_at, any_from, same_tests, and_left, and_right, and_both, Cell, Empty, is_mine, is_theirs, number_of, permute, IsGroup, group_permutation, image_back, image_length, image_number}
 use Rattle.gm_game.specs.declared.position.End.{End}
 use Rattle.gm_game.specs.declared.position.End.TheVariants.{Lose, Tie, Win}
 use Rattle.gm_patterns.specs.Patterns.{fits, has_some, image_pattern, same_pattern}

@@ -1,10 +1,8 @@
 -- Patterns: what it means that a board has one, and patterns of which one follows from others.
 use Rattle.std.specs.Prelude.{◌≡◌, ◌+◌, ◌-◌, ◌%◌, ◌^◌, ◌<◌, ◌&&◌, ◌||◌}
-use Rattle.gm_pieces.specs.Common.{ℕ, min, Bool, true, false, not, eqb, ltb, eqb-true, List, map, length, get_or, refl, sym, ap, ◌∙◌, subst, inl, inr}
-use Rattle.gm_pieces.specs.Common.{cases_lt, true≢false, not-true, bit_and, bit_or, bit_at, list_any, range_with_len, all_at}
-use Rattle.gm_pieces.specs.Common.{and_left, and_right, contains_range, range_below, has_cell, has_and, has_or, has_none, Cell, Empty, Mine, Theirs}
-use Rattle.gm_pieces.specs.Common.{cell_at, turned, permute, permute_get, permute_length, IsPermutationOf, any_at, any_from}
-use Rattle.gm_pieces.specs.Lower.{cell_turned, length-map}
+use Rattle.gm_pieces.specs.Common.{ℕ, min, Bool, true, false, not, eqb, ltb, eqb-true, List, map, length, get_or, refl, sym, ap, ◌∙◌, subst, inl, inr, cases_lt, true≢false, not-true, bit_and, bit_or, bit_at, list_any, range_with_len, all_at, and_left, and_right, contains_range, range_below, has_cell, has_and, has_or, has_none, Cell, Empty, Mine, Theirs, cell_at, turned, permute, permute_get, permute_length, IsPermutationOf, any_at, any_from}
+use Rattle.gm_board.specs.laws.Turned.{cell_turned}
+use Rattle.std.proofs.lemmas.List.{length-map}
 use Rattle.std.proofs.lemmas.Bool.{or_parts}
 use Rattle.std.proofs.lemmas.Nat.Bits.{bit_at-lt, bit_at_ones_above, bit_at_xor, bit_at_and}
 use Rattle.gm_board.specs.laws.Images.{image_bit}
@@ -12,7 +10,7 @@ use Rattle.gm_board.specs.laws.Lists.{all_from}
 use Rattle.gm_board.specs.laws.Masks.{bit_cases}
 use Rattle.gm_board.specs.laws.Permutations.{below_at}
 use Rattle.gm_patterns.specs.Patterns.{lets, fits, has_some, both, without, image_pattern, same_pattern}
-use Rattle.gm_patterns.specs.PatternTables.{is_void, implies, outside, swap_pattern}
+use Rattle.gm_patterns.specs.PatternTables.{is_void, pattern_implies, outside, swap_pattern}
 use Rattle.gm_patterns.specs.PatternGames.{swap_by}
 use Rattle.gm_patterns.specs.declared.pattern.Pattern.{Pattern}
 
@@ -117,19 +115,19 @@ kept_bit : (p q k : ℕ) → eqb (bit_and q p) q ≡ true → not (has_cell p k)
 kept_bit p q k e f =
     ap not (ap (λ (m : ℕ). has_cell m k) (sym (eqb-true (bit_and q p) q e)) ∙ has_and q p k ∙ and_false_right (has_cell q k) (has_cell p k) (not-true _ f))
 
-lets_implied : (p q : Pattern) (k : ℕ) (c : Cell) → implies p q ≡ true → lets p k c ≡ true → lets q k c ≡ true
+lets_implied : (p q : Pattern) (k : ℕ) (c : Cell) → pattern_implies p q ≡ true → lets p k c ≡ true → lets q k c ≡ true
 lets_implied p q k Empty i e = kept_bit p.not_empty q.not_empty k (and_left _ _ i) e
 lets_implied p q k Mine i e = kept_bit p.not_mine q.not_mine k (and_left _ _ (and_right _ _ i)) e
 lets_implied p q k Theirs i e = kept_bit p.not_theirs q.not_theirs k (and_right _ _ (and_right _ _ i)) e
 
 -- a board that has a pattern has each pattern that it implies
-pub fits_implied : (p q : Pattern) (b : List Cell) → implies p q ≡ true → fits p b ≡ true → fits q b ≡ true
+pub fits_implied : (p q : Pattern) (b : List Cell) → pattern_implies p q ≡ true → fits p b ≡ true → fits q b ≡ true
 fits_implied p q b i e = fits_from q b (λ k l. lets_implied p q k (cell_at b k) i (fits_at p b e k l))
 
 -- so if some pattern of a list is implied, the board has one of the list
-pub some_implied : (ps : List Pattern) (p : Pattern) (b : List Cell) → list_any (implies p) ps ≡ true → fits p b ≡ true → has_some ps b ≡ true
+pub some_implied : (ps : List Pattern) (p : Pattern) (b : List Cell) → list_any (pattern_implies p) ps ≡ true → fits p b ≡ true → has_some ps b ≡ true
 some_implied ps p b i e =
-    let x = any_at (implies p) ps i in
+    let x = any_at (pattern_implies p) ps i in
     any_from (λ (q : Pattern). fits q b) ps x.0 x.1 (fits_implied p x.0 b x.2 e)
 
 -- ---- images

@@ -1,7 +1,6 @@
 -- A game whose tables are right has the laws of a game.
 use Rattle.std.specs.Prelude.{◌<◌, ◌≤◌}
-use Rattle.gm_pieces.specs.Common.{ℕ, Bool, length, refl, subst, arith, filter, range_with_len, length-range_with_len, Empty, IsNumbered, IsMoveGame, IsMoveSymmetric}
-use Rattle.gm_pieces.specs.Common.{board_game, steps, permuted_group}
+use Rattle.gm_pieces.specs.Common.{ℕ, Bool, length, refl, subst, arith, filter, range_with_len, length-range_with_len, Empty, IsNumbered, IsMoveGame, IsMoveSymmetric, board_game, steps, permuted_group}
 use Rattle.std.proofs.lemmas.List.Sums.{length-filter, count_by-le-length}
 use Rattle.gm_patterns.specs.PatternGames.{PatternGame, tier_on, steps_of, legal, can_move, can_have_led_here, pattern_game}
 use Rattle.gm_patterns.specs.PatternTables.{IsPatternGame}

@@ -1,15 +1,11 @@
 -- Moves of a game of patterns: where they lead, how they are taken back, and moves of images.
 use Rattle.std.specs.Prelude.{◌≡◌, ◌<◌, ◌&&◌, ◌||◌, ◌==◌, nat_lt, ◌⊎◌, None}
-use Rattle.gm_pieces.specs.Common.{ℕ, Bool, true, false, eqb, eqb-true, List, length, get_or, refl, sym, ap, ap₂, ◌∙◌, subst, inl, inr}
-use Rattle.gm_pieces.specs.Common.{cases_Bool, true≢false, false_from_ne_true, or_cases, Contains, list_any, all_at, any_at, and_left, and_right}
-use Rattle.gm_pieces.specs.Common.{and_both, has_cell, Cell, Empty, cell_at, is_mine}
-use Rattle.gm_pieces.specs.Common.{is_theirs, number_of, permute, group_permutation, IsMove}
+use Rattle.gm_pieces.specs.Common.{ℕ, Bool, true, false, eqb, eqb-true, List, length, get_or, refl, sym, ap, ap₂, ◌∙◌, subst, inl, inr, cases_Bool, true≢false, false_from_ne_true, or_cases, Contains, list_any, all_at, any_at, and_left, and_right, and_both, has_cell, Cell, Empty, cell_at, is_mine, is_theirs, number_of, permute, group_permutation, IsMove}
 use Rattle.std.proofs.lemmas.List.{get_or_default}
 use Rattle.gm_patterns.specs.Patterns.{lets, fits, has_some, both, image_pattern}
 use Rattle.gm_patterns.specs.Steps.{cells_in, laid, stepped, taken_back}
-use Rattle.gm_patterns.specs.PatternGames.{PatternGame, tier_of, tier_on, can_have, can_play, steps_of, step_at, no_step, end_by_last_move, passed, can_move, moved, can_have_led_here, undo}
-use Rattle.gm_patterns.specs.PatternGames.{number_after, has_enough, tier_after, child_tiers, rank_of, pattern_game}
-use Rattle.gm_patterns.specs.PatternTables.{IsPatternGame, implies, outside, pass_pattern, can_pass, is_ruled_out, avoids, is_image}
+use Rattle.gm_patterns.specs.PatternGames.{PatternGame, tier_of, tier_on, can_have, can_play, steps_of, step_at, no_step, end_by_last_move, passed, can_move, moved, can_have_led_here, undo, number_after, has_enough, tier_after, child_tiers, rank_of, pattern_game}
+use Rattle.gm_patterns.specs.PatternTables.{IsPatternGame, pattern_implies, outside, pass_pattern, can_pass, is_ruled_out, avoids, is_image}
 use Rattle.gm_patterns.specs.laws.NoFaults.{tables_right}
 use Rattle.gm_patterns.specs.laws.PatternFacts.{fits_at, fits_from, lets_both, lets_outside, not_void, some_implied, same_pattern_true, fits_image}
 use Rattle.gm_patterns.specs.laws.LaidFacts.{laid_length, laid_off, laid_back, laid_fits, laid_image, IsRightStep}
@@ -72,7 +68,7 @@ module _ (n : ℕ) (g : PatternGame) (h : IsPatternGame n g) (b : List Cell) (m 
   -- no board that can be and on which the game goes on has a pattern that is ruled out
   not_ruled_out : (p : Pattern) → IsLegal n g b → GoesOn g b → fits p b ≡ true → is_ruled_out g p ≡ true → ⊥
   not_ruled_out p w u f r =
-      let none : (ps : List Pattern) → has_some ps b ≡ false → list_any (implies p) ps ≡ true → ⊥ =
+      let none : (ps : List Pattern) → has_some ps b ≡ false → list_any (pattern_implies p) ps ≡ true → ⊥ =
       λ ps i a. true≢false (sym (some_implied ps p b a f) ∙ i) in
       elim (or_cases _ _ r) [
         | inl a ↦ none g.forbidden w.allowed a

@@ -1,7 +1,6 @@
 -- The pictures of games of patterns satisfy the laws of pictures.
 use Rattle.std.specs.Prelude.{◌≡◌, ◌<◌, ◌∷◌, ◌++◌, if◌then◌else◌}
-use Rattle.gm_pieces.specs.Common.{ℕ, Bool, true, false, eqb, List, [], length, get_or, refl, sym, ◌∙◌, subst, arith, inl, inr}
-use Rattle.gm_pieces.specs.Common.{Position, board_game, Contains, Contains-get_or}
+use Rattle.gm_pieces.specs.Common.{ℕ, Bool, true, false, eqb, List, [], length, get_or, refl, sym, ◌∙◌, subst, arith, inl, inr, Position, board_game, Contains, Contains-get_or}
 use Rattle.gm_pieces.specs.laws.MoveLaws.{move_in}
 use Rattle.gm_pieces.specs.laws.SideTextFacts.{text_length}
 use Rattle.gm_game.proofs.BoardLaws.{legal_board, own_tier}

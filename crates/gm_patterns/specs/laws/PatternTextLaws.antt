@@ -1,9 +1,6 @@
 -- Texts are plain, fit a line, and tell positions and moves apart.
 use Rattle.std.specs.Prelude.{◌≡◌, ◌<◌, ◌≤◌, ◌∷◌, ◌++◌, if◌then◌else◌}
-use Rattle.gm_pieces.specs.Common.{ℕ, Bool, true, false, eqb, eqb-true, eq-eqb, leb-true, List, [], length, get_or, refl, sym, ◌∙◌, arith, inl, inr}
-use Rattle.gm_pieces.specs.Common.{cases_Bool, cases_eq, cases_lt, cond-true, cond-false, Contains-get_or, list_all, all_at, and_left, and_right, and_both, suc, zero}
-use Rattle.gm_pieces.specs.Common.{IsPlain, IsShown, plain_append, board_text, text_length, text_once, text_plain, AreTexts, texts_are_shown}
-use Rattle.gm_pieces.specs.Common.{Cell, not, not-true, true≢false, any_from, list_any, length-append, ap, ap₂}
+use Rattle.gm_pieces.specs.Common.{ℕ, Bool, true, false, eqb, eqb-true, eq-eqb, leb-true, List, [], length, get_or, refl, sym, ◌∙◌, arith, inl, inr, cases_Bool, cases_eq, cases_lt, cond-true, cond-false, Contains-get_or, list_all, all_at, and_left, and_right, and_both, suc, zero, IsPlain, IsShown, plain_append, cells_text, text_length, text_once, text_plain, AreTexts, texts_are_shown, Cell, not, not-true, true≢false, any_from, list_any, length-append, ap, ap₂}
 use Rattle.gm_draw.specs.Points.{are_apart}
 use Rattle.std.specs.Str.{bytes_eq}
 use Rattle.std.proofs.lemmas.Slice.Eq.{bytes_eq-Decides}
@@ -154,7 +151,7 @@ module _ (n : ℕ) (g : PatternGame) (h : IsPatternGame n g) where
       not_both n (get_or steps i no_step) (get_or steps j no_step) b e apart f w from to
 
   -- the laws of texts
-  pub pattern_readable : AreTexts (pattern_game n g) board_text (step_text n g)
+  pub pattern_readable : AreTexts (pattern_game n g) cells_text (step_text n g)
   unfolding step_text can_move name_at
   pattern_readable = record {
     text_plain = λ b l. text_plain b;
@@ -176,4 +173,4 @@ module _ (n : ℕ) (g : PatternGame) (h : IsPatternGame n g) where
 
   -- the laws of texts, for positions and their moves
   pub pattern_shown : IsShown (pattern_rules n g) (pattern_text n g) (pattern_move_text n g)
-  pattern_shown = texts_are_shown (pattern_game n g) board_text (step_text n g) (pattern_numbered n g h) pattern_readable
+  pattern_shown = texts_are_shown (pattern_game n g) cells_text (step_text n g) (pattern_numbered n g h) pattern_readable

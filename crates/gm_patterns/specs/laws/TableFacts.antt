@@ -1,10 +1,7 @@
 -- What the tables of a game of patterns say.
 use Rattle.std.specs.Prelude.{◌≡◌, ◌+◌, ◌*◌, ◌/◌, ◌%◌, ◌<◌, ◌≤◌, ◌&&◌, ◌||◌, ◌==◌, nat_le, nat_lt, min, max, if◌then◌else◌}
-use Rattle.gm_pieces.specs.Common.{ℕ, Bool, true, false, leb, leb-true, eqb-true, List, [], length, get_or, sym, ap, ap₂, ◌∙◌, arith, inl, inr, cases_lt}
-use Rattle.gm_pieces.specs.Common.{get_or_past, Contains, Contains-get_or, list_all, range_with_len, contains_range, all_at, and_left, and_right}
-use Rattle.gm_pieces.specs.Common.{IsGroup, group_from_table, cond-true, is_mine, is_theirs}
-use Rattle.gm_patterns.specs.PatternGames.{PatternGame, tier_of, more, fewer, can_have, can_play, steps_of, step_at, no_step, child_tiers, number_after, has_enough, tier_after}
-use Rattle.gm_patterns.specs.PatternGames.{rank_of, legal}
+use Rattle.gm_pieces.specs.Common.{ℕ, Bool, true, false, leb, leb-true, eqb-true, List, [], length, get_or, sym, ap, ap₂, ◌∙◌, arith, inl, inr, cases_lt, get_or_past, Contains, Contains-get_or, list_all, range_with_len, contains_range, all_at, and_left, and_right, IsGroup, group_from_table, cond-true, is_mine, is_theirs}
+use Rattle.gm_patterns.specs.PatternGames.{PatternGame, tier_of, more, fewer, can_have, can_play, steps_of, step_at, no_step, child_tiers, number_after, has_enough, tier_after, rank_of, legal}
 use Rattle.gm_patterns.specs.PatternTables.{IsPatternGame, wrong_steps, failing, is_step, keeps_legal, has_steps, can_pass, lands, come_back, are_numbered, are_right, wrong_numbers}
 use Rattle.gm_patterns.specs.laws.NoFaults.{tables_right}
 use Rattle.gm_patterns.specs.laws.ListFacts.{passes, none_in}

@@ -1,9 +1,13 @@
 -- The boards after a board, one for each move.
 use Rattle.std.specs.Prelude.{◌≡◌, ◌+◌, ◌<◌, ◌∷◌, ◌++◌}
-use Rattle.gm_pieces.specs.Lower.{ℕ, List, [], map, length, get_or, take, Option, None, Some, refl, sym, ap, ap₂, ◌∙◌, subst}
-use Rattle.gm_pieces.specs.Lower.{Contains, Contains-get_or, map_more, Position, End}
+use Rattle.std.proofs.Common.{ℕ, List, [], map, length, get_or, take, Option, None, Some, refl, sym, ap, ap₂, ◌∙◌, subst}
+use Rattle.std.specs.List.{Contains}
+use Rattle.std.proofs.lemmas.List.Elements.{Contains-get_or}
+use Rattle.std.proofs.lemmas.List.{map_more}
+use Rattle.gm_game.specs.declared.position.Position.{Position}
+use Rattle.gm_game.specs.declared.position.End.{End}
 use Rattle.gm_pieces.specs.MoveGames.{MoveGame, board_game, moves_by, IsMove}
-use Rattle.gm_pieces.specs.MoveChildren.{position_after}
+use Rattle.gm_pieces.specs.inner.MoveChildren.{position_after}
 use Rattle.gm_pieces.specs.laws.MoveLaws.{move_in}
 
 module _ {B S : Type 0} (g : MoveGame B S) (b : B) where

@@ -1,7 +1,13 @@
 -- If different moves lead to different least images, there are as many of these as moves.
 use Rattle.std.specs.Prelude.{◌≡◌, ◌≢◌, ◌<◌, ◌∷◌}
-use Rattle.gm_pieces.specs.Lower.{ℕ, true, List, [], map, length, Option, None, Some, sym, ap, ◌∙◌, subst, arith, inl, inr, length-map, Contains, IsAscending}
-use Rattle.gm_pieces.specs.Lower.{End, Position, least_image, next_images, set_of}
+use Rattle.std.proofs.Common.{ℕ, true, List, [], map, length, Option, None, Some, sym, ap, ◌∙◌, subst, arith, inl, inr}
+use Rattle.std.proofs.lemmas.List.{length-map}
+use Rattle.std.specs.List.{Contains}
+use Rattle.gm_game.specs.Rules.{IsAscending}
+use Rattle.gm_game.specs.declared.position.End.{End}
+use Rattle.gm_game.specs.declared.position.Position.{Position}
+use Rattle.gm_game.specs.Boards.{least_image, next_images}
+use Rattle.gm_game.specs.Children.{set_of}
 use Rattle.gm_game.proofs.ChildrenLemmas.{length_set}
 use Rattle.gm_game.proofs.Counts.{HasNoRepeats}
 use Rattle.gm_game.proofs.Lists.{contains_none, contains_first, contains_later, map_in}

@@ -1,8 +1,13 @@
 -- Lists of numbers that ascend, and room in a list into which indexes are put one at a time.
 use Rattle.std.specs.Prelude.{◌≡◌, ◌↔◌, ◌+◌, ◌<◌, ◌≤◌, ◌∷◌}
-use Rattle.gm_pieces.specs.Lower.{ℕ, zero, suc, Bool, List, [], map, length, Option, Some, refl, sym, ap, ◌∙◌, inl, inr, subst, arith, Contains, filter}
-use Rattle.gm_pieces.specs.Lower.{filter_map, range_with_len, cond_both, length-map, IsAscending, put_all, range_in, one_more_map, room, contains_head}
-use Rattle.gm_pieces.specs.Lower.{filter_from}
+use Rattle.std.proofs.Common.{ℕ, zero, suc, Bool, List, [], map, length, Option, Some, refl, sym, ap, ◌∙◌, inl, inr, subst, arith}
+use Rattle.std.specs.List.{Contains, filter, filter_map, range_with_len}
+use Rattle.std.proofs.lemmas.Bool.{cond_both}
+use Rattle.std.proofs.lemmas.List.{length-map}
+use Rattle.gm_game.specs.Rules.{IsAscending}
+use Rattle.gm_game.specs.Ascending.{put_all}
+use Rattle.gm_board.specs.laws.Filters.{range_in, one_more_map, room}
+use Rattle.gm_board.specs.laws.Lists.{contains_head, filter_from}
 use Rattle.gm_game.proofs.Lists.{contains_none, contains_first, contains_later, contains_cases}
 use Rattle.gm_game.proofs.Putting.{put_all_ascending, put_all_few, put_all_from, put_all_later}
 

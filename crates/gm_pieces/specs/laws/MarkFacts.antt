@@ -1,19 +1,24 @@
 -- Numbers that masks mark: the places of a mask from the lowest on, and the numbers at them.
-use Rattle.std.specs.Prelude.{◌≡◌, ◌≢◌, ◌↔◌, ◌+◌, ◌*◌, ◌%◌, ◌^◌, ◌<◌, ◌≤◌, ◌∷◌, ◌++◌, ◌&&◌}
-use Rattle.gm_pieces.specs.Lower.{ℕ, zero, suc, Bool, true, false, List, [], map, length, append-nil, refl, sym, ap, ap₂, ◌∙◌, subst, arith, inl, inr, cases_Bool, cases_lt, cases_eq}
-use Rattle.gm_pieces.specs.Lower.{true≢false, eqb, eqb-true, length-append, length-map, count_ones, bit_and, bit_at, bit_not, bit_at_clear_same, bit_at_clear_other, trailing_zeros, bit_at-zero, has_cell, members, members_small}
-unfoldable use Rattle.gm_pieces.specs.Lower.{tests_of}
-use Rattle.gm_pieces.specs.Lower.{tests_none, tests_more, Contains, filter, range_with_len, filter_from, filter_to, filter_in, filter_out, nil_or}
-use Rattle.gm_pieces.specs.Lower.{contains_cases, contains_head, contains_later, contains_range, range_below, IsAscending}
-use Rattle.std.specs.Int.{w64}
-use Rattle.std.proofs.lemmas.Nat.Bits.{bit_at-lt, bit_at-trailing_zeros}
+use Rattle.std.specs.Prelude.{◌≡◌, ◌≢◌, ◌↔◌, ◌+◌, ◌*◌, ◌%◌, ◌^◌, ◌<◌, ◌≤◌, ◌∷◌, ◌++◌, ◌&&◌, count_ones, bit_and}
+use Rattle.std.proofs.Common.{ℕ, zero, suc, Bool, true, false, List, [], map, length, refl, sym, ap, ap₂, ◌∙◌, subst, arith, inl, inr, true≢false, eqb, eqb-true}
+use Rattle.std.proofs.lemmas.List.{append-nil, length-append, length-map}
+use Rattle.std.proofs.lemmas.Bool.{cases_Bool, cases_lt, cases_eq}
+use Rattle.std.specs.Int.{bit_at, bit_not, trailing_zeros, w64}
+use Rattle.std.proofs.lemmas.Nat.Bits.{bit_at_clear_same, bit_at_clear_other, bit_at-zero, bit_at-lt, bit_at-trailing_zeros}
+use Rattle.gm_board.specs.Masks.{has_cell}
+use Rattle.gm_board.specs.Ranks.{members}
+use Rattle.gm_board.specs.laws.Masks.{members_small, tests_none, tests_more, members_add, members_skip}
+unfoldable use Rattle.gm_board.specs.Masks.{tests_of}
+use Rattle.std.specs.List.{Contains, filter, range_with_len}
+use Rattle.gm_board.specs.laws.Lists.{filter_from, filter_to, contains_cases, contains_head, contains_later, contains_range, range_below}
+use Rattle.gm_board.specs.laws.Filters.{filter_in, filter_out, nil_or}
+use Rattle.gm_game.specs.Rules.{IsAscending}
 use Rattle.gm_board.specs.laws.MaskChanges.{no_bit}
-use Rattle.gm_board.specs.laws.Masks.{members_add, members_skip}
 use Rattle.gm_board.specs.laws.NextCells.{cell_one, cell_none}
 use Rattle.gm_pieces.specs.laws.Listed.{ascending_cons, ascending_once, filter_ascending}
 use Rattle.gm_pieces.specs.declared.marks.MarkedRun.{MarkedRun}
 use Rattle.gm_pieces.specs.declared.marks.Marks.{Marks}
-use Rattle.gm_pieces.specs.Marking.{places, run_number, numbers, marked}
+use Rattle.gm_pieces.specs.inner.Marking.{places, run_number, numbers, marked}
 
 -- ---- places
 pub place_in : (m k : ℕ) → Contains (places m) k → (k < 64) × (has_cell m k ≡ true)

@@ -1,17 +1,22 @@
 -- What the marks of moves say of the moves and of the boards before a board.
 use Rattle.std.specs.Prelude.{◌≡◌, ◌≢◌, ◌↔◌, ◌+◌, ◌^◌, ◌<◌, ◌≤◌, ◌∷◌, ◌&&◌}
-use Rattle.gm_pieces.specs.Lower.{ℕ, Bool, true, false, List, [], map, length, Option, None, Some, refl, sym, ap, ◌∙◌, subst, arith, inl, inr, cases_Bool}
-use Rattle.gm_pieces.specs.Lower.{cond-true, cond-false, and_left, Contains, range_with_len, filter_few, contains_range, range_below, contains_map, filter_map_from, filter_map_to}
-use Rattle.gm_pieces.specs.Lower.{put_all, End, HasSame, next_images, least_index}
-use Rattle.gm_board.specs.laws.Lists.{contains_unmap}
+use Rattle.std.proofs.Common.{ℕ, Bool, true, false, List, [], map, length, Option, None, Some, refl, sym, ap, ◌∙◌, subst, arith, inl, inr}
+use Rattle.std.proofs.lemmas.Bool.{cases_Bool, cond-true, cond-false}
+use Rattle.gm_board.specs.laws.Lists.{and_left, contains_range, range_below, contains_map, filter_map_from, filter_map_to, contains_unmap}
+use Rattle.std.specs.List.{Contains, range_with_len}
+use Rattle.gm_board.specs.laws.Filters.{filter_few}
+use Rattle.gm_game.specs.Ascending.{put_all}
+use Rattle.gm_game.specs.declared.position.End.{End}
+use Rattle.gm_game.specs.Children.{HasSame}
+use Rattle.gm_game.specs.Boards.{next_images, least_index}
 use Rattle.gm_game.proofs.Lists.{contains_none, contains_first, contains_later}
 use Rattle.gm_pieces.specs.laws.Listed.{put_all_same}
 use Rattle.gm_pieces.specs.laws.MoveLaws.{step_in, step_from}
 use Rattle.gm_pieces.specs.declared.marks.Marks.{Marks}
 use Rattle.gm_pieces.specs.MoveGames.{MoveGame, board_game, goes_on, before_at, moves_by, IsMove, IsMoveGame}
 unfoldable use Rattle.gm_pieces.specs.MoveGames.{steps, befores, before_at}
-use Rattle.gm_pieces.specs.MoveChildren.{position_after}
-use Rattle.gm_pieces.specs.Marking.{marked, AreMarks, IsLed, leads_here, index_before}
+use Rattle.gm_pieces.specs.inner.MoveChildren.{position_after}
+use Rattle.gm_pieces.specs.inner.Marking.{marked, AreMarks, IsLed, leads_here, index_before}
 
 -- ---- the first of the marked numbers, and the others
 pub first_in : (n : ℕ) (ns rest : List ℕ) → ns ≡ n ∷ rest → Contains ns n

@@ -1,8 +1,13 @@
 -- The numbering of the boards with these numbers of pieces of each side is one to one.
 use Rattle.std.specs.Prelude.{◌≡◌, ◌<◌}
-use Rattle.gm_pieces.specs.Lower.{ℕ, List, reverse, length, sym, ap, ◌∙◌, length-reverse, reverse-reverse, Cell, members, mine_bits, their_bits}
-use Rattle.gm_pieces.specs.Lower.{arrangement, arrangements, arrangement_index, arrangement_is, index_below_at, back_at, is_mine, is_theirs, number_of}
-use Rattle.gm_pieces.specs.Lower.{number_reverse, mine_members, their_members}
+use Rattle.std.proofs.Common.{ℕ, List, reverse, length, sym, ap, ◌∙◌}
+use Rattle.std.proofs.lemmas.List.{length-reverse, reverse-reverse}
+use Rattle.gm_board.specs.declared.cell.Cell.{Cell}
+use Rattle.gm_board.specs.Ranks.{members}
+use Rattle.gm_board.specs.Arrangements.{mine_bits, their_bits, arrangement, arrangements, arrangement_index}
+use Rattle.gm_board.specs.laws.Arrangements.{arrangement_is, index_below_at, back_at}
+use Rattle.gm_board.specs.Cells.{is_mine, is_theirs, number_of}
+use Rattle.gm_board.specs.laws.CellCounts.{number_reverse, mine_members, their_members}
 use Rattle.gm_pieces.specs.Sides.{board_index, board_numbered}
 
 -- the board has n cells, m pieces of the mover's and t of the opponent's

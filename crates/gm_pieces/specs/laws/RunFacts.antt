@@ -1,10 +1,12 @@
 -- Runs that mark the numbers that pass a test.
 use Rattle.std.specs.Prelude.{◌≡◌, ◌≢◌, ◌⊎◌, ◌+◌, ◌*◌, ◌/◌, ◌^◌, ◌<◌, ◌≤◌, ◌∷◌, ◌++◌}
-use Rattle.gm_pieces.specs.Lower.{ℕ, zero, suc, Bool, true, List, [], map, length, refl, sym, ap, ◌∙◌, subst, arith, inl, inr, Contains, Contains-append_left}
-use Rattle.gm_pieces.specs.Lower.{Contains-append_right, has_cell, cell_below, filter, range_with_len, filter_from, filter_to, contains_range, range_below, contains_map}
+use Rattle.std.proofs.Common.{ℕ, zero, suc, Bool, true, List, [], map, length, refl, sym, ap, ◌∙◌, subst, arith, inl, inr}
+use Rattle.std.specs.List.{Contains, filter, range_with_len}
+use Rattle.std.proofs.lemmas.List.Elements.{Contains-append_left, Contains-append_right, Contains-append_cases}
+use Rattle.gm_board.specs.Masks.{has_cell}
+use Rattle.gm_board.specs.laws.NextCells.{cell_below}
+use Rattle.gm_board.specs.laws.Lists.{filter_from, filter_to, contains_range, range_below, contains_map, contains_unmap}
 use Rattle.std.proofs.Math.Nat.{mul-div_cancel_left}
-use Rattle.std.proofs.lemmas.List.Elements.{Contains-append_cases}
-use Rattle.gm_board.specs.laws.Lists.{contains_unmap}
 use Rattle.gm_game.proofs.Counts.{HasNoRepeats, no_longer}
 use Rattle.gm_game.proofs.Lists.{contains_none, contains_first, contains_later, contains_cases}
 use Rattle.gm_pieces.specs.laws.Listed.{filter_ascending}
@@ -12,8 +14,8 @@ use Rattle.gm_pieces.specs.laws.CountFacts.{no_repeats_map, no_repeats_ascending
 use Rattle.gm_pieces.specs.laws.MarkFacts.{place_in, place_from}
 use Rattle.gm_pieces.specs.declared.marks.MarkedRun.{MarkedRun}
 use Rattle.gm_pieces.specs.declared.marks.Marks.{Marks}
-unfoldable use Rattle.gm_pieces.specs.Marking.{places}
-use Rattle.gm_pieces.specs.Marking.{run_number, numbers, marked, AreMarks}
+unfoldable use Rattle.gm_pieces.specs.inner.Marking.{places}
+use Rattle.gm_pieces.specs.inner.Marking.{run_number, numbers, marked, AreMarks}
 
 -- ---- lists without repeats
 places_once : (m : ℕ) → HasNoRepeats (places m)

@@ -1,7 +1,10 @@
 -- Numbers of a range that a loop skips: they change neither the numbers that pass a test nor the list of indexes.
 use Rattle.std.specs.Prelude.{◌≡◌, ◌+◌, ◌<◌}
-use Rattle.gm_pieces.specs.Lower.{ℕ, zero, suc, Bool, false, [], map, Option, None, ap, ◌∙◌, arith, filter, filter_map, range_with_len, put_all}
-use Rattle.gm_pieces.specs.Lower.{put_more_none, filter_out}
+use Rattle.std.proofs.Common.{ℕ, zero, suc, Bool, false, [], map, Option, None, ap, ◌∙◌, arith}
+use Rattle.std.specs.List.{filter, filter_map, range_with_len}
+use Rattle.gm_game.specs.Ascending.{put_all}
+use Rattle.gm_game.proofs.PuttingSteps.{put_more_none}
+use Rattle.gm_board.specs.laws.Filters.{filter_out}
 
 -- k numbers that don't pass the test
 pub filter_skip : (p : ℕ → Bool) (n k : ℕ) → ((i : ℕ) → i < k → p (n + i) ≡ false) → filter p (range_with_len 0 (n + k)) ≡ filter p (range_with_len 0 n)

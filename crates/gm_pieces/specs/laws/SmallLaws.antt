@@ -1,12 +1,9 @@
 -- A small game whose tables are right has the laws of a game.
 use Rattle.std.specs.Prelude.{◌≡◌, ◌+◌, ◌<◌, ◌≤◌, ◌&&◌, ◌∷◌, if◌then◌else◌}
 use Rattle.std.specs.Str.{bytes_eq}
-use Rattle.gm_pieces.specs.Common.{ℕ, zero, suc, Bool, true, false, eqb, eqb-true, eq-eqb, leb, leb-true, ltb, ltb-true, List, [], length, refl, sym, ap, ◌∙◌}
-use Rattle.gm_pieces.specs.Common.{subst, arith, inl, inr, Option, None, Some, Contains, filter, list_all, range_with_len, true≢false, and_left, and_right}
-use Rattle.gm_pieces.specs.Common.{and_both, contains_head, at_below, is_plain, cases_eq}
-use Rattle.gm_pieces.specs.Common.{board_game, plays_on, steps, IsMove, IsMoveGame, IsMoveSymmetric, IsNumbered, AreTexts}
+use Rattle.gm_pieces.specs.Common.{ℕ, zero, suc, Bool, true, false, eqb, eqb-true, eq-eqb, leb, leb-true, ltb, ltb-true, List, [], length, refl, sym, ap, ◌∙◌, subst, arith, inl, inr, Option, None, Some, Contains, filter, list_all, range_with_len, true≢false, and_left, and_right, and_both, contains_head, at_below, is_plain, cases_eq, board_game, is_undecided, steps, IsMove, IsMoveGame, IsMoveSymmetric, IsNumbered, AreTexts}
 use Rattle.gm_pieces.specs.Small.{SmallGame, is_board, small_game}
-use Rattle.gm_pieces.specs.SmallTables.{failing, first_wrong, implies, keeps, is_kept, redoes, is_redone, tells, is_apart, names, has_room, IsSmallGame}
+use Rattle.gm_pieces.specs.SmallTables.{first_failing, first_wrong, implies, keeps, is_kept, redoes, is_redone, tells, is_apart, has_own_text, has_room, IsSmallGame}
 
 -- a legal board is below the size
 pub board_below : (g : SmallGame) (b : ℕ) → is_board g b ≡ true → b < g.size
@@ -17,11 +14,11 @@ unless_wrong : (x : Bool) (k : ℕ) (rest : Option ℕ) → (if x then rest else
 unless_wrong true k rest e = (refl, e)
 unless_wrong false k rest e = absurd (let z : ⊥ = cc in z)
 
-passes_from : (p : ℕ → Bool) (k n : ℕ) → failing p k n ≡ None → (j : ℕ) → k ≤ j → j < k + n → p j ≡ true
-unfolding failing
+passes_from : (p : ℕ → Bool) (k n : ℕ) → first_failing p k n ≡ None → (j : ℕ) → k ≤ j → j < k + n → p j ≡ true
+unfolding first_failing
 passes_from p k zero e j l h = absurd (omega arith)
 passes_from p k (suc n) e j l h =
-    let u = unless_wrong (p k) k (failing p (k + 1) n) e in
+    let u = unless_wrong (p k) k (first_failing p (k + 1) n) e in
     elim (cases_eq k j) [
       | inl s ↦ subst (λ (i : ℕ). p i ≡ true) s u.0
       | inr d ↦ passes_from p (k + 1) n u.1 j (omega (arith, d)) (omega arith)
@@ -52,7 +49,7 @@ module _ (g : SmallGame) (h : IsSmallGame g) where
   kept : (b m : ℕ) → is_board g b ≡ true → IsMove (small_game g) b m → (is_board g (g.moved b m)
       && (g.can_have_led_here (g.moved b m) m && eqb (g.undo (g.moved b m) m) b)) ≡ true
   kept b m l k =
-      let t = chosen (g.legal b && plays_on (g.over b)) _ (passes g.size (keeps g) h.kept b (board_below g b l)) (and_both _ _ (own b l) (ap plays_on k.not_over)) in
+      let t = chosen (g.legal b && is_undecided (g.over b)) _ (passes g.size (keeps g) h.kept b (board_below g b l)) (and_both _ _ (own b l) (ap is_undecided k.not_over)) in
       chosen (g.can_move b m) _ (at_below g.bound (is_kept g b) t m k.below) k.can
 
   redone : (d m : ℕ) → is_board g d ≡ true → m < g.bound → g.can_have_led_here d m ≡ true → is_board g (g.undo d m) ≡ true → g.can_move (g.undo d m) m ≡ true
@@ -109,8 +106,8 @@ module _ (g : SmallGame) (h : IsSmallGame g) where
   pub told : (b : ℕ) → is_board g b ≡ true → g.told (g.text b) ≡ b
   told b l = eqb-true _ _ (and_right _ _ (and_right _ _ (tells_at b l)))
 
-  named : (m : ℕ) → m < g.bound → names g m ≡ true
-  named m l = passes g.bound (names g) h.moves m l
+  named : (m : ℕ) → m < g.bound → has_own_text g m ≡ true
+  named m l = passes g.bound (has_own_text g) h.moves m l
 
   step_once : (m n : ℕ) → m < g.bound → n < g.bound → g.step_text m ≡ g.step_text n → m ≡ n
   step_once m n l k e =

@@ -1,6 +1,7 @@
 -- The points of a move come back from its number, and its number from them.
 use Rattle.std.specs.Prelude.{◌≡◌, ◌+◌, ◌*◌, ◌/◌, ◌%◌, ◌<◌}
-use Rattle.gm_pieces.specs.Lower.{ℕ, ap, ◌∙◌, arith, div-mul-add, mod-mul-add}
+use Rattle.std.proofs.Common.{ℕ, ap, ◌∙◌, arith}
+use Rattle.std.proofs.lemmas.Nat.{div-mul-add, mod-mul-add}
 use Rattle.gm_pieces.specs.Steps.{step_number, from_point, to_point}
 
 in_order : (a b : ℕ) → 16 * a + b ≡ a * 16 + b

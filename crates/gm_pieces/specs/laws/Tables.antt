@@ -1,6 +1,9 @@
 -- Tests that computing shows to pass at all numbers below a bound.
 use Rattle.std.specs.Prelude.{◌≡◌, ◌<◌}
-use Rattle.gm_pieces.specs.Lower.{ℕ, Bool, true, false, not, refl, list_all, range_with_len, contains_range, all_at}
+use Rattle.std.proofs.Common.{ℕ, Bool, true, false, not, refl}
+use Rattle.std.specs.List.{list_all, range_with_len}
+use Rattle.gm_board.specs.laws.Lists.{contains_range}
+use Rattle.gm_board.specs.laws.Permutations.{all_at}
 
 -- one that passes at all numbers below n passes at each
 pub at_below : (n : ℕ) (p : ℕ → Bool) → list_all p (range_with_len 0 n) ≡ true → (k : ℕ) → k < n → p k ≡ true

@@ -1,14 +1,17 @@
 -- A loop over candidates passes over each number that passes the test.
 use Rattle.std.specs.Prelude.{◌≡◌, ◌⊎◌, ◌+◌, ◌-◌, ◌<◌, ◌≤◌, ◌^◌, ◌∷◌, ◌++◌}
-use Rattle.gm_pieces.specs.Lower.{length-append, subst, zero, suc, ℕ, Bool, true, false, ltb, lt-ltb, List, [], map, Option, None, Some, refl, sym, ap, ◌∙◌}
-use Rattle.gm_pieces.specs.Lower.{arith, inl, inr}
-use Rattle.gm_pieces.specs.Lower.{true≢false, cases_Bool, cases_lt, nat_tests, length, filter, filter_map, range_with_len, filter_in, filter_out, filter_room}
-use Rattle.gm_pieces.specs.Lower.{put_all, put}
-use Rattle.gm_pieces.specs.Lower.{put_more_some, put_more_none}
+use Rattle.std.proofs.lemmas.List.{length-append}
+use Rattle.std.proofs.Common.{subst, zero, suc, ℕ, Bool, true, false, ltb, lt-ltb, List, [], map, Option, None, Some, refl, sym, ap, ◌∙◌, arith, inl, inr, true≢false, length}
+use Rattle.std.proofs.lemmas.Bool.{cases_Bool, cases_lt}
+use Rattle.std.proofs.lemmas.Bool.Decides.{nat_tests}
+use Rattle.std.specs.List.{filter, filter_map, range_with_len}
+use Rattle.gm_board.specs.laws.Filters.{filter_in, filter_out, filter_room}
+use Rattle.gm_game.specs.Ascending.{put_all, put}
+use Rattle.gm_game.proofs.PuttingSteps.{put_more_some, put_more_none}
 use Rattle.gm_pieces.specs.laws.Skipped.{filter_skip, puts_skip}
 use Rattle.gm_pieces.specs.declared.candidates.Run.{Run}
 use Rattle.gm_pieces.specs.declared.candidates.Candidates.{Candidates}
-use Rattle.gm_pieces.specs.Tried.{one, run_at, count_of, number_at, AreCandidates, edge}
+use Rattle.gm_pieces.specs.inner.Tried.{one, run_at, count_of, number_at, AreCandidates, edge}
 
 module _ {p : ℕ → Bool} {n : ℕ} {c : Candidates} (h : AreCandidates p n c) where
   -- ---- places

@@ -7,8 +7,7 @@ use Rattle.gm_patterns.specs.laws.PatternPictured.{IsPatternPictured, pattern_pi
 use Rattle.gm_placing.specs.RowRules.{tictactoe_misere, tictactoe_four, notakto}
 use Rattle.gm_placing.specs.HexRules.{hex_three, hex_four}
 use Rattle.gm_placing.specs.SimRules.{sim}
-use Rattle.gm_placing.specs.PlacingPictures.{tictactoe_misere_picture, tictactoe_four_picture, notakto_picture}
-use Rattle.gm_placing.specs.PlacingPictures.{hex_three_picture, hex_four_picture, sim_picture}
+use Rattle.gm_placing.specs.PlacingPictures.{tictactoe_misere_picture, tictactoe_four_picture, notakto_picture, hex_three_picture, hex_four_picture, sim_picture}
 
 pub tictactoe_misere_pictured : IsPatternGame 9 tictactoe_misere → IsPatternPictured 9 tictactoe_misere tictactoe_misere_picture
 unfolding tictactoe_misere_picture square_points

@@ -9,8 +9,7 @@ use Rattle.gm_sliding.specs.NineRules.{nine_holes, picaria}
 use Rattle.gm_sliding.specs.ClobberRules.{clobber}
 use Rattle.gm_sliding.specs.KonoRules.{kono}
 use Rattle.gm_sliding.specs.ToadsRules.{toads}
-use Rattle.gm_sliding.specs.SlidingPictures.{hexapawn_picture, hexapawn_four_picture, nine_holes_picture, picaria_picture}
-use Rattle.gm_sliding.specs.SlidingPictures.{clobber_picture, kono_picture, toads_picture}
+use Rattle.gm_sliding.specs.SlidingPictures.{hexapawn_picture, hexapawn_four_picture, nine_holes_picture, picaria_picture, clobber_picture, kono_picture, toads_picture}
 
 pub hexapawn_pictured : IsPatternGame 9 hexapawn → IsPatternPictured 9 hexapawn hexapawn_picture
 unfolding hexapawn_picture square_board square_points

@@ -1,10 +1,6 @@
 -- Squares under symmetries: tables, checked by computation, over squares and ways, and the facts about a man's attacks that follow from them.
 use Rattle.std.specs.Prelude.{◌≡◌, ◌+◌, ◌<◌, ◌≤◌, ◌&&◌, ◌||◌, ◌*◌, ◌/◌, ◌%◌, ◌-◌, ◌∷◌, ◌==◌, nat_lt, if◌then◌else◌}
-use Rattle.gm_pieces.specs.Common.{ℕ, zero, suc, Bool, true, false, not, eqb, eqb-true, eq-eqb, leb, ltb, ltb-true, lt-ltb, List, [], refl, sym, ap, ◌∙◌}
-use Rattle.gm_pieces.specs.Common.{subst, arith, inl, inr, Contains, list_all, list_any, range_with_len, cases_Bool, true≢false}
-use Rattle.gm_pieces.specs.Common.{and_left, and_right, and_both, all_at, any_at, any_from, same_tests, at_below, at_all, at_each, range_below}
-use Rattle.gm_pieces.specs.Common.{agree, agree_same, or_cases, contains_head, contains_later}
-use Rattle.gm_pieces.specs.Common.{get_or, has_cell}
+use Rattle.gm_pieces.specs.Common.{ℕ, zero, suc, Bool, true, false, not, eqb, eqb-true, eq-eqb, leb, ltb, ltb-true, lt-ltb, List, [], refl, sym, ap, ◌∙◌, subst, arith, inl, inr, Contains, list_all, list_any, range_with_len, cases_Bool, true≢false, and_left, and_right, and_both, all_at, any_at, any_from, same_tests, at_below, at_all, at_each, range_below, agree, agree_same, or_cases, contains_head, contains_later, get_or, has_cell}
 use Rattle.gm_squares.specs.declared.attacks.TheConstants.{NEXT}
 use Rattle.gm_squares.specs.Squares.{goes_on_board, beside}
 use Rattle.gm_squares.specs.Chess.{ray, reaches, attacks, king_attacks, piece_attacks, piece_ways, all_ways, rook_ways, image_square}

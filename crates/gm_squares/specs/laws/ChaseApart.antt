@@ -1,7 +1,6 @@
 -- Different moves lead to different boards, so that a board has as many children as moves.
 use Rattle.std.specs.Prelude.{◌≡◌, ◌≢◌, ◌<◌, ◌++◌, ◌∷◌}
-use Rattle.gm_pieces.specs.Common.{ℕ, Bool, true, false, eqb-true, List, length, map, set_of, next_images, sym, ap, ap₂, ◌∙◌, subst, arith, inl, inr, None}
-use Rattle.gm_pieces.specs.Common.{Position, bit_at, and_left, and_right, cases_Bool, cases_eq, not-true, board_game, least_image, steps}
+use Rattle.gm_pieces.specs.Common.{ℕ, Bool, true, false, eqb-true, List, length, map, set_of, next_images, sym, ap, ap₂, ◌∙◌, subst, arith, inl, inr, None, Position, bit_at, and_left, and_right, cases_Bool, cases_eq, not-true, board_game, least_image, steps}
 use Rattle.std.proofs.lemmas.Nat.Bits.{bit_at-lt}
 use Rattle.gm_board.specs.laws.MaskChanges.{no_bit}
 use Rattle.gm_pieces.specs.laws.CountFacts.{HasApartResults, results_counted}

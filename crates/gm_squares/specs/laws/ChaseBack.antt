@@ -1,15 +1,13 @@
 -- The masks of the squares from which men came each way mark the moves back.
 use Rattle.std.specs.Prelude.{◌≡◌, ◌≢◌, ◌⊎◌, ◌+◌, ◌-◌, ◌*◌, ◌/◌, ◌%◌, ◌^◌, ◌<◌, ◌≤◌, ◌&&◌, ◌||◌, if◌then◌else◌}
-use Rattle.gm_pieces.specs.Common.{ℕ, Bool, true, false, not, eqb, eqb-true, leb, ltb, ltb-true, refl, sym, ap, ap₂, ◌∙◌, arith, nat_tests, inl, inr, []}
-use Rattle.gm_pieces.specs.Common.{bit_and, bit_at, bit_at-zero, has_cell, has_and, and_false, and_true, and_left, and_right, and_both, cases_Bool, cases_eq, cases_lt, w32}
-use Rattle.gm_pieces.specs.Common.{at_all, at_each, at_below, list_all, range_with_len, agree, agree_same, trailing_zeros, not-true, cond-true}
+use Rattle.gm_pieces.specs.Common.{ℕ, Bool, true, false, not, eqb, eqb-true, leb, ltb, ltb-true, refl, sym, ap, ap₂, ◌∙◌, arith, nat_tests, inl, inr, [], bit_and, bit_at, bit_at-zero, has_cell, has_and, and_false, and_true, and_left, and_right, and_both, cases_Bool, cases_eq, cases_lt, w32, at_all, at_each, at_below, list_all, range_with_len, agree, agree_same, trailing_zeros, not-true, cond-true}
 use Rattle.std.proofs.lemmas.Nat.{ones_le_self}
 use Rattle.std.proofs.lemmas.Nat.Bits.{bit_at-trailing_zeros, bit_at-lt, bit_at_ones}
 use Rattle.gm_board.specs.laws.MaskChanges.{no_bit}
 use Rattle.gm_board.specs.laws.NextCells.{cell_none}
-use Rattle.gm_pieces.specs.MoveGames.{plays_on}
+use Rattle.gm_pieces.specs.MoveGames.{is_undecided}
 use Rattle.gm_pieces.specs.declared.marks.Marks.{Marks}
-use Rattle.gm_pieces.specs.Marking.{marked, AreMarks, leads_here}
+use Rattle.gm_pieces.specs.inner.Marking.{marked, AreMarks, leads_here}
 use Rattle.gm_pieces.specs.laws.RunFacts.{no_marks}
 use Rattle.gm_squares.specs.Squares.{goes_on_board, beside}
 use Rattle.gm_squares.specs.declared.chase.Chase.{Chase}
@@ -29,18 +27,18 @@ led_from d m l k e =
     (legal_from _ g.legal, and_both _ _ (and_left (leads (not d.hounds_move) m) _ e) g.can)
 
 led_is : (d : Chase) (m : ℕ) → legal d ≡ true → m < 128
-    → leads_here fox_and_hounds 0 d m ≡ (can_have_led_here d m && plays_on (end_by_last_move (undo d m)))
+    → leads_here fox_and_hounds 0 d m ≡ (can_have_led_here d m && is_undecided (end_by_last_move (undo d m)))
 led_is d m l k = elim (cases_Bool (can_have_led_here d m)) [
   | inl e ↦ (
       let f = led_from d m l k e in
       let legal_is = f.0 in
       let can_is = f.1 in
-      rw (e, legal_is, can_is) (and_true (plays_on (end_by_last_move (undo d m)))))
+      rw (e, legal_is, can_is) (and_true (is_undecided (end_by_last_move (undo d m)))))
   | inr e ↦ rw e refl
 ]
 
 -- the game is not over where the fox's row is above the lowest hound's
-open_is : (b : Chase) → plays_on (end_by_last_move b) ≡ not (leb (b.fox / 4) (trailing_zeros w32 b.hounds / 4))
+open_is : (b : Chase) → is_undecided (end_by_last_move b) ≡ not (leb (b.fox / 4) (trailing_zeros w32 b.hounds / 4))
 unfolding end_by_last_move
 open_is b = elim (cases_Bool (leb (b.fox / 4) (trailing_zeros w32 b.hounds / 4))) [ inl e ↦ rw e refl | inr e ↦ rw e refl ]
 
@@ -182,7 +180,7 @@ module _ (d : Chase) (l : legal d ≡ true) (w s : ℕ) (lw : w < 4) (ls : s < 3
         rw t (ap (λ (x : Bool). x && (eqb (to_square m) d.fox && (not (has_cell d.hounds (from_square m)) && not (eqb (from_square m) d.fox)))) (and_true (on_board m)))
         ∙ ap (λ (k : ℕ). on_board m && (eqb (to_square m) d.fox && (not (has_cell d.hounds k) && not (eqb k d.fox)))) (from_is w s lw)
 
-    fox_open : plays_on (end_by_last_move (undo d m)) ≡ not (leb (s / 4) (trailing_zeros w32 d.hounds / 4))
+    fox_open : is_undecided (end_by_last_move (undo d m)) ≡ not (leb (s / 4) (trailing_zeros w32 d.hounds / 4))
     unfolding undo
     fox_open = (let from = from_is w s lw in open_is (undo d m) ∙ rw (t, from) refl)
 
@@ -192,8 +190,9 @@ module _ (d : Chase) (l : legal d ≡ true) (w s : ℕ) (lw : w < 4) (ls : s < 3
     fox_came f p r o ef ep er eo =
         has_and (bit_and f p) r s
         ∙ ap₂ (λ (x y : Bool). x && y) (has_and f p s ∙ ap₂ (λ (x y : Bool). x && y) ef (ep ∙ sym fox_open)) (er ∙ ap (λ (x : Bool). on_board m && x) eo)
-        ∙ by_masks is_free (plays_on (end_by_last_move (undo d m))) (on_board m) (eqb (to_square m) d.fox) (plays_on (end_by_last_move (undo d m))) (λ e. refl)
-        ∙ ap (λ (x : Bool). x && plays_on (end_by_last_move (undo d m))) (sym fox_led)
+        ∙ by_masks is_free (is_undecided (end_by_last_move (undo d m))) (on_board m) (eqb (to_square m) d.fox) (is_undecided (end_by_last_move (undo d m)))
+        (λ e. refl)
+        ∙ ap (λ (x : Bool). x && is_undecided (end_by_last_move (undo d m))) (sym fox_led)
         ∙ sym (led_is d m l number)
 
   module _ (t : d.hounds_move ≡ false) where
@@ -205,7 +204,7 @@ module _ (d : Chase) (l : legal d ≡ true) (w s : ℕ) (lw : w < 4) (ls : s < 3
         (ap (λ (x : Bool). x && (has_cell d.hounds (to_square m) && (not (has_cell d.hounds (from_square m)) && not (eqb (from_square m) d.fox)))) (and_true (on_board m))))
         ∙ ap (λ (k : ℕ). on_board m && (has_cell d.hounds (to_square m) && (not (has_cell d.hounds k) && not (eqb k d.fox)))) (from_is w s lw)
 
-    hound_open : plays_on (end_by_last_move (undo d m)) ≡ not (leb (d.fox / 4) (trailing_zeros w32 (toggled (toggled d.hounds (to_square m)) s) / 4))
+    hound_open : is_undecided (end_by_last_move (undo d m)) ≡ not (leb (d.fox / 4) (trailing_zeros w32 (toggled (toggled d.hounds (to_square m)) s) / 4))
     unfolding undo
     hound_open = (let from = from_is w s lw in open_is (undo d m) ∙ rw (t, from) refl)
 
@@ -227,7 +226,7 @@ module _ (d : Chase) (l : legal d ≡ true) (w s : ℕ) (lw : w < 4) (ls : s < 3
         let low = ltb (trailing_zeros w32 d.hounds / 4) (d.fox / 4) || ltb s (4 * (d.fox / 4)) in
         has_and (bit_and f p) r s
         ∙ ap₂ (λ (x y : Bool). x && y) (has_and f p s ∙ ap₂ (λ (x y : Bool). x && y) ef ep) er
-        ∙ by_masks is_free low (on_board m) (has_cell d.hounds c) (plays_on (end_by_last_move (undo d m)))
+        ∙ by_masks is_free low (on_board m) (has_cell d.hounds c) (is_undecided (end_by_last_move (undo d m)))
         (λ e.
         let rest = and_right (on_board m) _ e in
         let on = and_left (on_board m) _ e in
@@ -235,7 +234,7 @@ module _ (d : Chase) (l : legal d ≡ true) (w s : ℕ) (lw : w < 4) (ls : s < 3
         let some : 0 < d.hounds = (let n = ones_le_self d.hounds in let four = h.four in omega (arith, n, four)) in
         sym (hound_open ∙ lowest_after d.hounds s c h.within some (step m number on).to_below (forward g on)
         (eqb-true (bit_at d.hounds c) 1 (and_left (has_cell d.hounds c) _ rest)) (no_bit (bit_at d.hounds s) (bit_at-lt d.hounds s) (not-true _ free)) (d.fox / 4)))
-        ∙ ap (λ (x : Bool). x && plays_on (end_by_last_move (undo d m))) (sym (hound_led g))
+        ∙ ap (λ (x : Bool). x && is_undecided (end_by_last_move (undo d m))) (sym (hound_led g))
         ∙ sym (led_is d m l number)
 
     pub none_came : w < 2 → has_cell 0 s ≡ leads_here fox_and_hounds 0 d m
@@ -246,7 +245,7 @@ module _ (d : Chase) (l : legal d ≡ true) (w s : ℕ) (lw : w < 4) (ls : s < 3
         let none : can_have_led_here d m ≡ false =
         ap₂ (λ (x y : Bool). (on_board m && (not (not x) || y)) && can) t off ∙ ap (λ (x : Bool). x && can) (and_false (on_board m)) in
         cell_none 0 s (bit_at-zero s)
-        ∙ sym (led_is d m l number ∙ ap (λ (x : Bool). x && plays_on (end_by_last_move (undo d m))) none)
+        ∙ sym (led_is d m l number ∙ ap (λ (x : Bool). x && is_undecided (end_by_last_move (undo d m))) none)
 
 -- the row of the lowest hound
 pub row_small : (d : Chase) → legal d ≡ true → trailing_zeros w32 d.hounds / 4 < 8

@@ -1,7 +1,6 @@
 -- Legal boards; a man that goes keeps a board legal, and can go back.
 use Rattle.std.specs.Prelude.{◌≡◌, ◌≢◌, ◌^◌, ◌<◌, ◌&&◌}
-use Rattle.gm_pieces.specs.Common.{ℕ, Bool, true, false, not, eqb, eqb-true, eq-eqb, ltb-true, lt-ltb, refl, sym, ap, ap₂, ◌∙◌, arith, not-true, true≢false, ne_eqb}
-use Rattle.gm_pieces.specs.Common.{and_left, and_right, and_both, count_ones, has_cell, bit_at}
+use Rattle.gm_pieces.specs.Common.{ℕ, Bool, true, false, not, eqb, eqb-true, eq-eqb, ltb-true, lt-ltb, refl, sym, ap, ap₂, ◌∙◌, arith, not-true, true≢false, ne_eqb, and_left, and_right, and_both, count_ones, has_cell, bit_at}
 use Rattle.std.proofs.lemmas.Nat.Bits.{bit_at-lt}
 use Rattle.gm_board.specs.laws.MaskChanges.{no_bit}
 use Rattle.gm_board.specs.laws.NextCells.{cell_one, cell_none}

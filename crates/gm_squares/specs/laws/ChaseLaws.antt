@@ -1,7 +1,6 @@
 -- Fox and Hounds has the laws of a game.
 use Rattle.std.specs.Prelude.{◌≡◌, ◌<◌, ◌&&◌}
-use Rattle.gm_pieces.specs.Common.{ℕ, Bool, true, not, [], refl, sym, subst, arith, inl, and_left, and_right, and_both, contains_head}
-use Rattle.gm_pieces.specs.Common.{IsMoveGame, IsMoveSymmetric, steps}
+use Rattle.gm_pieces.specs.Common.{ℕ, Bool, true, not, [], refl, sym, subst, arith, inl, and_left, and_right, and_both, contains_head, IsMoveGame, IsMoveSymmetric, steps}
 use Rattle.std.specs.Int.Count.{ones}
 use Rattle.gm_pieces.specs.laws.TriedFacts.{all_below, tried_few}
 use Rattle.gm_squares.specs.Squares.{goes_on_board}

@@ -1,14 +1,12 @@
 -- The masks of the squares from which men go each way mark the moves.
 use Rattle.std.specs.Prelude.{◌≡◌, ◌+◌, ◌-◌, ◌*◌, ◌/◌, ◌%◌, ◌^◌, ◌<◌, ◌≤◌, ◌&&◌, ◌||◌, ◌++◌}
-use Rattle.gm_pieces.specs.Common.{ℕ, Bool, true, false, not, eqb, eq-eqb, ne_eqb, leb, refl, sym, ap, ap₂, ◌∙◌, arith, nat_tests, inl, inr}
-use Rattle.gm_pieces.specs.Common.{bit_and, bit_or, bit_at, bit_at-zero, has_cell, has_and, has_or, and_false, cases_Bool, cases_eq, Contains, w32, or_lt, true≢false}
+use Rattle.gm_pieces.specs.Common.{ℕ, Bool, true, false, not, eqb, eq-eqb, ne_eqb, leb, refl, sym, ap, ap₂, ◌∙◌, arith, nat_tests, inl, inr, bit_and, bit_or, bit_at, bit_at-zero, has_cell, has_and, has_or, and_false, cases_Bool, cases_eq, Contains, w32, or_lt, true≢false, Contains-append_left, Contains-append_right}
 use Rattle.std.proofs.lemmas.Nat.Bits.{bit_at_not, bit_at-lt}
 use Rattle.gm_board.specs.laws.NextCells.{cell_one, cell_none}
 use Rattle.gm_pieces.specs.declared.marks.MarkedRun.{MarkedRun}
 use Rattle.gm_pieces.specs.declared.marks.Marks.{Marks}
-use Rattle.gm_pieces.specs.Marking.{numbers, AreMarks}
+use Rattle.gm_pieces.specs.inner.Marking.{numbers, AreMarks}
 use Rattle.gm_pieces.specs.laws.RunFacts.{IsPart, IsRun, join_parts, part_marks, run_has, run_part}
-use Rattle.gm_pieces.specs.Common.{Contains-append_left, Contains-append_right}
 use Rattle.gm_squares.specs.Squares.{goes_on_board}
 use Rattle.gm_squares.specs.declared.chase.Chase.{Chase}
 use Rattle.gm_squares.specs.FoxHounds.{dark, way, to_square, from_square, can_go, can_move, toggled}

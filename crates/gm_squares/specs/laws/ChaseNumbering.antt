@@ -1,8 +1,6 @@
 -- The indexes of boards are one to one.
 use Rattle.std.specs.Prelude.{◌≡◌, ◌/◌, ◌%◌, ◌^◌, ◌<◌, ◌≤◌, if◌then◌else◌}
-use Rattle.gm_pieces.specs.Common.{ℕ, Bool, true, false, eqb, refl, sym, ap, ◌∙◌, subst, arith, nat_tests, inl, inr, cases_Bool, cases_eq, pow-lt, w32}
-use Rattle.gm_pieces.specs.Common.{count_ones, bit_and, trailing_zeros, HasPieces, arrangement_pieces, index_of_masks, mine_again, theirs_again}
-use Rattle.gm_pieces.specs.Common.{mine_mask, their_mask, IsNumbered, board_game, bit_at-pow_other, bit_at-zero}
+use Rattle.gm_pieces.specs.Common.{ℕ, Bool, true, false, eqb, refl, sym, ap, ◌∙◌, subst, arith, nat_tests, inl, inr, cases_Bool, cases_eq, pow-lt, w32, count_ones, bit_and, trailing_zeros, HasPieces, arrangement_pieces, index_of_masks, mine_again, theirs_again, mine_mask, their_mask, IsNumbered, board_game, bit_at-pow_other, bit_at-zero}
 unfoldable use Rattle.gm_pieces.specs.Common.{arrangement_index, arrangements, binomial}
 use Rattle.std.specs.Int.Count.{ones}
 use Rattle.std.proofs.lemmas.Nat.{and_comm, one_shl, zero_from_ones}

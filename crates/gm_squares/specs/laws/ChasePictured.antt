@@ -1,6 +1,5 @@
 -- The drawing of Fox and Hounds distinguishes positions, and its picture satisfies the laws of pictures.
-use Rattle.std.proofs.Common.{◌≡◌, ℕ, zero, suc, ◌+◌, ◌/◌, ◌%◌, ◌<◌, Bool, true, false, ◌||◌, if◌then◌else◌, eqb, eqb-true, eq-eqb, List, [], ◌∷◌, ◌++◌}
-use Rattle.std.proofs.Common.{get_or, refl, sym, ap, subst, ◌∙◌, arith, inl, inr}
+use Rattle.std.proofs.Common.{◌≡◌, ℕ, zero, suc, ◌+◌, ◌/◌, ◌%◌, ◌<◌, Bool, true, false, ◌||◌, if◌then◌else◌, eqb, eqb-true, eq-eqb, List, [], ◌∷◌, ◌++◌, get_or, refl, sym, ap, subst, ◌∙◌, arith, inl, inr}
 use Rattle.std.specs.List.{Contains, list_any, flat_map}
 use Rattle.std.specs.Int.{trailing_zeros, w32}
 use Rattle.std.proofs.lemmas.Bool.{cases_eq}
@@ -16,7 +15,7 @@ use Rattle.gm_board.specs.laws.Lists.{contains_cases, contains_head, contains_la
 use Rattle.std.proofs.lemmas.Nat.Bits.{bit_at-lt, bit_at-zero, same_from_bits_below}
 use Rattle.gm_pieces.specs.Common.{bit_at, ne_eqb}
 use Rattle.gm_pieces.specs.MoveGames.{board_game, IsMove}
-use Rattle.gm_pieces.specs.MoveTexts.{position_text, move_text}
+use Rattle.gm_pieces.specs.MoveTexts.{position_text_by, move_text_by}
 use Rattle.gm_pieces.specs.laws.MoveLaws.{move_in}
 use Rattle.gm_pieces.specs.laws.TextFacts.{texts_are_shown}
 use Rattle.gm_squares.specs.declared.chase.Chase.{Chase}
@@ -163,7 +162,7 @@ last_named xs x =
     ∙ ap (λ (c : ℕ). if c == 104 then codes "hounds" else codes "fox") (get_or-append-add xs ys 1 0)
     ∙ side_named x
 
-pub foxhounds_named : (p : Position) → by_last (position_text fox_and_hounds board_text p) 104 (codes "hounds") (codes "fox") ≡ chase_mover p
+pub foxhounds_named : (p : Position) → by_last (position_text_by fox_and_hounds board_text p) 104 (codes "hounds") (codes "fox") ≡ chase_mover p
 unfolding board_text
 foxhounds_named p =
     let b = chase_at p.index in
@@ -177,7 +176,7 @@ step_words m l h = two_squares (dark (from_square m)) (dark (to_square m)) (dark
 move_words : (b : Chase) (m : ℕ) → IsMove fox_and_hounds b m → IsPointWord chess_points (step_text m)
 move_words b m h = let s = step m h.below (stays_on b m h.can) in step_words m s.from_below s.to_below
 
-pub foxhounds_pictured : IsPictured foxhounds_rules (position_text fox_and_hounds board_text) (move_text (λ t m. step_text m)) foxhounds_picture
+pub foxhounds_pictured : IsPictured foxhounds_rules (position_text_by fox_and_hounds board_text) (move_text_by (λ t m. step_text m)) foxhounds_picture
 unfolding foxhounds_picture
 foxhounds_pictured = record {
   drawings = record {

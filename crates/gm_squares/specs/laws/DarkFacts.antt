@@ -1,7 +1,6 @@
 -- The squares that moves lead from and to: facts that are computed for all 128.
 use Rattle.std.specs.Prelude.{◌≡◌, ◌+◌, ◌-◌, ◌*◌, ◌/◌, ◌%◌, ◌<◌, ◌&&◌, ◌||◌, if◌then◌else◌}
-use Rattle.gm_pieces.specs.Common.{ℕ, Bool, true, List, not, eqb, eqb-true, ltb, ltb-true, refl, arith, list_all, range_with_len}
-use Rattle.gm_pieces.specs.Common.{and_left, and_right, at_below, agree, agree_same, get_or, is_plain, IsPlain}
+use Rattle.gm_pieces.specs.Common.{ℕ, Bool, true, List, not, eqb, eqb-true, ltb, ltb-true, refl, arith, list_all, range_with_len, and_left, and_right, at_below, agree, agree_same, get_or, is_plain, IsPlain}
 use Rattle.gm_squares.specs.Squares.{goes_on_board, beside}
 use Rattle.gm_squares.specs.laws.Texts.{square_told}
 use Rattle.gm_squares.specs.FoxHounds.{dark, dark_in, from_square, way, to_square, step_text}

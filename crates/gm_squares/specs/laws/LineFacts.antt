@@ -1,12 +1,10 @@
 -- Masks of lines, and the squares on them.
 use Rattle.std.specs.Prelude.{◌≡◌, ◌-◌, ◌*◌, ◌%◌, ◌^◌, ◌<◌, ◌≤◌, ◌&&◌}
-use Rattle.gm_pieces.specs.Common.{ℕ, Bool, true, false, not, eqb, ltb, refl, sym, ap, ◌∙◌, arith, nat_tests, has_cell, at_all, at_each, agree, agree_same}
-use Rattle.gm_pieces.specs.Common.{bit_at-zero}
-use Rattle.gm_pieces.specs.Common.{min, max, cases_lt, cases_eq, inl, inr, bit_at, bit_and, has_and, and_false, and_true, ap₂, eq-eqb, ne_eqb}
+use Rattle.gm_pieces.specs.Common.{ℕ, Bool, true, false, not, eqb, ltb, refl, sym, ap, ◌∙◌, arith, nat_tests, has_cell, at_all, at_each, agree, agree_same, bit_at-zero, min, max, cases_lt, cases_eq, inl, inr, bit_at, bit_and, has_and, and_false, and_true, ap₂, eq-eqb, ne_eqb}
 use Rattle.std.specs.Int.{w64}
 use Rattle.std.proofs.lemmas.Nat.Bits.{bit_at_not, bit_at-lt}
 use Rattle.gm_board.specs.laws.NextCells.{cell_none}
-use Rattle.gm_squares.specs.Lines.{lies_between, is_open}
+use Rattle.gm_squares.specs.inner.Lines.{lies_between, is_open_line}
 
 -- ---- squares
 lone_table : at_all 64 64 (λ s k. agree (has_cell (1 * 2 ^ s % 2 ^ 64) k) (eqb k s)) ≡ true
@@ -73,15 +71,15 @@ pub left_along : (line from first second own p q k : ℕ) → from < 64 → k < 
     → has_cell p k ≡ (has_cell (bit_and line (18446744073709551615 - own)) first && lies_between from k first)
     → has_cell q k ≡ (has_cell (bit_and line (18446744073709551615 - own)) second && lies_between from k second)
     → has_cell (bit_and (bit_and (bit_and line (18446744073709551615 - own)) (18446744073709551615 - p)) (18446744073709551615 - q)) k
-    ≡ (has_cell line k && (not (eqb k from) && (is_open line from k first && is_open line from k second)))
+    ≡ (has_cell line k && (not (eqb k from) && (is_open_line line from k first && is_open_line line from k second)))
 left_along line from first second own p q k lf lk lo lp lq f e g =
     let others = bit_and line (18446744073709551615 - own) in
     let has : (j : ℕ) → j < 64 → has_cell others j ≡ (has_cell line j && not (eqb j from)) = λ j l. has_less line own j lo l
     ∙ ap (λ (t : Bool). has_cell line j && not t) (f j l) in
     has_less (bit_and others (18446744073709551615 - p)) q k lq lk
     ∙ ap₂ (λ (x y : Bool). x && not y) (has_less others p k lp lk) (g ∙ stops_same line others from k second lf lk has)
-    ∙ ap₂ (λ (x y : Bool). (x && not y) && is_open line from k second) (has k lk) (e ∙ stops_same line others from k first lf lk has)
-    ∙ regroup (has_cell line k) (not (eqb k from)) (is_open line from k first) (is_open line from k second)
+    ∙ ap₂ (λ (x y : Bool). (x && not y) && is_open_line line from k second) (has k lk) (e ∙ stops_same line others from k first lf lk has)
+    ∙ regroup (has_cell line k) (not (eqb k from)) (is_open_line line from k first) (is_open_line line from k second)
 
 -- a line without a square
 pub left_out : (line from own : ℕ) → from < 64 → own < 2 ^ 64 → ((j : ℕ) → j < 64 → has_cell own j ≡ eqb j from)

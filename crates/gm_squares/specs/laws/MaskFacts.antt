@@ -1,7 +1,6 @@
 -- A mask with one square more or less.
 use Rattle.std.specs.Prelude.{◌≡◌, ◌≢◌, ◌+◌, ◌-◌, ◌^◌, ◌<◌}
-use Rattle.gm_pieces.specs.Common.{ℕ, ap, ◌∙◌, arith, w32, bit_at, bit_at-pow_same, bit_at-pow_other, count_ones}
-use Rattle.gm_pieces.specs.Common.{refl, sym, ap₂, pow-lt, trailing_zeros, bit_at-zero, Empty, is_mine, board_length}
+use Rattle.gm_pieces.specs.Common.{ℕ, ap, ◌∙◌, arith, w32, bit_at, bit_at-pow_same, bit_at-pow_other, count_ones, refl, sym, ap₂, pow-lt, trailing_zeros, bit_at-zero, Empty, is_mine, board_length}
 unfoldable use Rattle.gm_pieces.specs.Common.{board_of, number_of}
 use Rattle.std.specs.Int.Count.{ones}
 use Rattle.std.proofs.lemmas.Nat.{and_comm, ones_le_self, xor_lt}

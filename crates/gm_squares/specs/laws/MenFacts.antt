@@ -1,10 +1,8 @@
 -- Legal boards and their moves, part by part.
 use Rattle.std.specs.Prelude.{◌≡◌, ◌<◌, ◌≤◌, ◌&&◌, ◌||◌, ◌⊎◌, if◌then◌else◌}
-use Rattle.gm_pieces.specs.Common.{ℕ, Bool, true, false, not, eqb, eqb-true, eq-eqb, ltb-true, lt-ltb, nat_tests, refl, sym, ap, ap₂, ◌∙◌, subst, arith}
-use Rattle.gm_pieces.specs.Common.{inl, inr, cases_Bool, true≢false, and_left, and_right, and_both, or_cases}
+use Rattle.gm_pieces.specs.Common.{ℕ, Bool, true, false, not, eqb, eqb-true, eq-eqb, ltb-true, lt-ltb, nat_tests, refl, sym, ap, ap₂, ◌∙◌, subst, arith, inl, inr, cases_Bool, true≢false, and_left, and_right, and_both, or_cases}
 use Rattle.gm_squares.specs.declared.men.Men.{Men}
-use Rattle.gm_squares.specs.Chess.{king_attacks, piece_attacks, in_check, legal, man, from_square, to_square, king_can, piece_can, foe_can, can_move, moved}
-use Rattle.gm_squares.specs.Chess.{king_gone, piece_gone, foe_gone, can_have_led_here, undo, king_back, piece_back, foe_back}
+use Rattle.gm_squares.specs.Chess.{king_attacks, piece_attacks, in_check, legal, man, from_square, to_square, king_can, piece_can, foe_can, can_move, moved, king_gone, piece_gone, foe_gone, can_have_led_here, undo, king_back, piece_back, foe_back}
 use Rattle.gm_squares.specs.laws.AttackFacts.{king_mutual}
 
 -- ---- tests

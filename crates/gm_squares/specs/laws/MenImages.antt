@@ -1,29 +1,26 @@
 -- The symmetries preserve the rules.
 use Rattle.std.specs.Prelude.{◌≡◌, ◌<◌, ◌≤◌, ◌&&◌, if◌then◌else◌}
-use Rattle.gm_pieces.specs.Common.{ℕ, Bool, true, false, not, eqb, refl, sym, ap, ◌∙◌, arith, inl, inr, cases_Bool}
-use Rattle.gm_pieces.specs.Common.{range_below, contains_range, None, Some, Lose, IsMoveSymmetric}
+use Rattle.gm_pieces.specs.Common.{ℕ, Bool, true, false, not, eqb, refl, sym, ap, ◌∙◌, arith, inl, inr, cases_Bool, range_below, contains_range, None, Some, Lose, IsMoveSymmetric}
 use Rattle.gm_game.specs.declared.position.End.TheVariants.{Tie}
 use Rattle.gm_squares.specs.declared.men.Men.{Men}
-use Rattle.gm_squares.specs.Chess.{king_can, piece_can, foe_can, legal, man, from_square, to_square, step_number, can_move, moved, end_by_last_move, end_if_no_move, in_check, tier, ending}
-use Rattle.gm_squares.specs.Chess.{foe_gone, image_square, image}
-use Rattle.gm_squares.specs.laws.AttackFacts.{image_identity, image_product, image_inverse, image_below, image_same, image_taken, king_image}
-use Rattle.gm_squares.specs.laws.AttackFacts.{piece_image, image_on_board}
+use Rattle.gm_squares.specs.Chess.{king_can, piece_can, foe_can, legal, man, from_square, to_square, man_step_number, can_move, moved, end_by_last_move, end_if_no_move, in_check, tier, ending, foe_gone, image_square, image}
+use Rattle.gm_squares.specs.laws.AttackFacts.{image_identity, image_product, image_inverse, image_below, image_same, image_taken, king_image, piece_image, image_on_board}
 use Rattle.gm_squares.specs.laws.MenFacts.{king_below, piece_most, foe_below, same_men, man_small, to_below, from_below}
 
 -- ---- the parts of a number
-split_man : (k a c : ℕ) → a < 64 → c < 64 → man (step_number k a c) ≡ k
+split_man : (k a c : ℕ) → a < 64 → c < 64 → man (man_step_number k a c) ≡ k
 unfolding man
 split_man k a c l h = omega (arith, l, h)
 
-split_from : (k a c : ℕ) → a < 64 → c < 64 → from_square (step_number k a c) ≡ a
+split_from : (k a c : ℕ) → a < 64 → c < 64 → from_square (man_step_number k a c) ≡ a
 unfolding from_square
 split_from k a c l h = omega (arith, l, h)
 
-split_to : (k a c : ℕ) → a < 64 → c < 64 → to_square (step_number k a c) ≡ c
+split_to : (k a c : ℕ) → a < 64 → c < 64 → to_square (man_step_number k a c) ≡ c
 unfolding to_square
 split_to k a c l h = omega (arith, l, h)
 
-number_below : (k a c : ℕ) → a < 64 → c < 64 → k ≤ 2 → step_number k a c < 12288
+number_below : (k a c : ℕ) → a < 64 → c < 64 → k ≤ 2 → man_step_number k a c < 12288
 number_below k a c l h s = omega (arith, l, h, s)
 
 -- a man that a move takes is taken in every image
@@ -81,7 +78,7 @@ module _ (q : Bool) (x : ℕ) (lx : x < 8) (b : Men) (h : legal q b ≡ true) wh
   -- ---- moves
   module _ (m : ℕ) where
     abbrev turned : ℕ
-    turned = step_number (man m) (image_square x (from_square m)) (image_square x (to_square m))
+    turned = man_step_number (man m) (image_square x (from_square m)) (image_square x (to_square m))
 
     fl : image_square x (from_square m) < 64
     fl = image_below x (from_square m) lx (from_below m)

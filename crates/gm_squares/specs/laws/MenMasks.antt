@@ -1,13 +1,11 @@
 -- Masks of the squares to which men can go, and of those from which they can have come.
 use Rattle.std.specs.Prelude.{◌≡◌, ◌+◌, ◌-◌, ◌*◌, ◌^◌, ◌<◌, ◌≤◌, ◌&&◌, ◌||◌, if◌then◌else◌}
-use Rattle.gm_pieces.specs.Common.{ℕ, Bool, true, false, not, eqb, eq-eqb, ltb, lt-ltb, refl, sym, ap, ap₂, ◌∙◌, subst, arith, nat_tests, bit_and, bit_or, has_cell}
-use Rattle.gm_pieces.specs.Common.{has_or, cases_Bool, inl, inr, bit_at-zero, not-true, and_false, and_true, and_le_l}
+use Rattle.gm_pieces.specs.Common.{ℕ, Bool, true, false, not, eqb, eq-eqb, ltb, lt-ltb, refl, sym, ap, ap₂, ◌∙◌, subst, arith, nat_tests, bit_and, bit_or, has_cell, has_or, cases_Bool, inl, inr, bit_at-zero, not-true, and_false, and_true, and_le_l}
 use Rattle.gm_board.specs.laws.NextCells.{cell_none}
-use Rattle.gm_pieces.specs.MoveGames.{plays_on}
-use Rattle.gm_pieces.specs.Marking.{leads_here}
+use Rattle.gm_pieces.specs.MoveGames.{is_undecided}
+use Rattle.gm_pieces.specs.inner.Marking.{leads_here}
 use Rattle.gm_squares.specs.declared.men.Men.{Men}
-use Rattle.gm_squares.specs.Chess.{king_attacks, piece_attacks, in_check, legal, man, from_square, to_square, king_can, piece_can, foe_can, can_move, ending}
-use Rattle.gm_squares.specs.Chess.{can_have_led_here, undo, king_back, piece_back, foe_back, tier, end_by_last_move}
+use Rattle.gm_squares.specs.Chess.{king_attacks, piece_attacks, in_check, legal, man, from_square, to_square, king_can, piece_can, foe_can, can_move, ending, can_have_led_here, undo, king_back, piece_back, foe_back, tier, end_by_last_move}
 use Rattle.gm_squares.specs.laws.AttackFacts.{king_mutual, none_from}
 use Rattle.gm_squares.specs.laws.LineFacts.{has_less}
 use Rattle.gm_squares.specs.laws.MenFacts.{if_true, if_false, IsLegal, legal_in, piece_below}
@@ -113,7 +111,7 @@ three_tier : (b : Men) → eqb b.piece 64 ≡ false → eqb (tier b) 1 ≡ true
 unfolding tier
 three_tier b e = rw e refl
 
-three_on : (b : Men) → eqb b.piece 64 ≡ false → plays_on (end_by_last_move b) ≡ true
+three_on : (b : Men) → eqb b.piece 64 ≡ false → is_undecided (end_by_last_move b) ≡ true
 unfolding end_by_last_move
 three_on b e = rw e refl
 
@@ -163,7 +161,7 @@ module _ (q : Bool) (d : Men) (l : legal q d ≡ true) (k : ℕ) (lk : k < 64) w
         let u = king_undo m n in
         led_by _ _ _ _ _ _ _ (king_led m n)
         (ap (λ (b : Men). eqb (tier b) 1) u ∙ three_tier (king_back d k) armed)
-        (ap (λ (b : Men). plays_on (end_by_last_move b)) u ∙ three_on (king_back d k) armed)
+        (ap (λ (b : Men). is_undecided (end_by_last_move b)) u ∙ three_on (king_back d k) armed)
         (ap (legal q) u ∙ king_back_legal)
         (ap (λ (b : Men). can_move q b m) u ∙ king_back_can m n)
 
@@ -214,7 +212,7 @@ module _ (q : Bool) (d : Men) (l : legal q d ≡ true) (k : ℕ) (lk : k < 64) w
         let u = piece_undo m n in
         led_by _ _ _ _ _ _ _ (piece_led m n)
         (ap (λ (b : Men). eqb (tier b) 1) u ∙ three_tier (piece_back d k) (below_64 k lk))
-        (ap (λ (b : Men). plays_on (end_by_last_move b)) u ∙ three_on (piece_back d k) (below_64 k lk))
+        (ap (λ (b : Men). is_undecided (end_by_last_move b)) u ∙ three_on (piece_back d k) (below_64 k lk))
         (ap (legal q) u ∙ piece_back_legal)
         (ap (λ (b : Men). can_move q b m) u ∙ piece_back_can m n)
 
@@ -306,7 +304,7 @@ module _ (q : Bool) (d : Men) (l : legal q d ≡ true) (k : ℕ) (lk : k < 64) w
         let three = below_64 stood has_stood.below in
         led_by _ _ _ _ _ _ _ (foe_led m n)
         (ap (λ (b : Men). eqb (tier b) 1) u ∙ three_tier (foe_back d k) three)
-        (ap (λ (b : Men). plays_on (end_by_last_move b)) u ∙ three_on (foe_back d k) three)
+        (ap (λ (b : Men). is_undecided (end_by_last_move b)) u ∙ three_on (foe_back d k) three)
         (ap (legal q) u ∙ foe_back_legal)
         (ap (λ (b : Men). can_move q b m) u ∙ foe_back_can m n)
 

@@ -1,13 +1,10 @@
 -- The endings' own laws of moves: a move preserves legality and can be taken back, and the lists are short.
 use Rattle.std.specs.Prelude.{◌≡◌, ◌<◌, ◌≤◌, ◌∷◌, ◌⊎◌, if◌then◌else◌}
-use Rattle.gm_pieces.specs.Common.{ℕ, Bool, true, false, eqb, eqb-true, List, [], length, refl, sym, ◌∙◌, subst, arith}
-use Rattle.gm_pieces.specs.Common.{inl, inr, cond_both, lone_in, Contains, None, Some}
-use Rattle.gm_pieces.specs.Common.{IsAscending, IsPaddedText, IsMoveGame, steps}
+use Rattle.gm_pieces.specs.Common.{ℕ, Bool, true, false, eqb, eqb-true, List, [], length, refl, sym, ◌∙◌, subst, arith, inl, inr, cond_both, lone_in, Contains, None, Some, IsAscending, IsPaddedText, IsMoveGame, steps}
 use Rattle.gm_game.specs.declared.position.End.TheVariants.{Tie}
 use Rattle.gm_squares.specs.Squares.{goes_on_board, beside}
 use Rattle.gm_squares.specs.declared.men.Men.{Men}
-use Rattle.gm_squares.specs.Chess.{legal, moved, end_by_last_move, tier, child_tiers}
-use Rattle.gm_squares.specs.Chess.{chess_name, start, ending, king_attacks, piece_attacks, in_check, ray, reaches}
+use Rattle.gm_squares.specs.Chess.{legal, moved, end_by_last_move, tier, child_tiers, chess_name, start, ending, king_attacks, piece_attacks, in_check, ray, reaches}
 use Rattle.gm_squares.specs.laws.MenFacts.{legal_in, move_in, moved_legal, undone, redone}
 use Rattle.gm_squares.specs.laws.TriedMoves.{moves_few, befores_few}
 

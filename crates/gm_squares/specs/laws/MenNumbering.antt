@@ -1,7 +1,6 @@
 -- The numbering of boards is one to one.
 use Rattle.std.specs.Prelude.{◌≡◌, ◌+◌, ◌<◌, ◌≤◌, ◌*◌, ◌/◌, ◌%◌}
-use Rattle.gm_pieces.specs.Common.{ℕ, zero, suc, Bool, true, false, eqb, eqb-true, nat_tests, refl, sym, ap, ap₂, ◌∙◌, arith, cases_Bool, cond_both}
-use Rattle.gm_pieces.specs.Common.{inl, inr, IsNumbered, board_game}
+use Rattle.gm_pieces.specs.Common.{ℕ, zero, suc, Bool, true, false, eqb, eqb-true, nat_tests, refl, sym, ap, ap₂, ◌∙◌, arith, cases_Bool, cond_both, inl, inr, IsNumbered, board_game}
 use Rattle.gm_squares.specs.declared.men.Men.{Men}
 use Rattle.gm_squares.specs.Chess.{turn_of, tier, index, board, size, ending}
 use Rattle.gm_squares.specs.laws.MenFacts.{IsLegal, legal_in, same_men}

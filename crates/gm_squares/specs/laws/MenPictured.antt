@@ -1,13 +1,12 @@
 -- The drawings of the chess endings distinguish positions, and their pictures satisfy the laws of pictures.
-use Rattle.std.proofs.Common.{◌≡◌, ◌≢◌, ℕ, ◌<◌, Bool, true, false, not, if◌then◌else◌, eqb, eqb-true, eq-eqb, List, ◌∷◌, get_or, refl}
-use Rattle.std.proofs.Common.{sym, ap, ◌∙◌, arith, inl, inr}
+use Rattle.std.proofs.Common.{◌≡◌, ◌≢◌, ℕ, ◌<◌, Bool, true, false, not, if◌then◌else◌, eqb, eqb-true, eq-eqb, List, ◌∷◌, get_or, refl, sym, ap, ◌∙◌, arith, inl, inr}
 use Rattle.std.proofs.lemmas.Bool.{cases_Bool, true≢false}
 use Rattle.std.proofs.lemmas.Bool.Decides.{nat_tests}
 use Rattle.std.specs.Prelude.{◌==◌, codes}
 use Rattle.gm_game.specs.declared.position.Position.{Position}
 use Rattle.gm_game.proofs.BoardLaws.{legal_board}
 use Rattle.gm_pieces.specs.MoveGames.{board_game}
-use Rattle.gm_pieces.specs.MoveTexts.{position_text, move_text}
+use Rattle.gm_pieces.specs.MoveTexts.{position_text_by, move_text_by}
 use Rattle.gm_pieces.specs.laws.TextFacts.{texts_are_shown}
 use Rattle.gm_squares.specs.declared.men.Men.{Men}
 use Rattle.gm_squares.specs.Chess.{ending, chess_rules, board as men_at, board_text, step_text, piece_char, man_char, man, from_square, to_square, legal}
@@ -130,7 +129,7 @@ side_named : (x : Bool) → (if (if x then 119 else 98) == 119 then codes "White
 side_named true = refl
 side_named false = refl
 
-pub chess_named : (q : Bool) (p : Position) → by_last (position_text (ending q) (board_text q) p) 119 (codes "White") (codes "Black") ≡ chess_mover p
+pub chess_named : (q : Bool) (p : Position) → by_last (position_text_by (ending q) (board_text q) p) 119 (codes "White") (codes "Black") ≡ chess_mover p
 unfolding board_text
 chess_named q p =
     let b = men_at p.tier p.index in elim (cases_Bool (eqb b.piece 64)) [
@@ -143,7 +142,8 @@ step_words : (q : Bool) (m : ℕ) → (c : ℕ) × (word : List ℕ) × (step_te
 unfolding step_text
 step_words q m = (man_char q (man m), _, refl, two_squares (from_square m) (to_square m) (from_below m) (to_below m))
 
-pub chess_pictured : (q : Bool) → IsPictured (chess_rules q) (position_text (ending q) (board_text q)) (move_text (λ t m. step_text q m)) (chess_picture q)
+pub chess_pictured : (q : Bool) → IsPictured (chess_rules q) (position_text_by (ending q) (board_text q)) (move_text_by (λ t m. step_text q m))
+    (chess_picture q)
 unfolding chess_picture
 chess_pictured q = record {
   drawings = record {

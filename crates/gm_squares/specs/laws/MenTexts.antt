@@ -1,7 +1,6 @@
 -- Texts are plain, fit a line, and distinguish boards and moves.
 use Rattle.std.specs.Prelude.{◌≡◌, ◌≢◌, ◌+◌, ◌<◌, ◌≤◌, ◌/◌, ◌%◌, ◌∷◌, if◌then◌else◌, slice_index}
-use Rattle.gm_pieces.specs.Common.{ℕ, zero, suc, Bool, true, false, eqb, eqb-true, eq-eqb, nat_tests, List, [], length, refl, sym, ap, ◌∙◌, arith, inl, inr, cases_Bool}
-use Rattle.gm_pieces.specs.Common.{and_both, cond_both, list_all, is_plain, IsPlain, AreTexts}
+use Rattle.gm_pieces.specs.Common.{ℕ, zero, suc, Bool, true, false, eqb, eqb-true, eq-eqb, nat_tests, List, [], length, refl, sym, ap, ◌∙◌, arith, inl, inr, cases_Bool, and_both, cond_both, list_all, is_plain, IsPlain, AreTexts}
 use Rattle.gm_squares.specs.Squares.{square_in}
 use Rattle.gm_squares.specs.laws.Texts.{square_plain, square_told}
 use Rattle.gm_squares.specs.declared.men.Men.{Men}

@@ -1,13 +1,10 @@
 -- A rook or queen attacks the squares that it reaches along its lines.
 use Rattle.std.specs.Prelude.{◌≡◌, ◌-◌, ◌*◌, ◌%◌, ◌^◌, ◌<◌, ◌≤◌, ◌&&◌, ◌||◌, ◌∷◌, if◌then◌else◌}
-use Rattle.gm_pieces.specs.Common.{ℕ, zero, suc, Bool, true, false, not, eqb, eqb-true, eq-eqb, ltb, List, [], refl, sym, ap, ap₂, ◌∙◌, subst, arith, nat_tests, inl, inr}
-use Rattle.gm_pieces.specs.Common.{ltb-true, cases_Bool, cases_lt, cases_eq, ne_eqb, bit_and, bit_or, has_cell, has_and, has_or, Contains, list_all, list_any, all_at, any_at}
-use Rattle.gm_pieces.specs.Common.{any_from, same_tests, and_left, and_right, and_both, at_all, at_each, agree, agree_same, true≢false, bit_at-pow_same, bit_at-pow_other}
-use Rattle.gm_pieces.specs.Common.{bit_at-zero, bit_at_above, false_from_ne_true, and_false, cond-true, cond-false, not-true}
+use Rattle.gm_pieces.specs.Common.{ℕ, zero, suc, Bool, true, false, not, eqb, eqb-true, eq-eqb, ltb, List, [], refl, sym, ap, ap₂, ◌∙◌, subst, arith, nat_tests, inl, inr, ltb-true, cases_Bool, cases_lt, cases_eq, ne_eqb, bit_and, bit_or, has_cell, has_and, has_or, Contains, list_all, list_any, all_at, any_at, any_from, same_tests, and_left, and_right, and_both, at_all, at_each, agree, agree_same, true≢false, bit_at-pow_same, bit_at-pow_other, bit_at-zero, bit_at_above, false_from_ne_true, and_false, cond-true, cond-false, not-true}
 use Rattle.gm_board.specs.laws.NextCells.{cell_one, cell_none}
 use Rattle.gm_squares.specs.Chess.{piece_attacks, piece_ways, ray, reaches}
 use Rattle.gm_squares.specs.Squares.{goes_on_board, beside}
-use Rattle.gm_squares.specs.Lines.{line_mask, lies_between, is_open, lines_of, goes_along}
+use Rattle.gm_squares.specs.inner.Lines.{line_mask, lies_between, is_open_line, lines_of, goes_along}
 use Rattle.gm_squares.specs.laws.AttackFacts.{is_among, way_to, piece_by_way, met}
 use Rattle.gm_squares.specs.laws.LineFacts.{squares_above, squares_below, past_both, has_not}
 
@@ -168,7 +165,8 @@ module _ (q : Bool) (a c : ℕ) (l : a < 64) (h : c < 64) where
               | inr f ↦ (
                   let t2 = sym (cond-false among _ _ f) ∙ t1 in
                   way ∙ ap (λ (t : Bool). t && reaches (ray 7 w a) c u v) f
-                  ∙ sym (no_line xs (λ x. has_cell (line_mask x a) c) (λ x. not (eqb c a) && (is_open (line_mask x a) a c u && is_open (line_mask x a) a c v))
+                  ∙ sym (no_line xs (λ x. has_cell (line_mask x a) c) (λ x. not (eqb c a) &&
+                  (is_open_line (line_mask x a) a c u && is_open_line (line_mask x a) a c v))
                   (λ x i. not-true _ (all_at (λ x. not (has_cell (line_mask x a) c)) xs x t2 i))))
               | inl f ↦ (
                   let t2 = sym (cond-true among _ _ f) ∙ t1 in
@@ -181,13 +179,13 @@ module _ (q : Bool) (a c : ℕ) (l : a < 64) (h : c < 64) where
                   let r3 = and_right (is_among (ray 7 w a) c) _ r2 in
                   let fits = ltb-true _ _ (and_left _ _ r3) in
                   let part : bits (before (ray 7 w a) c) ≡ bit_and line (between a c) = eqb-true _ _ (and_right (ltb line (2 ^ 64)) _ r3) in
-                  let stop : (x : ℕ) → not (is_among (before (ray 7 w a) c) x) ≡ is_open line a c x = λ x. ap not (sym (has_bits (before (ray 7 w a) c) x)
+                  let stop : (x : ℕ) → not (is_among (before (ray 7 w a) c) x) ≡ is_open_line line a c x = λ x. ap not (sym (has_bits (before (ray 7 w a) c) x)
                   ∙ ap (λ (m : ℕ). has_cell m x) part ∙ part_has line a c x fits l h) in
                   way
                   ∙ ap₂ (λ (s t : Bool). s && t) f (reached u v ∙ ap (λ (t : Bool). (t && not (is_among (before (ray 7 w a) c) u)) && (t && not (is_among (before (ray 7 w a) c) v))) here
                   ∙ ap₂ (λ (s t : Bool). s && t) (stop u) (stop v))
-                  ∙ sym (one_line xs (line_of w) (λ x. has_cell (line_mask x a) c) (λ x. not (eqb c a) && (is_open (line_mask x a) a c u && is_open (line_mask x a) a c v)) some each
-                  ∙ ap (λ (t : Bool). not t && (is_open line a c u && is_open line a c v)) e))
+                  ∙ sym (one_line xs (line_of w) (λ x. has_cell (line_mask x a) c) (λ x. not (eqb c a) && (is_open_line (line_mask x a) a c u && is_open_line (line_mask x a) a c v)) some each
+                  ∙ ap (λ (t : Bool). not t && (is_open_line line a c u && is_open_line line a c v)) e))
             ])
       ]
 
@@ -223,11 +221,11 @@ queen_reach a c u v r f x y l h e g i j =
 module _ (q : Bool) (a c : ℕ) (l : a < 64) (h : c < 64) (apart : eqb c a ≡ false) where
   -- if a line has both squares, the way between them is open or not along it
   pub attacks_on : (x u v : ℕ) → Contains (lines_of q) x → has_cell (line_mask x a) c ≡ true
-      → piece_attacks q a c u v ≡ (is_open (line_mask x a) a c u && is_open (line_mask x a) a c v)
+      → piece_attacks q a c u v ≡ (is_open_line (line_mask x a) a c u && is_open_line (line_mask x a) a c v)
   attacks_on x u v i e =
       let xs = lines_of q in
       let t1 = sym (cond-false (eqb c a) _ _ apart) ∙ table q a c l h in
-      let way : ℕ → Bool = λ x. not (eqb c a) && (is_open (line_mask x a) a c u && is_open (line_mask x a) a c v) in
+      let way : ℕ → Bool = λ x. not (eqb c a) && (is_open_line (line_mask x a) a c u && is_open_line (line_mask x a) a c v) in
       elim (cases_Bool (is_among (piece_ways q) (way_to a c))) [
         | inr f ↦ absurd (true≢false (sym e ∙ not-true _ (all_at (λ x. not (has_cell (line_mask x a) c)) xs x (sym (cond-false _ _ _ f) ∙ t1) i)))
         | inl f ↦ (
@@ -239,14 +237,15 @@ module _ (q : Bool) (a c : ℕ) (l : a < 64) (h : c < 64) (apart : eqb c a ≡ f
             attacks_along q a c l h u v
             ∙ one_line xs (line_of (way_to a c)) (λ x. has_cell (line_mask x a) c) way some each
             ∙ ap way (sym (eqb-true _ _ (sym same ∙ e)))
-            ∙ ap (λ (t : Bool). not t && (is_open (line_mask x a) a c u && is_open (line_mask x a) a c v)) apart)
+            ∙ ap (λ (t : Bool). not t && (is_open_line (line_mask x a) a c u && is_open_line (line_mask x a) a c v)) apart)
       ]
 
   -- and if no line has both, there is none
   pub attacks_off : (u v : ℕ) → ((x : ℕ) → Contains (lines_of q) x → has_cell (line_mask x a) c ≡ false) → piece_attacks q a c u v ≡ false
   attacks_off u v none =
       attacks_along q a c l h u v
-      ∙ no_line (lines_of q) (λ x. has_cell (line_mask x a) c) (λ x. not (eqb c a) && (is_open (line_mask x a) a c u && is_open (line_mask x a) a c v)) none
+      ∙ no_line (lines_of q) (λ x. has_cell (line_mask x a) c) (λ x. not (eqb c a) &&
+      (is_open_line (line_mask x a) a c u && is_open_line (line_mask x a) a c v)) none
 
 and_same : (t : Bool) → (t && t) ≡ t
 and_same true = refl
@@ -265,8 +264,8 @@ pub open_on : (q : Bool) (a c line part k : ℕ) → a < 64 → c < 64 → eqb c
 open_on q a c line part k l h apart j f w e =
     has_not part k f j
     ∙ ap not e
-    ∙ ap (λ (m : ℕ). is_open m a c k) w.2
-    ∙ sym (attacks_on q a c l h apart w.0 k k w.1 (ap (λ (m : ℕ). has_cell m c) (sym w.2) ∙ w.3) ∙ and_same (is_open (line_mask w.0 a) a c k))
+    ∙ ap (λ (m : ℕ). is_open_line m a c k) w.2
+    ∙ sym (attacks_on q a c l h apart w.0 k k w.1 (ap (λ (m : ℕ). has_cell m c) (sym w.2) ∙ w.3) ∙ and_same (is_open_line (line_mask w.0 a) a c k))
 
 pub open_off : (q : Bool) (a c k : ℕ) → a < 64 → c < 64 → eqb c a ≡ false → HasNoLine q a c → has_cell 0 k ≡ piece_attacks q a c k k
 open_off q a c k l h apart none = cell_none 0 k (bit_at-zero k) ∙ sym (attacks_off q a c l h apart k k none)
@@ -298,8 +297,8 @@ along_mutual x a c u v i l h =
       | inl e ↦ (
           let line : line_mask x a ≡ line_mask x c =
           eqb-true _ _ (sym (cond-true (has_cell (line_mask x a) c) _ _ e) ∙ and_right (agree (has_cell (line_mask x a) c) (has_cell (line_mask x c) a)) _ t) in
-          ap₂ (λ (s r : Bool). s && (not r && (is_open (line_mask x a) a c u && is_open (line_mask x a) a c v))) same (equal_mutual c a)
-          ∙ ap (λ (m : ℕ). has_cell (line_mask x c) a && (not (eqb a c) && (is_open m a c u && is_open m a c v))) line
+          ap₂ (λ (s r : Bool). s && (not r && (is_open_line (line_mask x a) a c u && is_open_line (line_mask x a) a c v))) same (equal_mutual c a)
+          ∙ ap (λ (m : ℕ). has_cell (line_mask x c) a && (not (eqb a c) && (is_open_line m a c u && is_open_line m a c v))) line
           ∙ ap₂ (λ (s r : Bool). has_cell (line_mask x c) a && (not (eqb a c) && (not (has_cell (line_mask x c) u && s) && not (has_cell (line_mask x c) v && r))))
           (between_mutual a c u) (between_mutual a c v))
     ]

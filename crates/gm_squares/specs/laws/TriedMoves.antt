@@ -1,11 +1,11 @@
 -- The numbers that are tried: a man's moves from its square, and to it.
 use Rattle.std.specs.Prelude.{◌≡◌, ◌+◌, ◌≤◌, ◌*◌}
 use Rattle.gm_pieces.specs.Common.{ℕ, Bool, true, false, length, sym, ◌∙◌, arith, inl, inr, cases_Bool, true≢false, filter, range_with_len}
-use Rattle.gm_pieces.specs.Tried.{one, AreCandidates}
+use Rattle.gm_pieces.specs.inner.Tried.{one, AreCandidates}
 use Rattle.gm_pieces.specs.laws.TriedFacts.{one_run, two_runs, tried_few}
 use Rattle.gm_squares.specs.declared.men.Men.{Men}
 use Rattle.gm_squares.specs.Chess.{legal, man, from_square, to_square, can_move, can_have_led_here}
-use Rattle.gm_squares.specs.Runs.{row}
+use Rattle.gm_squares.specs.inner.Runs.{row}
 use Rattle.gm_squares.specs.laws.MenFacts.{king_below, foe_below, piece_most, piece_below, move_in, was_in, to_below, from_below}
 
 at_from : (m k s : ℕ) → man m ≡ k → from_square m ≡ s → 4096 * k + 64 * s + 1 * to_square m ≡ m

@@ -1,7 +1,6 @@
 -- Masks of the squares from which a way leads to a square of a mask.
 use Rattle.std.specs.Prelude.{◌≡◌, ◌+◌, ◌-◌, ◌*◌, ◌/◌, ◌%◌, ◌^◌, ◌<◌, ◌≤◌, ◌&&◌, ◌||◌, if◌then◌else◌}
-use Rattle.gm_pieces.specs.Common.{ℕ, Bool, true, false, not, eqb, eqb-true, leb, leb-true, refl, sym, ap, ap₂, ◌∙◌, arith, bit_and, bit_or, bit_at, has_cell}
-use Rattle.gm_pieces.specs.Common.{has_and, has_or, and_left, and_right, cases_Bool, inl, inr, not-true, list_all, range_with_len, at_below, cond-true, cond-false}
+use Rattle.gm_pieces.specs.Common.{ℕ, Bool, true, false, not, eqb, eqb-true, leb, leb-true, refl, sym, ap, ap₂, ◌∙◌, arith, bit_and, bit_or, bit_at, has_cell, has_and, has_or, and_left, and_right, cases_Bool, inl, inr, not-true, list_all, range_with_len, at_below, cond-true, cond-false}
 use Rattle.std.proofs.lemmas.Nat.Bits.{bit_at_cat_low, bit_at_cat_high}
 use Rattle.gm_squares.specs.Squares.{goes_on_board, beside}
 use Rattle.gm_squares.specs.FoxHounds.{dark, way, to_square, from_square}

@@ -1,6 +1,5 @@
 -- The heights of columns tell on which cells pieces stand.
-use Rattle.std.proofs.Common.{◌≡◌, ℕ, zero, suc, ◌+◌, ◌-◌, ◌*◌, ◌/◌, ◌%◌, ◌<◌, ◌≤◌, Bool, true, false, cond, leb, leb-true, le-leb, List, [], ◌∷◌, map, length, get_or}
-use Rattle.std.proofs.Common.{◌++◌, refl, sym, ap, ap₂, ◌∙◌, subst, arith, inl, inr, zero-add, mod-lt, mul-le-mul_right, div-lt_iff_lt-mul, true≢false}
+use Rattle.std.proofs.Common.{◌≡◌, ℕ, zero, suc, ◌+◌, ◌-◌, ◌*◌, ◌/◌, ◌%◌, ◌<◌, ◌≤◌, Bool, true, false, cond, leb, leb-true, le-leb, List, [], ◌∷◌, map, length, get_or, ◌++◌, refl, sym, ap, ap₂, ◌∙◌, subst, arith, inl, inr, zero-add, mod-lt, mul-le-mul_right, div-lt_iff_lt-mul, true≢false}
 use Rattle.std.specs.List.{range_with_len}
 use Rattle.std.proofs.lemmas.Bool.{cases_Bool, cases_lt}
 use Rattle.std.proofs.lemmas.Bool.Decides.{nat_tests}

@@ -1,7 +1,6 @@
 -- The numbering of boards whose pieces stand on one another is one to one.
-use Rattle.std.proofs.Common.{◌≡◌, ℕ, zero, suc, ◌+◌, ◌*◌, ◌/◌, ◌%◌, ◌^◌, ◌<◌, ◌≤◌, Bool, true, false, List, [], ◌∷◌, map, reverse, length, refl, sym, ap, ap₂, ◌∙◌, subst, arith, inl, inr}
+use Rattle.std.proofs.Common.{◌≡◌, ℕ, zero, suc, ◌+◌, ◌*◌, ◌/◌, ◌%◌, ◌^◌, ◌<◌, ◌≤◌, Bool, true, false, List, [], ◌∷◌, map, reverse, length, refl, sym, ap, ap₂, ◌∙◌, subst, arith, inl, inr, zero-add, mod-lt, div-lt_iff_lt-mul}
 use Rattle.std.proofs.lemmas.Bool.{cases_lt}
-use Rattle.std.proofs.Common.{zero-add, mod-lt, div-lt_iff_lt-mul}
 use Rattle.std.specs.List.{range_with_len}
 use Rattle.std.proofs.Math.Nat.{mod-add-div'}
 use Rattle.std.proofs.lemmas.List.{ext_get_or, length-reverse, reverse-reverse, reverse-append}
@@ -18,8 +17,7 @@ use Rattle.gm_board.specs.laws.Binomials.{binomial_small}
 use Rattle.gm_board.specs.laws.CellCounts.{one_if, mine_members, their_members, number_reverse}
 use Rattle.gm_board.specs.laws.Ranks.{rank_below, rank_unrank, unrank_rank, unrank_length, unrank_members}
 use Rattle.gm_stacks.specs.Heights.{stackings, total, rank_heights, unrank_heights}
-use Rattle.gm_stacks.specs.Stacks.{how_many, heights, is_filled, IsStacked, down, own_bits, placed, has_piece, owners, stacked_boards, stacked_index}
-use Rattle.gm_stacks.specs.Stacks.{stacked_heights, stacked_board}
+use Rattle.gm_stacks.specs.Stacks.{how_many, heights, is_filled, IsStacked, down, own_bits, placed, has_piece, owners, stacked_boards, stacked_index, stacked_heights, stacked_board}
 use Rattle.gm_stacks.specs.laws.Columns.{heights_length, heights_low, heights_total, filled_are, heights_back, filled_many, filled_stacked, same_heights}
 use Rattle.gm_stacks.specs.laws.HeightRanks.{rank_within, heights_back as list_back, IsRanked, ranked, stackings_few}
 

@@ -1,9 +1,6 @@
 -- Boards of counters: cells emptied and filled, and how many counters there are.
 use Rattle.std.specs.Prelude.{◌≡◌, ◌+◌, ◌<◌, ◌&&◌, ◌||◌, ◌∷◌}
-use Rattle.gm_pieces.specs.Common.{ℕ, zero, suc, Bool, true, false, not, List, [], map, reverse, length, set, refl, sym}
-use Rattle.gm_pieces.specs.Common.{ap, ap₂, ◌∙◌, subst, arith, inl, inr, length-set, get_or-set_same, get_or-set_other, eq-eqb, Contains, range_with_len}
-use Rattle.gm_pieces.specs.Common.{sum_by, cases_lt, cases_eq, ne_eqb, not-true, ext_get_or, get_or_past, length-map-range_with_len}
-use Rattle.gm_pieces.specs.Common.{get_or-map-range_with_len, all_from, and_left, and_right, and_true, and_false, weight, members, all_at}
+use Rattle.gm_pieces.specs.Common.{ℕ, zero, suc, Bool, true, false, not, List, [], map, reverse, length, set, refl, sym, ap, ap₂, ◌∙◌, subst, arith, inl, inr, length-set, get_or-set_same, get_or-set_other, eq-eqb, Contains, range_with_len, sum_by, cases_lt, cases_eq, ne_eqb, not-true, ext_get_or, get_or_past, length-map-range_with_len, get_or-map-range_with_len, all_from, and_left, and_right, and_true, and_false, bit_weight, members, all_at}
 use Rattle.std.proofs.lemmas.List.Sorted.{sum_by-IsPermutation, IsPermutation-reverse}
 use Rattle.std.proofs.lemmas.List.Sums.{sum_by-cons}
 use Rattle.gm_tactix.specs.Segments.{cells_from}
@@ -75,14 +72,14 @@ with_without b cs e =
     back x y h = grind arith
 
 -- ---- numbers of counters
-pub members_weight : (b : List Bool) → members b ≡ sum_by weight b
+pub members_weight : (b : List Bool) → members b ≡ sum_by bit_weight b
 members_weight [] = refl
-members_weight (true ∷ b) = let e = sum_by-cons weight true b in omega (arith, members_weight b, e)
-members_weight (false ∷ b) = let e = sum_by-cons weight false b in omega (arith, members_weight b, e)
+members_weight (true ∷ b) = let e = sum_by-cons bit_weight true b in omega (arith, members_weight b, e)
+members_weight (false ∷ b) = let e = sum_by-cons bit_weight false b in omega (arith, members_weight b, e)
 
 -- the order of the cells does not matter
 pub members_reverse : (b : List Bool) → members (reverse b) ≡ members b
-members_reverse b = members_weight (reverse b) ∙ sum_by-IsPermutation weight b (reverse b) (IsPermutation-reverse b) ∙ sym (members_weight b)
+members_reverse b = members_weight (reverse b) ∙ sum_by-IsPermutation bit_weight b (reverse b) (IsPermutation-reverse b) ∙ sym (members_weight b)
 
 -- a board with one counter fewer
 members_set : (b : List Bool) (c : ℕ) → has_counter b c ≡ true → members (set b c false) + 1 ≡ members b

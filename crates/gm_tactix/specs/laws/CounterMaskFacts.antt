@@ -1,15 +1,10 @@
 -- Boards of counters against masks: what the code's steps on masks say of boards.
 use Rattle.std.specs.Prelude.{◌≡◌, ◌+◌, ◌*◌, ◌^◌, ◌<◌, ◌≤◌, ◌&&◌, ◌||◌, ◌∷◌, ◌↔◌}
-use Rattle.gm_pieces.specs.Common.{ℕ, zero, suc, Bool, true, false, not, eqb, List, [], map, reverse, length}
-use Rattle.gm_pieces.specs.Common.{refl, sym, ap, ap₂, ◌∙◌, subst, arith, inl, inr, zero-add, eq-eqb, bit_and, bit_or, count_ones, bit_at, Contains}
-use Rattle.gm_pieces.specs.Common.{range_with_len, ext_get_or, cases_eq, ne_eqb, not-true, reverse-append, reverse-reverse, length-map-range_with_len}
-use Rattle.gm_pieces.specs.Common.{get_or-map-range_with_len, map-range_with_len_more, bit_at-zero, bit_at-pow_same, bit_at-pow_other, members, rank, has_cell}
-use Rattle.gm_pieces.specs.Common.{tests_of, mask_rank, mask_unrank, tests_none, tests_more, members_small, mask_rank_at, tests_unrank, permute, all_at}
-use Rattle.gm_pieces.specs.Common.{IsPermutationOf, image_mask, image_tests, pattern_mask, has_or, has_and, has_none, all_from, and_false}
+use Rattle.gm_pieces.specs.Common.{ℕ, zero, suc, Bool, true, false, not, eqb, List, [], map, reverse, length, refl, sym, ap, ap₂, ◌∙◌, subst, arith, inl, inr, zero-add, eq-eqb, bit_and, bit_or, count_ones, bit_at, Contains, range_with_len, ext_get_or, cases_eq, ne_eqb, not-true, reverse-append, reverse-reverse, length-map-range_with_len, get_or-map-range_with_len, map-range_with_len_more, bit_at-zero, bit_at-pow_same, bit_at-pow_other, members, rank, has_cell, tests_of, mask_rank, mask_unrank, tests_none, tests_more, members_small, mask_rank_at, tests_unrank, permute, all_at, IsPermutationOf, image_mask, image_tests, pattern_mask, has_or, has_and, has_none, all_from, and_false}
 use Rattle.gm_tactix.specs.Board.{has_counter, is_free, is_among, without, with_counters, counters_index, counters_at}
 use Rattle.gm_tactix.specs.laws.SegmentFacts.{among_in, among_from}
 use Rattle.gm_tactix.specs.laws.CounterFacts.{length_without, length_with, without_at, with_at, members_reverse}
-use Rattle.gm_tactix.specs.CounterMasks.{counters_of}
+use Rattle.gm_tactix.specs.inner.CounterMasks.{counters_of}
 
 -- one test a cell
 pub counters_length : (n mask : ℕ) → length (counters_of n mask) ≡ n

@@ -1,14 +1,10 @@
 -- Moves of Tac Tix: which there are, what they leave, and the boards before a board.
 use Rattle.std.specs.Prelude.{◌≡◌, ◌+◌, ◌-◌, ◌*◌, ◌<◌, ◌≤◌, ◌∷◌, ◌++◌}
-use Rattle.gm_pieces.specs.Common.{ℕ, zero, suc, Bool, true, false, cond, eqb, List, [], length, refl, sym, ap, ◌∙◌}
-use Rattle.gm_pieces.specs.Common.{subst, arith, inl, inr, eqb-true, eq-eqb, Contains, filter, range_with_len, cases_lt, ne_eqb}
-use Rattle.gm_pieces.specs.Common.{length-range_with_len, get_or-range_with_len, map-range_with_len_more, map-id, IsAscending, and_left}
-use Rattle.gm_pieces.specs.Common.{and_right, and_both, members, filter_few, nil_or, steps, step_in, step_listed}
+use Rattle.gm_pieces.specs.Common.{ℕ, zero, suc, Bool, true, false, cond, eqb, List, [], length, refl, sym, ap, ◌∙◌, subst, arith, inl, inr, eqb-true, eq-eqb, Contains, filter, range_with_len, cases_lt, ne_eqb, length-range_with_len, get_or-range_with_len, map-range_with_len_more, map-id, IsAscending, and_left, and_right, and_both, members, filter_few, nil_or, steps, step_in, step_listed}
 use Rattle.gm_tactix.specs.Segments.{first_cell, segment_length, goes_down, stride, segment_cells, is_segment, move_number_bound}
 use Rattle.gm_tactix.specs.Board.{is_full, is_free, without, with_counters, can_take, play, was_taken, tactix}
 use Rattle.gm_tactix.specs.laws.SegmentFacts.{number_below, length_bounds, single, single_cells, segments_few}
-use Rattle.gm_tactix.specs.laws.CounterFacts.{length_without, free_without, without_with, with_without, members_without}
-use Rattle.gm_tactix.specs.laws.CounterFacts.{some_counter}
+use Rattle.gm_tactix.specs.laws.CounterFacts.{length_without, free_without, without_with, with_without, members_without, some_counter}
 
 -- ---- ranges
 -- each number of a range is in it

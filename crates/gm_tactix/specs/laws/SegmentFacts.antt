@@ -1,9 +1,6 @@
 -- Segments of the squares of side 1 to 5: what computing shows of each, and what follows for all.
 use Rattle.std.specs.Prelude.{◌≡◌, ◌+◌, ◌-◌, ◌*◌, ◌/◌, ◌%◌, ◌<◌, ◌≤◌, ◌&&◌, ◌||◌, ◌∷◌}
-use Rattle.gm_pieces.specs.Common.{ℕ, zero, suc, min, max, Bool, true, false, cond, eqb, ltb, leb, List, [], reverse, length, get_or, refl, sym, ap, ap₂, ◌∙◌}
-use Rattle.gm_pieces.specs.Common.{subst, arith, inl, inr, eqb-true, eq-eqb, ltb-true, lt-ltb, leb-true, le-leb, Contains, list_all, range_with_len, or_cases}
-use Rattle.gm_pieces.specs.Common.{and_left, and_right, and_both, contains_range, contains_head, contains_later, filter_to, same_list, same_list_true, permute}
-use Rattle.gm_pieces.specs.Common.{all_at, IsGroup, any_at, group_inverse, undone, same_tests, any_from, square_symmetries, square_group}
+use Rattle.gm_pieces.specs.Common.{ℕ, zero, suc, min, max, Bool, true, false, cond, eqb, ltb, leb, List, [], reverse, length, get_or, refl, sym, ap, ap₂, ◌∙◌, subst, arith, inl, inr, eqb-true, eq-eqb, ltb-true, lt-ltb, leb-true, le-leb, Contains, list_all, range_with_len, or_cases, and_left, and_right, and_both, contains_range, contains_head, contains_later, filter_to, same_list, same_list_true, permute, all_at, IsGroup, any_at, group_inverse, undone, same_tests, any_from, square_symmetries, square_group}
 use Rattle.std.proofs.lemmas.List.Sorted.{IsPermutation-reverse, IsPermutation-sym, Contains-permutation}
 use Rattle.gm_tactix.specs.Segments.{first_cell, segment_length, goes_down, segment_cells, is_segment, move_number_bound, segments}
 use Rattle.gm_tactix.specs.Board.{is_among}

@@ -1,11 +1,6 @@
 -- Tac Tix has the laws of a game.
 use Rattle.std.specs.Prelude.{◌≡◌, ◌-◌, ◌*◌, ◌<◌, ◌≤◌, ◌&&◌, if◌then◌else◌}
-use Rattle.gm_pieces.specs.Common.{ℕ, Bool, true, false, not, eqb, List, reverse, length, get_or, None, Some, refl, sym, ap}
-use Rattle.gm_pieces.specs.Common.{ap₂, ◌∙◌, subst, arith, inl, inr, eqb-true, eq-eqb, ltb, ltb-true, Contains, range_with_len, cases_Bool}
-use Rattle.gm_pieces.specs.Common.{nat_tests, length-reverse, reverse-reverse, length-replicate, length-range_with_len, Position, Lose, Win, IsPaddedText}
-use Rattle.gm_pieces.specs.Common.{IsNumbered, and_both, all_from, all_at, ext_get_or, binomial, binomial_small, members, rank, unrank, rank_below, unrank_length, unrank_members}
-use Rattle.gm_pieces.specs.Common.{rank_unrank, unrank_rank, members_le, weight, permute, permute_get, IsGroup, group_length, image_length, image_sum}
-use Rattle.gm_pieces.specs.Common.{square_symmetries, square_group, range_in, board_game, move_rules, IsMoveGame, IsMoveSymmetric, permuted_group}
+use Rattle.gm_pieces.specs.Common.{ℕ, Bool, true, false, not, eqb, List, reverse, length, get_or, None, Some, refl, sym, ap, ap₂, ◌∙◌, subst, arith, inl, inr, eqb-true, eq-eqb, ltb, ltb-true, Contains, range_with_len, cases_Bool, nat_tests, length-reverse, reverse-reverse, length-replicate, length-range_with_len, Position, Lose, Win, IsPaddedText, IsNumbered, and_both, all_from, all_at, ext_get_or, binomial, binomial_small, members, rank, unrank, rank_below, unrank_length, unrank_members, rank_unrank, unrank_rank, members_le, bit_weight, permute, permute_get, IsGroup, group_length, image_length, image_sum, square_symmetries, square_group, range_in, board_game, move_rules, IsMoveGame, IsMoveSymmetric, permuted_group}
 use Rattle.gm_tactix.specs.Segments.{segment_cells}
 use Rattle.gm_tactix.specs.Board.{has_counter, is_full, without, can_take, play, tactix_name, counters_index, counters_at, side_of, tactix}
 use Rattle.gm_tactix.specs.laws.SegmentFacts.{for_sides, square_small, number_below, length_bounds, cells_within, segment_image, among_in, among_from}
@@ -91,7 +86,7 @@ module _ (s : ℕ) (low : 1 ≤ s) (high : s ≤ 5) where
 
   image_members : (g : List ℕ) (b : List Bool) → Contains (square_symmetries s) g → length b ≡ s * s → members (permute false g b) ≡ members b
   image_members g b c e =
-      members_weight (permute false g b) ∙ image_sum weight false (s * s) (square_symmetries s) group g c b e ∙ sym (members_weight b)
+      members_weight (permute false g b) ∙ image_sum bit_weight false (s * s) (square_symmetries s) group g c b e ∙ sym (members_weight b)
 
   image_at : (g : List ℕ) (b : List Bool) (k : ℕ) → Contains (square_symmetries s) g → k < s * s → has_counter (permute false g b) k ≡ has_counter b
       (get_or g k 0)

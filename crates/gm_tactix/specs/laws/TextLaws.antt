@@ -1,7 +1,6 @@
 -- The texts of Tac Tix are plain, fit a line, and tell positions and moves apart.
 use Rattle.std.specs.Prelude.{◌≡◌, ◌+◌, ◌-◌, ◌*◌, ◌≤◌, ◌&&◌, ◌∷◌, ◌++◌}
-use Rattle.gm_pieces.specs.Common.{ℕ, Bool, true, false, cond, eqb, eqb-true, List, [], length, refl, sym, ap, ◌∙◌, arith, list_all, cond_both, length-map}
-use Rattle.gm_pieces.specs.Common.{is_plain, IsPlain, IsShown, plain_map, and_left, and_right, all_at, cell_text, map_once, AreTexts, texts_are_shown}
+use Rattle.gm_pieces.specs.Common.{ℕ, Bool, true, false, cond, eqb, eqb-true, List, [], length, refl, sym, ap, ◌∙◌, arith, list_all, cond_both, length-map, is_plain, IsPlain, IsShown, plain_map, and_left, and_right, all_at, cell_text, map_once, AreTexts, texts_are_shown}
 use Rattle.gm_tactix.specs.Segments.{first_cell, segment_length, is_segment, segments}
 use Rattle.gm_tactix.specs.Board.{side_of, can_take, tactix, tactix_rules}
 use Rattle.gm_tactix.specs.laws.SegmentFacts.{for_sides, square_small, in_segments}

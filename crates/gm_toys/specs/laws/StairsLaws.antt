@@ -1,7 +1,6 @@
 -- Stairs has the laws of a game, and its texts can be read back.
 use Rattle.std.proofs.Common.{◌≡◌, ℕ, ◌+◌, ◌-◌, ◌<◌, ◌≤◌, ◌^◌, inl, inr, min, Bool, true, false, [], ◌&&◌, eqb, length, refl, None, arith, sym, ap, subst, ◌∙◌}
-use Rattle.gm_toys.specs.Lower.{nat_le, nat_lt, nat_tests, length-range_with_len, Contains, Position, IsGame, IsShown, at, IsAscending, IsCanonical}
-use Rattle.gm_toys.specs.Lower.{IsCanonicalChild, IsParent, contains_none, contains_first, contains_cases, same_position}
+use Rattle.gm_toys.specs.Lower.{nat_le, nat_lt, nat_tests, length-range_with_len, Contains, Position, IsGame, IsShown, at, IsAscending, IsCanonical, IsCanonicalChild, IsParent, contains_none, contains_first, contains_cases, same_position}
 use Rattle.gm_toys.specs.Subtraction.{moves_down, step_text}
 use Rattle.gm_toys.specs.laws.SubtractionLaws.{child_in, child_from, range_in, range_from, range_ascending, no_moves, some_moves, decimals_readable}
 use Rattle.gm_toys.specs.Stairs.{stairs, only_if, tier_below, position_above, tier_text}

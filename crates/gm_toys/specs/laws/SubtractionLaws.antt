@@ -1,9 +1,6 @@
 -- Subtraction games have the laws of a game, and their texts can be read back.
-use Rattle.std.proofs.Common.{◌≡◌, ℕ, zero, suc, ◌+◌, ◌-◌, ◌<◌, ◌≤◌, ◌^◌, inl, min, true, false, eqb, if◌then◌else◌, List, [], ◌∷◌, ◌++◌, length, refl, None}
-use Rattle.std.proofs.Common.{arith, sym, ap, subst, ◌∙◌}
-use Rattle.gm_toys.specs.Lower.{nat_tests, common_steps, length-range_with_len, get_or-range_with_len, Contains, range_with_len, decimal, Position, MOVES, NAME}
-use Rattle.gm_toys.specs.Lower.{IsGame, IsShown, IsPaddedText, Rules, at, children, IsAscending, IsCanonical, IsCanonicalChild, IsParent, map_in, map_from}
-use Rattle.gm_toys.specs.Lower.{plain_decimal, same_position}
+use Rattle.std.proofs.Common.{◌≡◌, ℕ, zero, suc, ◌+◌, ◌-◌, ◌<◌, ◌≤◌, ◌^◌, inl, min, true, false, eqb, if◌then◌else◌, List, [], ◌∷◌, ◌++◌, length, refl, None, arith, sym, ap, subst, ◌∙◌}
+use Rattle.gm_toys.specs.Lower.{nat_tests, common_steps, length-range_with_len, get_or-range_with_len, Contains, range_with_len, decimal, Position, MOVES, NAME, IsGame, IsShown, IsPaddedText, Rules, at, children, IsAscending, IsCanonical, IsCanonicalChild, IsParent, map_in, map_from, plain_decimal, same_position}
 use Rattle.std.proofs.lemmas.Fmt.{length-decimal-le, decimal_injective}
 use Rattle.gm_toys.specs.Subtraction.{moves_down, numbers_above, subtraction, number_text, step_text}
 

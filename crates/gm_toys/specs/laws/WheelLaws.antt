@@ -1,7 +1,6 @@
 -- Wheel has the laws of a game, and its texts can be read back.
 use Rattle.std.proofs.Common.{◌≡◌, ◌≢◌, ℕ, zero, suc, ◌<◌, ◌≤◌, inl, Bool, true, false, List, [], length, ◌&&◌, eqb, refl, None, arith, sym, ap, subst, ◌∙◌}
-use Rattle.gm_toys.specs.Lower.{and_parts, nat_tests, common_steps, nat_lt, Contains, list_all, list_any, Position, IsGame, IsShown, at, IsAscending}
-use Rattle.gm_toys.specs.Lower.{IsCanonical, IsCanonicalChild, IsParent, contains_none, all_in, any_in, same_position}
+use Rattle.gm_toys.specs.Lower.{and_parts, nat_tests, common_steps, nat_lt, Contains, list_all, list_any, Position, IsGame, IsShown, at, IsAscending, IsCanonical, IsCanonicalChild, IsParent, contains_none, all_in, any_in, same_position}
 use Rattle.std.specs.Prelude.{if◌then◌else◌}
 use Rattle.gm_toys.specs.Subtraction.{number_text}
 use Rattle.gm_toys.specs.laws.SubtractionLaws.{child_in, child_from, decimals_readable}

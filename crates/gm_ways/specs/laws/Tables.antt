@@ -2,13 +2,13 @@
 use Rattle.std.proofs.Common.{refl, arith}
 use Rattle.gm_board.specs.Cells.{number_of}
 use Rattle.gm_pieces.specs.Steps.{from_point, to_point}
-use Rattle.gm_ways.specs.Ways.{are_joined, has_numbers, legal}
+use Rattle.gm_ways.specs.Ways.{are_joined, has_numbers, way_legal}
 use Rattle.gm_ways.specs.WayTables.{IsWayGame}
 use Rattle.gm_ways.specs.ShisimaRules.{shisima}
 use Rattle.gm_ways.specs.TapatanRules.{tapatan}
 
 pub shisima_tables : IsWayGame 9 shisima
-unfolding are_joined from_point to_point legal has_numbers number_of
+unfolding are_joined from_point to_point way_legal has_numbers number_of
 shisima_tables = record {
   few = omega arith;
   name_length = refl;
@@ -24,7 +24,7 @@ shisima_tables = record {
 }
 
 pub tapatan_tables : IsWayGame 9 tapatan
-unfolding are_joined from_point to_point legal has_numbers number_of
+unfolding are_joined from_point to_point way_legal has_numbers number_of
 tapatan_tables = record {
   few = omega arith;
   name_length = refl;

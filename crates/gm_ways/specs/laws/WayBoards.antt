@@ -1,9 +1,7 @@
 -- Boards of points: numbers of pieces, lines, and what images keep of them.
 use Rattle.std.specs.Prelude.{◌≡◌}
-use Rattle.gm_pieces.specs.Common.{ℕ, Bool, true, false, cond, eqb-true, eq-eqb, List, length, None, Some, refl, sym, ap, ◌∙◌, Contains, cond-false, true≢false}
-use Rattle.gm_pieces.specs.Common.{Lose, Cell, Empty, and_left, and_right, and_both, is_mine, is_theirs, image_length, has_filled, filled_image, permute}
-use Rattle.gm_pieces.specs.Common.{image_number, HasNumbers}
-use Rattle.gm_ways.specs.Ways.{WayGame, has_numbers, legal, end_by_last_move}
+use Rattle.gm_pieces.specs.Common.{ℕ, Bool, true, false, cond, eqb-true, eq-eqb, List, length, None, Some, refl, sym, ap, ◌∙◌, Contains, cond-false, true≢false, Lose, Cell, Empty, and_left, and_right, and_both, is_mine, is_theirs, image_length, has_filled, filled_image, permute, image_number, HasNumbers}
+use Rattle.gm_ways.specs.Ways.{WayGame, has_numbers, way_legal, way_end_by_last_move}
 use Rattle.gm_ways.specs.WayTables.{IsWayGame}
 use Rattle.gm_ways.specs.laws.WayFacts.{group}
 
@@ -17,8 +15,8 @@ unless true y e = absurd (true≢false (sym e))
 unless false y e = (refl, e)
 
 -- what holds if the test is passed
-pub legal_in : (n : ℕ) (g : WayGame) (b : List Cell) → legal n g b ≡ true → IsLegal n g b
-unfolding legal has_numbers
+pub legal_in : (n : ℕ) (g : WayGame) (b : List Cell) → way_legal n g b ≡ true → IsLegal n g b
+unfolding way_legal has_numbers
 legal_in n g b l =
     let u = unless _ _ l in
     let r = and_right _ _ u.1 in
@@ -28,8 +26,8 @@ legal_in n g b l =
     }
 
 -- if that holds, the test is passed
-pub legal_from : (n : ℕ) (g : WayGame) (b : List Cell) → IsLegal n g b → legal n g b ≡ true
-unfolding legal has_numbers
+pub legal_from : (n : ℕ) (g : WayGame) (b : List Cell) → IsLegal n g b → way_legal n g b ≡ true
+unfolding way_legal has_numbers
 legal_from n g b h =
     let k = h.numbers in
     cond-false _ _ _ h.no_line ∙ and_both _ _ (eq-eqb _ _ k.cells) (and_both _ _ (eq-eqb _ _ k.own) (eq-eqb _ _ k.other))
@@ -45,7 +43,7 @@ module _ (n : ℕ) (g : WayGame) (h : IsWayGame n g) (p : List ℕ) (b : List Ce
   image_line q e = filled_image Empty q n g.symmetries g.lines (group n g h) h.lines p c b e
 
   -- an image of a legal board is legal
-  pub image_legal : legal n g b ≡ true → legal n g (permute Empty p b) ≡ true
+  pub image_legal : way_legal n g b ≡ true → way_legal n g (permute Empty p b) ≡ true
   image_legal l =
       let k = legal_in n g b l in
       let long = k.numbers.cells in
@@ -59,6 +57,6 @@ module _ (n : ℕ) (g : WayGame) (h : IsWayGame n g) (p : List ℕ) (b : List Ce
       })
 
   -- the game is over on an image if it is on the board
-  pub image_over : length b ≡ n → end_by_last_move g (permute Empty p b) ≡ end_by_last_move g b
-  unfolding end_by_last_move
+  pub image_over : length b ≡ n → way_end_by_last_move g (permute Empty p b) ≡ way_end_by_last_move g b
+  unfolding way_end_by_last_move
   image_over e = ap (λ (x : Bool). cond x (Some Lose) None) (image_line is_theirs e)

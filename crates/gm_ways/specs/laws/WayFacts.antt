@@ -1,11 +1,9 @@
 -- What the tables of a game on points say.
 use Rattle.std.specs.Prelude.{◌≡◌, ◌<◌, if◌then◌else◌}
-use Rattle.gm_pieces.specs.Common.{ℕ, Bool, true, false, eqb, ltb, eqb-true, eq-eqb, ltb-true, List, [], length, get_or, sym, ap, ◌∙◌, subst, arith}
-use Rattle.gm_pieces.specs.Common.{inl, inr, Contains, list_all, list_any, range_with_len, filter_to, cases_Bool, not, cases_lt, true≢false}
-use Rattle.gm_pieces.specs.Common.{get_or_past, is_plain, and_left, and_right, contains_range, all_at, IsGroup, group_from_table, any_at, from_point, to_point}
+use Rattle.gm_pieces.specs.Common.{ℕ, Bool, true, false, eqb, ltb, eqb-true, eq-eqb, ltb-true, List, [], length, get_or, sym, ap, ◌∙◌, subst, arith, inl, inr, Contains, list_all, list_any, range_with_len, filter_to, cases_Bool, not, cases_lt, true≢false, get_or_past, is_plain, and_left, and_right, contains_range, all_at, IsGroup, group_from_table, any_at, from_point, to_point}
 use Rattle.std.proofs.lemmas.List.{get_or_default}
 use Rattle.gm_ways.specs.Ways.{WayGame, are_joined}
-use Rattle.gm_ways.specs.WayTables.{IsWayGame, wrong, is_within, is_step, keeps_way, keeps_ways, is_name}
+use Rattle.gm_ways.specs.WayTables.{IsWayGame, wrong, is_within, is_way_step, keeps_way, keeps_ways, is_point_name}
 
 -- ---- lists that a table holds
 -- where no number is wrong, each passes
@@ -45,7 +43,7 @@ module _ (n : ℕ) (g : WayGame) (h : IsWayGame n g) where
       subst (λ (k : ℕ). k < n) (eqb-true x.0 c x.2) (ltb-true x.0 n (all_at (λ (c : ℕ). ltb c n) (get_or g.ways a []) x.0 row x.1))
 
   -- a move along a way leads from one of the points to one of them
-  pub ends : (m : ℕ) → is_step g.ways m ≡ true → (from_point m < n) × (to_point m < n)
+  pub ends : (m : ℕ) → is_way_step g.ways m ≡ true → (from_point m < n) × (to_point m < n)
   ends m e = (joined_from (from_point m) (to_point m) e, joined_to (from_point m) (to_point m) e)
 
   -- ---- symmetries
@@ -66,12 +64,12 @@ module _ (n : ℕ) (g : WayGame) (h : IsWayGame n g) where
   -- ---- names
   -- the name of a point is plain
   pub name_plain : (k : ℕ) → k < n → is_plain (g.point_char k) ≡ true
-  name_plain k l = and_left _ _ (passes n (is_name n g.point_char) h.names k l)
+  name_plain k l = and_left _ _ (passes n (is_point_name n g.point_char) h.names k l)
 
   -- different points have different names
   pub name_once : (i j : ℕ) → i < n → j < n → g.point_char i ≡ g.point_char j → i ≡ j
   name_once i j l m e =
       let pair : ℕ → ℕ → Bool = λ i j. if eqb (g.point_char i) (g.point_char j) then eqb i j else true in
-      let u = and_right (is_plain (g.point_char i)) _ (passes n (is_name n g.point_char) h.names i l) in
+      let u = and_right (is_plain (g.point_char i)) _ (passes n (is_point_name n g.point_char) h.names i l) in
       let v = all_at (pair i) (range_with_len 0 n) j u (contains_range n j m) in
       eqb-true i j (chosen _ _ v (eq-eqb _ _ e))

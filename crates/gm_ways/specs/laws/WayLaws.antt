@@ -1,8 +1,7 @@
 -- A game whose tables are right has the laws of a game.
 use Rattle.std.specs.Prelude.{◌<◌, if◌then◌else◌}
-use Rattle.gm_pieces.specs.Common.{ℕ, eqb, refl, sym, subst, arith, inl, IsNumbered, Empty, arrangements, arrangements_fit, board_game, IsMoveGame}
-use Rattle.gm_pieces.specs.Common.{IsMoveSymmetric, steps, permuted_group, index_below, board_back, index_back}
-use Rattle.gm_ways.specs.Ways.{WayGame, legal, can_move, can_have_led_here, way_game}
+use Rattle.gm_pieces.specs.Common.{ℕ, eqb, refl, sym, subst, arith, inl, IsNumbered, Empty, arrangements, arrangements_fit, board_game, IsMoveGame, IsMoveSymmetric, steps, permuted_group, index_below, board_back, index_back}
+use Rattle.gm_ways.specs.Ways.{WayGame, way_legal, way_can_move, way_can_have_led_here, way_game}
 use Rattle.gm_ways.specs.WayTables.{IsWayGame}
 use Rattle.gm_ways.specs.laws.WayFacts.{group}
 use Rattle.gm_ways.specs.laws.WayBoards.{legal_in, image_legal, image_over}
@@ -23,8 +22,8 @@ module _ (n : ℕ) (g : WayGame) (h : IsWayGame n g) where
     child_tiers_ascending = λ t. tt;
     undone = λ b m l k. undone n g h b m (legal_in n g b l).numbers.cells k.can;
     redone = λ t d m l w k e i. redone g d m w;
-    moves_few = λ b l. few n g h (can_move g b) (move_joined g b);
-    befores_few = λ t d l. few n g h (can_have_led_here g d) (led_joined g d);
+    moves_few = λ b l. few n g h (way_can_move g b) (move_joined g b);
+    befores_few = λ t d l. few n g h (way_can_have_led_here g d) (led_joined g d);
     child_tiers_few = λ t. omega arith;
   }
 
@@ -41,7 +40,7 @@ module _ (n : ℕ) (g : WayGame) (h : IsWayGame n g) where
   -- the symmetries keep the rules
   pub way_symmetric : IsMoveSymmetric (way_game n g)
   way_symmetric = record {
-    group = permuted_group Empty n g.symmetries (legal n g) (group n g h) (λ b l. (legal_in n g b l).numbers.cells);
+    group = permuted_group Empty n g.symmetries (way_legal n g) (group n g h) (λ b l. (legal_in n g b l).numbers.cells);
     keeps_legal = λ p b c l. image_legal n g h p b c l;
     keeps_over = λ p b c l. image_over n g h p b c (legal_in n g b l).numbers.cells;
     keeps_stuck = λ p b c l. refl;

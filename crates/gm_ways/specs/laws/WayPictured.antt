@@ -1,12 +1,11 @@
 -- The pictures of games on points satisfy the laws of pictures.
 use Rattle.std.proofs.Common.{◌≡◌, ℕ, true, List, [], ◌∷◌, refl, sym, subst, ◌∙◌}
 use Rattle.std.specs.List.{Contains}
-use Rattle.gm_ways.specs.Lower.{Position, legal_board, board_numbered, from_point, to_point, move_in, text_length, Style, Discs, PictureSpec, IsPointWord}
-use Rattle.gm_ways.specs.Lower.{IsMoveWord, IsPictured, two_points, is_set, pictured_by}
+use Rattle.gm_ways.specs.Lower.{Position, legal_board, board_numbered, from_point, to_point, move_in, text_length, Style, Discs, PictureSpec, IsPointWord, IsMoveWord, IsPictured, two_points, is_set, pictured_by}
 use Rattle.gm_pieces.specs.MoveGames.{board_game}
 use Rattle.gm_ways.specs.Ways.{WayGame, way_game, way_rules}
 use Rattle.gm_ways.specs.WayTables.{IsWayGame}
-use Rattle.gm_ways.specs.WayTexts.{step_text as way_step, way_text, way_move_text}
+use Rattle.gm_ways.specs.WayTexts.{way_step_text as way_step, way_text, way_move_text}
 use Rattle.gm_ways.specs.ShisimaRules.{shisima}
 use Rattle.gm_ways.specs.TapatanRules.{tapatan}
 use Rattle.gm_ways.specs.WayPictures.{way_points, shisima_picture, tapatan_picture}

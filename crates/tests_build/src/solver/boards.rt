@@ -2,7 +2,7 @@
 ghost use Rattle.std.specs.Prelude.{◌≡◌, ◌<◌};
 ghost use Rattle.gm_locks.specs.Spots.{spot_of};
 ghost use Rattle.gm_solver.specs.Boards.{AreFourTiles};
-ghost use Rattle.gm_shard.specs.Masks.{IsPlaceOf};
+ghost use Rattle.gm_shard.specs.inner.Masks.{IsPlaceOf};
 
 use crate::expect::{Runtime, expect_eq, must};
 use crate::solver::shards::first_note;

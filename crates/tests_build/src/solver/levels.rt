@@ -3,7 +3,7 @@ ghost use Rattle.std.specs.Prelude.{◌≡◌, ◌+◌, ◌<◌, length};
 ghost use Rattle.gm_game.specs.declared.position.Phase.TheVariants.{WinLose};
 ghost use Rattle.gm_table.specs.Tables.{AreHeld};
 ghost use Rattle.gm_frontier.specs.Levels.{place_at, AreTiles};
-ghost use Rattle.gm_frontier.specs.Tallies.{IsTile};
+ghost use Rattle.gm_frontier.specs.inner.Tallies.{IsTallyTile};
 ghost use Rattle.gm_counters.specs.Steps.{place_of};
 
 use crate::expect::{Runtime, expect, expect_eq, must};
@@ -177,7 +177,7 @@ fn add_level<G: Game>(
     tallied: &mut Expected<G>,
 )
     requires width { 0 < width }
-    requires tile { IsTile (G.rules.tier_size 0) width tile.0 tile.1 }
+    requires tile { IsTallyTile (G.rules.tier_size 0) width tile.0 tile.1 }
 {
     let (lo, hi) = tallied.range();
     expect(rt, walked.takes(level));
@@ -194,7 +194,7 @@ fn add_level<G: Game>(
 // Checks the number of pairs of all levels of Countdown into a tile of this width, by a walk and by tallies.
 fn check_count(rt: &impl Runtime, lo: u64, hi: u64, width: u64, number: u64)
     requires width { 0 < width }
-    requires tile { IsTile 11 width lo hi }
+    requires tile { IsTallyTile 11 width lo hi }
 {
     let tile = (lo, hi);
     let tables: Tables<Ten> = Tables::new(rt.alloc());

@@ -1,9 +1,10 @@
 //! The board on which the program's workers deliver: its locks are separate, and what lies behind them can be read.
 ghost use Rattle.std.specs.Prelude.{◌≡◌, ℕ, ◌<◌, ◌≤◌, length, IfOk};
-ghost use Rattle.gm_locks.specs.Lower.{div_ceil, pairs_in};
+ghost use Rattle.std.specs.Int.{div_ceil};
+ghost use Rattle.gm_counters.specs.State.{pairs_in};
 ghost use Rattle.gm_locks.specs.Spots.{spot_of};
 ghost use Rattle.gm_locks.specs.Pieces.{piece_pairs, IsReadyFor};
-ghost use Rattle.gm_backward.specs.Tiling.{AreShardsAt, HaveNoneHere};
+ghost use Rattle.gm_backward.specs.inner.Tiling.{AreShardsAt, HaveNoneHere};
 
 use crate::expect::{Runtime, expect, expect_eq, must};
 use crate::solver::boards::{Marks, comes};

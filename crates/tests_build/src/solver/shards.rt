@@ -2,7 +2,7 @@
 ghost use Rattle.std.specs.Prelude.{◌≡◌, ◌≤◌, ◌-◌, ◌<◌, IfOk};
 ghost use Rattle.gm_game.specs.declared.position.Phase.TheVariants.{Ties};
 ghost use Rattle.gm_table.specs.Tables.{AreHeld};
-ghost use Rattle.gm_counters.specs.Begin.{first_state};
+ghost use Rattle.gm_counters.specs.inner.Begin.{first_state};
 ghost use Rattle.gm_testing.specs.ByHand.{IsOfTier};
 ghost use Rattle.gm_counters.specs.State.{pairs_in};
 ghost use Rattle.gm_locks.specs.Spots.{spot_of};

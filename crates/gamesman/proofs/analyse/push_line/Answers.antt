@@ -1,4 +1,7 @@
-use Rattle.gamesman.proofs.Lower.{◌≡◌, ℕ, List, Some, Result, Ok, Err, sym, subst, if◌then◌else◌, on_ok_weaker, IsAnalysisLine, OnOk, is_ok, table_of}
+use Rattle.gamesman.proofs.Lower.{◌≡◌, ℕ, List, Some, Result, Ok, Err, sym, subst, on_ok_weaker}
+use Rattle.std.specs.Prelude.{if◌then◌else◌, OnOk, is_ok}
+use Rattle.gamesman.specs.Analysing.{IsAnalysisLine}
+use Rattle.gm_table.specs.Tables.{table_of}
 use Rattle.gamesman.proofs.analyse.push_line.Goals as goal
 
 taken : {T E : Type 0} → (r : Result T E) (new more old : List ℕ) → new ≡ (if is_ok r then more else old) → OnOk r (new ≡ more)

@@ -1,5 +1,5 @@
 use Rattle.gamesman.proofs.Lower.{ℕ, suc, List, take, drop, get_or, refl, sym, subst, ◌∙◌, take_more, take_all, Contains-get_or, err_from_is_err_and}
-use Rattle.gamesman.specs.Lower.{store_view}
+use Rattle.gm_tierdb.specs.StoreTexts.{store_view}
 use Rattle.gamesman.proofs.Checks.{IsToldTo, finding_before, cut_before, told_none, told_next, told_all, cut_at, split_at}
 use Rattle.gamesman.proofs.check.check_tiers.Goals as goal
 

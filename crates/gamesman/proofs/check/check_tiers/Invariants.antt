@@ -1,5 +1,6 @@
-use Rattle.gamesman.proofs.Lower.{◌≡◌, IsTrue, take}
-use Rattle.gamesman.specs.Lower.{AreSame, store_view}
+use Rattle.gamesman.proofs.Lower.{◌≡◌, take}
+use Rattle.std.proofs.Common.{IsTrue}
+use Rattle.gm_tierdb.specs.StoreTexts.{AreSame, store_view}
 use Rattle.gamesman.proofs.Checks.{IsToldTo}
 use Rattle.gamesman.proofs.check.check_tiers.Given as goal
 

@@ -1,5 +1,6 @@
 use Rattle.gamesman.proofs.Lower.{rules}
-use Rattle.gamesman.specs.Lower.{AreHeld, store_view}
+use Rattle.gm_table.specs.Tables.{AreHeld}
+use Rattle.gm_tierdb.specs.StoreTexts.{store_view}
 use Rattle.gamesman.proofs.Checks.{finding_in, table_in}
 use Rattle.gamesman.proofs.check.find.Goals as goal
 

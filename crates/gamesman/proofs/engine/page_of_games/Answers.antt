@@ -1,5 +1,6 @@
-use Rattle.gamesman.specs.Lower.{AreDigits}
-use Rattle.gamesman.proofs.Lower.{subst, sym, IfOk-weaker, OutOfMemory, IsGamesPage, IsEngineFault}
+use Rattle.gm_page.specs.Engines.{AreDigits}
+use Rattle.gamesman.proofs.Lower.{subst, sym, IfOk-weaker, OutOfMemory, IsEngineFault}
+use Rattle.gamesman.specs.Engines.{IsGamesPage}
 use Rattle.gamesman.proofs.Answering.{text_told}
 use Rattle.gamesman.proofs.engine.page_of_games.Goals as goal
 

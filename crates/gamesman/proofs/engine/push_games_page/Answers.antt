@@ -1,4 +1,6 @@
-use Rattle.gamesman.proofs.Lower.{flat_map, on_ok_weaker, game_line, page_front, page_back, engine_games}
+use Rattle.gamesman.proofs.Lower.{flat_map, on_ok_weaker, game_line}
+use Rattle.gm_page.specs.Pages.{page_front, page_back}
+use Rattle.gamesman.specs.Engines.{engine_games}
 use Rattle.gamesman.proofs.Lined.{page_of_parts}
 use Rattle.gamesman.proofs.engine.push_games_page.Goals as goal
 

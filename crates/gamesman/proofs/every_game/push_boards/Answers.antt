@@ -1,5 +1,6 @@
-use Rattle.gamesman.proofs.Lower.{[], ◌∷◌, ◌≡◌, ◌++◌, true, false, on_ok_weaker, GameSpec, game_line, ring_is, chess_spec, dodgem_spec, hare_spec}
-use Rattle.gamesman.proofs.Lower.{mutorere_spec, pong_spec, shisima_spec, tapatan_spec}
+use Rattle.gamesman.proofs.Lower.{[], ◌∷◌, ◌≡◌, ◌++◌, true, false, on_ok_weaker, GameSpec, game_line}
+use Rattle.gm_mutorere.specs.laws.RingPictured.{ring_is}
+use Rattle.gamesman.specs.Games.{chess_spec, dodgem_spec, hare_spec, mutorere_spec, pong_spec, shisima_spec, tapatan_spec}
 use Rattle.gamesman.proofs.Lined.{line_first, line_more}
 use Rattle.gamesman.proofs.every_game.push_boards.Goals as goal
 

@@ -1,4 +1,5 @@
-use Rattle.gamesman.proofs.Lower.{on_ok_weaker, ◌++◌, line_games, board_games, tactix_games, number_games}
+use Rattle.gamesman.proofs.Lower.{on_ok_weaker, ◌++◌}
+use Rattle.gamesman.specs.Engines.{line_games, board_games, tactix_games, number_games}
 use Rattle.gamesman.proofs.Lined.{lines_more}
 use Rattle.gamesman.proofs.every_game.push_games.Goals as goal
 

@@ -1,4 +1,5 @@
-use Rattle.gamesman.proofs.Lower.{[], ◌∷◌, on_ok_weaker, dao_spec, nine_spec}
+use Rattle.gamesman.proofs.Lower.{[], ◌∷◌, on_ok_weaker}
+use Rattle.gamesman.specs.Games.{dao_spec, nine_spec}
 use Rattle.gamesman.proofs.Lined.{line_first, line_more}
 use Rattle.gamesman.proofs.every_game.push_lines.Goals as goal
 

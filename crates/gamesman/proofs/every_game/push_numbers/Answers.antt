@@ -1,4 +1,5 @@
-use Rattle.gamesman.proofs.Lower.{[], ◌∷◌, on_ok_weaker, countdown_spec, takeaway_spec, wheel_spec}
+use Rattle.gamesman.proofs.Lower.{[], ◌∷◌, on_ok_weaker}
+use Rattle.gamesman.specs.Games.{countdown_spec, takeaway_spec, wheel_spec}
 use Rattle.gamesman.proofs.Lined.{line_first, line_more}
 use Rattle.gamesman.proofs.every_game.push_numbers.Goals as goal
 

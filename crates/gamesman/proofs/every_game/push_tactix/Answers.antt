@@ -1,4 +1,5 @@
-use Rattle.gamesman.proofs.Lower.{[], ◌∷◌, true, false, on_ok_weaker, tactix_spec}
+use Rattle.gamesman.proofs.Lower.{[], ◌∷◌, true, false, on_ok_weaker}
+use Rattle.gamesman.specs.Games.{tactix_spec}
 use Rattle.gamesman.proofs.Lined.{line_first, line_more}
 use Rattle.gamesman.proofs.every_game.push_tactix.Goals as goal
 

@@ -1,4 +1,5 @@
-use Rattle.gamesman.proofs.Lower.{List, [], ℕ, Option, refl, subst, game_spec, IsTextFor, IsOfNone, AreLinesAnswered}
+use Rattle.gamesman.proofs.Lower.{List, [], ℕ, Option, refl, subst, game_spec, IsTextFor, IsOfNone}
+use Rattle.gamesman.specs.Filters.{AreLinesAnswered}
 use Rattle.gamesman.proofs.Filtering.{begins, stopped, fresh_reader}
 use Rattle.gamesman.proofs.filter.answer_input.Goals as goal
 

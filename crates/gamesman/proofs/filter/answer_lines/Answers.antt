@@ -1,5 +1,9 @@
-use Rattle.gamesman.proofs.Lower.{◌≡◌, ℕ, ◌≤◌, ◌<◌, true, false, List, ◌∷◌, ◌++◌, [], length, Option, refl, sym, ap, subst, ◌∙◌, arith, rules, ◌==◌}
-use Rattle.gamesman.proofs.Lower.{bytes_remaining, Appends, err_from_is_err_and, without_return, kept_bytes, game_spec, IsTextFor, IsOfNone, IsLineFault}
+use Rattle.gamesman.proofs.Lower.{◌≡◌, ℕ, ◌≤◌, ◌<◌, true, false, List, ◌∷◌, ◌++◌, [], length, Option, refl, sym, ap, subst, ◌∙◌, arith, rules, Appends, err_from_is_err_and, game_spec, IsTextFor, IsOfNone}
+use Rattle.std.specs.Prelude.{◌==◌}
+use Rattle.std.specs.Io.Iter.{bytes_remaining}
+use Rattle.gm_play.specs.Dialogue.{without_return}
+use Rattle.gm_json.specs.Asking.{kept_bytes}
+use Rattle.gamesman.specs.Filters.{IsLineFault}
 use Rattle.gamesman.proofs.Filtering.{Amid, begins, one_byte, byte_kept, byte_past, line_done, line_fails, all_done, last_done, last_fails}
 use Rattle.gamesman.proofs.filter.answer_lines.Goals as goal
 

@@ -1,4 +1,5 @@
-use Rattle.gamesman.proofs.Lower.{bytes_remaining, game_spec, IsTextFor}
+use Rattle.std.specs.Io.Iter.{bytes_remaining}
+use Rattle.gamesman.proofs.Lower.{game_spec, IsTextFor}
 use Rattle.gamesman.proofs.Filtering.{Amid}
 use Rattle.gamesman.proofs.filter.answer_lines.Given as goal
 

@@ -1,4 +1,5 @@
-use Rattle.gamesman.proofs.Lower.{refl, game_spec, board_row, flat_more, flat_all}
+use Rattle.gamesman.proofs.Lower.{refl, game_spec, board_row}
+use Rattle.gm_play.proofs.Rows.{flat_more, flat_all}
 use Rattle.gamesman.proofs.found.board_rows.Goals as goal
 
 pub push_below-requires : goal.push_below-requires

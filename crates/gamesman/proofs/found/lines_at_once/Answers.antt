@@ -1,4 +1,5 @@
-use Rattle.gamesman.proofs.Lower.{Bool, List, sym, subst, IfOk-weaker, All, Found, IsFound, AreChosen, game_spec, AreLinesOf}
+use Rattle.gamesman.proofs.Lower.{Bool, List, sym, subst, IfOk-weaker, Found, IsFound, AreChosen, game_spec, AreLinesOf}
+use Rattle.std.specs.List.{All}
 use Rattle.gamesman.proofs.found.lines_at_once.Goals as goal
 
 pub lines_of-requires : goal.lines_of-requires

@@ -1,4 +1,5 @@
-use Rattle.gamesman.proofs.Lower.{ℕ, ◌∷◌, [], Option, List, inr, refl, sym, subst, Contains, err_from_is_err_and, IsOrderFrom, OutOfMemory, game_spec, first_of, AreTiersFor}
+use Rattle.gamesman.proofs.Lower.{ℕ, ◌∷◌, [], Option, List, inr, refl, sym, subst, Contains, err_from_is_err_and, IsOrderFrom, OutOfMemory, game_spec, first_of}
+use Rattle.gamesman.specs.Finds.{AreTiersFor}
 use Rattle.gamesman.proofs.Reached.{order_held, reached_held}
 use Rattle.gamesman.proofs.Finds.{held_one}
 use Rattle.gamesman.proofs.Telling.{find_unsearched}

@@ -1,5 +1,8 @@
-use Rattle.gamesman.proofs.Lower.{Bool, None, Some, inr, sym, ap, ap₂, subst, IfOk-weaker, OutOfMemory, Report, Choice, game_spec, AreChosen, IsTextOf, IsUnsearched, IsFoundOf}
-use Rattle.gamesman.specs.Finds.{limit_by_tier}
+use Rattle.gamesman.proofs.Lower.{Bool, None, Some, inr, sym, ap, subst, IfOk-weaker, OutOfMemory, game_spec, AreChosen, IsUnsearched}
+use Rattle.std.proofs.Common.{ap₂}
+use Rattle.gm_command.specs.declared.requests.Report.{Report}
+use Rattle.gm_find.specs.declared.sought.Choice.{Choice}
+use Rattle.gamesman.specs.Finds.{IsTextOf, IsFoundOf, limit_by_tier}
 use Rattle.gamesman.proofs.Answering.{text_told}
 use Rattle.gamesman.proofs.Finds.{found_with}
 use Rattle.gamesman.proofs.found.write_in.Goals as goal

@@ -1,4 +1,7 @@
-use Rattle.gamesman.proofs.Lower.{Bool, List, ◌∷◌, [], inl, inr, sym, subst, ◌∙◌, All, err_from_is_err_and, Found, AreFound, IsFound, game_spec, AreLinesOf, IsFoundAt}
+use Rattle.gamesman.proofs.Lower.{Bool, List, ◌∷◌, [], inl, inr, sym, subst, ◌∙◌, err_from_is_err_and, Found, IsFound, game_spec, AreLinesOf}
+use Rattle.std.specs.List.{All}
+use Rattle.gm_find.specs.Founds.{AreFound}
+use Rattle.gamesman.specs.Finds.{IsFoundAt}
 use Rattle.gamesman.proofs.Cut.{kept, cut_off}
 use Rattle.gamesman.proofs.Finds.{held_one}
 use Rattle.gamesman.proofs.found.write_tier.Goals as goal

@@ -1,5 +1,9 @@
-use Rattle.gamesman.proofs.Lower.{None, ℕ, List, inr, subst, ap, ◌∙◌, IfOk-weaker, OutOfMemory, Position, IsOrderFrom, IsUnbuilt, IsUnsearched, IsUnplaced}
-use Rattle.gamesman.proofs.Lower.{game_spec, IsPage, IsReport, IsTextFor, IsAtText, IsPositionText, IsCountsOf, IsLongestOf, IsAnalysisText, text_asked, max}
+use Rattle.gamesman.proofs.Lower.{None, ℕ, List, inr, subst, ap, ◌∙◌, IfOk-weaker, OutOfMemory, Position, IsOrderFrom, IsUnbuilt, IsUnsearched, game_spec, IsTextFor, text_asked, max}
+use Rattle.gamesman.specs.Searches.{IsUnplaced, IsAtText, IsCountsOf, IsLongestOf}
+use Rattle.gm_page.specs.Pages.{IsPage}
+use Rattle.gamesman.specs.Solving.{IsReport}
+use Rattle.gm_play.specs.PlaceTexts.{IsPositionText}
+use Rattle.gamesman.specs.Analysing.{IsAnalysisText}
 use Rattle.gamesman.specs.Answers.{IsAnsweredFromTables}
 use Rattle.gamesman.specs.Plays.{IsSitting}
 use Rattle.gamesman.proofs.Answering.{text_told, answered_told, asked_read, paged_told, page_of, IsPageOf}

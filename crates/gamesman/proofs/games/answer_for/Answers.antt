@@ -1,4 +1,6 @@
-use Rattle.gamesman.proofs.Lower.{GameSpec, ring_is, IsAnswered}
+use Rattle.gamesman.proofs.Lower.{GameSpec}
+use Rattle.gm_mutorere.specs.laws.RingPictured.{ring_is}
+use Rattle.gamesman.specs.Answers.{IsAnswered}
 use Rattle.gamesman.proofs.games.answer_for.Goals as goal
 
 pub returns-in-MuTorere-clause-answered : goal.returns-in-MuTorere-clause-answered

@@ -1,4 +1,6 @@
-use Rattle.gamesman.proofs.Lower.{ℕ, List, refl, subst, ◌∙◌, err_from_is_err_and, IsPlaceText, IsLocated}
+use Rattle.gamesman.proofs.Lower.{ℕ, List, refl, subst, ◌∙◌, err_from_is_err_and}
+use Rattle.gm_play.specs.PlaceTexts.{IsPlaceText}
+use Rattle.gm_play.specs.Places.{IsLocated}
 use Rattle.gamesman.proofs.Cut.{kept, unlocated_answer}
 use Rattle.gamesman.proofs.located.locate.Goals as goal
 

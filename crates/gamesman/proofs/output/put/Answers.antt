@@ -1,4 +1,5 @@
-use Rattle.gamesman.proofs.Lower.{rules, part_stuck, part_kept}
+use Rattle.gamesman.proofs.Lower.{rules}
+use Rattle.gm_play.proofs.Parts.{part_stuck, part_kept}
 use Rattle.gamesman.proofs.Fronts.{more_written, same_written, part_of}
 use Rattle.gamesman.proofs.output.put.Goals.{in-Ok, in-Err}
 use Rattle.gamesman.proofs.output.put.Goals as goal

@@ -1,4 +1,6 @@
-use Rattle.gamesman.proofs.Lower.{◌++◌, [], ◌∷◌, subst, Appends, Appends-trans, err_from_is_err_and, AppendsPart, part_after, part_longer, whose_text}
+use Rattle.gamesman.proofs.Lower.{◌++◌, [], ◌∷◌, subst, Appends, Appends-trans, err_from_is_err_and, AppendsPart, part_after}
+use Rattle.gm_play.proofs.Parts.{part_longer}
+use Rattle.gamesman.specs.Plays.{whose_text}
 use Rattle.gamesman.proofs.Fronts.{err_after}
 use Rattle.gamesman.proofs.play.write_side.Goals as goal
 

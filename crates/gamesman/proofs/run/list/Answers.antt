@@ -1,4 +1,5 @@
-use Rattle.gamesman.proofs.Lower.{Option, List, ℕ, false, subst, err_from_is_err_and, Appends, AppendsPart, listed, listed_later, IsPut}
+use Rattle.gamesman.proofs.Lower.{Option, List, ℕ, false, subst, err_from_is_err_and, Appends, AppendsPart, IsPut}
+use Rattle.gamesman.specs.Listing.{listed_names, listed_later}
 use Rattle.gamesman.proofs.Fronts.{put_after, part_listed}
 use Rattle.gamesman.proofs.run.list.Goals as goal
 
@@ -19,4 +20,4 @@ returns-then-all g c =
     let end = g.O.Write.contents c.put_all.new.output in
     let first = subst (Appends start mid) c.as_bytes.ensures.value c.in_ok-put.ensures.ok in
     let later = subst (λ (text : List ℕ). IsPut text mid end c.put_all.result) c.as_bytes-then-all.ensures.value c.put_all.ensures in
-    rw c.if-all.true (put_after start mid end (listed false) listed_later c.put_all.result first later)
+    rw c.if-all.true (put_after start mid end (listed_names false) listed_later c.put_all.result first later)

@@ -1,4 +1,5 @@
-use Rattle.gamesman.proofs.Lower.{inl, inr, refl, sym, subst, err_from_is_err_and, IsTierOrder}
+use Rattle.gamesman.proofs.Lower.{inl, inr, refl, sym, subst, err_from_is_err_and}
+use Rattle.gm_tiers.specs.Orders.{IsTierOrder}
 use Rattle.gamesman.proofs.Reached.{order_closed}
 use Rattle.gamesman.proofs.search.serve.Goals as goal
 

@@ -1,4 +1,5 @@
-use Rattle.gamesman.proofs.Lower.{◌≡◌, failed_in}
+use Rattle.gamesman.proofs.Lower.{◌≡◌}
+use Rattle.gamesman.specs.Shelves.{failed_in}
 use Rattle.gamesman.proofs.tables.first_anothers.Given as goal
 
 abbrev pub invariant-loop-tier : goal.invariant-loop-tier

@@ -1,4 +1,5 @@
-use Rattle.gm_analyse.proofs.Lower.{arith, has_record}
+use Rattle.gm_analyse.proofs.Lower.{arith}
+use Rattle.gm_analyse.specs.Numbers.{has_record}
 use Rattle.gm_analyse.proofs.Counting.{count_le}
 use Rattle.gm_analyse.proofs.analysis.canonical_in.Goals as goal
 

@@ -1,4 +1,5 @@
-use Rattle.gm_analyse.proofs.Lower.{arith, is_legal_at}
+use Rattle.gm_analyse.proofs.Lower.{arith}
+use Rattle.gm_analyse.specs.Numbers.{is_legal_at}
 use Rattle.gm_analyse.proofs.Counting.{count_le}
 use Rattle.gm_analyse.proofs.analysis.legal_in.Goals as goal
 

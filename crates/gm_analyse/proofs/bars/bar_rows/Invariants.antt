@@ -1,4 +1,5 @@
-use Rattle.gm_analyse.proofs.Lower.{◌≡◌, take, flat_map, bar_row}
+use Rattle.gm_analyse.proofs.Lower.{◌≡◌, take, flat_map}
+use Rattle.gm_analyse.specs.Bars.{bar_row}
 use Rattle.gm_analyse.proofs.bars.bar_rows.Given as goal
 
 abbrev pub invariant-loop-x : goal.invariant-loop-x

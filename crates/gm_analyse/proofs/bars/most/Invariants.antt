@@ -1,4 +1,5 @@
-use Rattle.gm_analyse.proofs.Lower.{◌≡◌, max, take, TierCount, fold}
+use Rattle.gm_analyse.proofs.Lower.{◌≡◌, take, TierCount}
+use Rattle.std.proofs.Common.{max, fold}
 use Rattle.gm_analyse.proofs.bars.most.Given as goal
 
 abbrev pub invariant-loop-x : goal.invariant-loop-x

@@ -1,4 +1,5 @@
-use Rattle.gm_analyse.proofs.Lower.{◌≡◌, ◌++◌, map, take, with_tier}
+use Rattle.gm_analyse.proofs.Lower.{◌≡◌, ◌++◌, map, take}
+use Rattle.gm_analyse.specs.ByTier.{with_tier}
 use Rattle.gm_analyse.proofs.by_tier.add_counts.Given as goal
 
 abbrev pub invariant-loop-count : goal.invariant-loop-count

@@ -1,4 +1,6 @@
-use Rattle.gm_analyse.proofs.Lower.{[], inl, inr, subst, contains_none, contains_cases, AreAllHeld}
+use Rattle.gm_analyse.proofs.Lower.{[], inl, inr, subst, contains_none}
+use Rattle.gm_game.proofs.Lists.{contains_cases}
+use Rattle.gm_play.specs.Reached.{AreAllHeld}
 use Rattle.gm_analyse.proofs.by_tier.add_tier.Goals as goal
 
 pub invariant_of-one : goal.invariant_of-one

@@ -1,5 +1,5 @@
-use Rattle.gm_analyse.proofs.Lower.{ℕ, List, [], ◌++◌, map, get_or, refl, sym, ap, subst, ◌∙◌, append-nil, append_assoc, drop_all, Contains-get_or, Some}
-use Rattle.gm_analyse.proofs.Lower.{is_some, AreTierRows, TierCount, with_tier, drop_more}
+use Rattle.gm_analyse.proofs.Lower.{ℕ, List, [], ◌++◌, map, get_or, refl, sym, ap, subst, ◌∙◌, append-nil, append_assoc, drop_all, Contains-get_or, Some, is_some, TierCount, drop_more}
+use Rattle.gm_analyse.specs.ByTier.{AreTierRows, with_tier}
 use Rattle.gm_analyse.proofs.by_tier.rows_by_tier.Goals as goal
 
 pub add_tier-requires : goal.add_tier-requires

@@ -1,4 +1,5 @@
-use Rattle.gm_analyse.proofs.Lower.{List, ◌++◌, drop, is_some, AreTierRows, TierCount}
+use Rattle.gm_analyse.proofs.Lower.{List, ◌++◌, drop, is_some, TierCount}
+use Rattle.gm_analyse.specs.ByTier.{AreTierRows}
 use Rattle.gm_analyse.proofs.by_tier.rows_by_tier.Given as goal
 
 abbrev pub invariant-loop-tier : goal.invariant-loop-tier

@@ -1,5 +1,9 @@
-use Rattle.gm_analyse.proofs.Lower.{◌≡◌, ◌≤◌, ◌+◌, ℕ, None, Vec, vec_len, length, get_or, sym, ap, ◌∙◌, arith, Global, REMOTENESS, at, IsTrueValue, record_at}
-use Rattle.gm_analyse.proofs.Lower.{remoteness_in, number_in}
+use Rattle.gm_analyse.proofs.Lower.{◌≡◌, ◌≤◌, ◌+◌, ℕ, None, vec_len, length, get_or, sym, ap, ◌∙◌, arith, REMOTENESS, at, number_in}
+use Rattle.std.proofs.Common.{Vec}
+use Rattle.std.specs.declared.alloc.Global.{Global}
+use Rattle.gm_game.specs.Values.{IsTrueValue}
+use Rattle.gm_table.specs.Tables.{record_at}
+use Rattle.gm_analyse.specs.Numbers.{remoteness_in}
 use Rattle.gm_analyse.proofs.Counting.{within_limit, numbers_with, numbers_without}
 use Rattle.gm_analyse.proofs.counts.numbers_of.Goals.{in-Some+in_ok-count, in_default}
 use Rattle.gm_analyse.proofs.counts.numbers_of.Goals as goal

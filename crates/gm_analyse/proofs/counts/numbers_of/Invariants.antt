@@ -1,4 +1,5 @@
-use Rattle.gm_analyse.proofs.Lower.{◌≡◌, ◌+◌, ◌≤◌, ℕ, slice_index_or, vec_len, REMOTENESS, number_in}
+use Rattle.gm_analyse.proofs.Lower.{◌≡◌, ◌+◌, ◌≤◌, ℕ, vec_len, REMOTENESS, number_in}
+use Rattle.std.proofs.Common.{slice_index_or}
 use Rattle.gm_analyse.proofs.counts.numbers_of.Given as goal
 
 abbrev pub invariant-loop-index : goal.invariant-loop-index

@@ -1,5 +1,6 @@
-use Rattle.gm_analyse.proofs.Lower.{◌≡◌, ◌+◌, ℕ, List, [], ◌∷◌, ◌++◌, Vec, get_or, sym, ap, ◌∙◌, arith, append-nil, Global, Count, drop, drop_all, counted}
-use Rattle.gm_analyse.proofs.Lower.{drop_more}
+use Rattle.gm_analyse.proofs.Lower.{◌≡◌, ◌+◌, ℕ, List, [], ◌∷◌, ◌++◌, get_or, sym, ap, ◌∙◌, arith, append-nil, Count, drop, drop_all, counted, drop_more}
+use Rattle.std.proofs.Common.{Vec}
+use Rattle.std.specs.declared.alloc.Global.{Global}
 use Rattle.gm_analyse.proofs.CountLists.{one_counted}
 use Rattle.gm_analyse.proofs.counts.push_counts.Goals.{then-number-gt0+in_ok-push, else-number-gt0}
 use Rattle.gm_analyse.proofs.counts.push_counts.Goals as goal

@@ -1,5 +1,7 @@
-use Rattle.gm_analyse.proofs.Lower.{◌+◌, List, [], ◌∷◌, ◌++◌, map, drop, drop_all, get_or, sym, ap, ◌∙◌, append-nil, append_assoc, Data, items_of, Count}
-use Rattle.gm_analyse.proofs.Lower.{count_tree, array, view, view-Array, drop_more}
+use Rattle.gm_analyse.proofs.Lower.{◌+◌, List, [], ◌∷◌, ◌++◌, map, drop, drop_all, get_or, sym, ap, ◌∙◌, append-nil, append_assoc, Count, count_tree, drop_more}
+use Rattle.serde_json.specs.Data.{Data, array}
+use Rattle.serde_json.specs.View.{items_of, view}
+use Rattle.serde_json.proofs.Views.{view-Array}
 use Rattle.gm_analyse.proofs.json.counts_value.Goals as goal
 
 pub loop-count-preserved : goal.loop-count-preserved

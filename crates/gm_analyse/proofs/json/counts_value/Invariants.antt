@@ -1,4 +1,5 @@
-use Rattle.gm_analyse.proofs.Lower.{◌≡◌, ◌++◌, drop, map, view, count_tree}
+use Rattle.gm_analyse.proofs.Lower.{◌≡◌, ◌++◌, drop, map, count_tree}
+use Rattle.serde_json.specs.View.{view}
 use Rattle.gm_analyse.proofs.json.counts_value.Given as goal
 
 abbrev pub invariant-loop-count : goal.invariant-loop-count

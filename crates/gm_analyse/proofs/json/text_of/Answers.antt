@@ -1,4 +1,8 @@
-use Rattle.gm_analyse.proofs.Lower.{◌≡◌, ◌==◌, ℕ, Option, arith, subst, sym, ap, ◌∙◌, take, position, unwrap_or, IsUtf8, name_text, MatchResult-at_ok}
+use Rattle.gm_analyse.proofs.Lower.{◌≡◌, ◌==◌, ℕ, Option, arith, subst, sym, ap, ◌∙◌, take, name_text}
+use Rattle.std.specs.List.{position}
+use Rattle.std.specs.Option.{unwrap_or}
+use Rattle.std.specs.Str.{IsUtf8}
+use Rattle.std.proofs.lemmas.Result.{MatchResult-at_ok}
 use Rattle.gm_analyse.proofs.Names.{name_is_text, name_ends, ok_unless}
 use Rattle.gm_analyse.proofs.json.text_of.Goals as goal
 

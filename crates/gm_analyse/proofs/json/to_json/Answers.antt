@@ -1,4 +1,8 @@
-use Rattle.gm_analyse.proofs.Lower.{◌≡◌, ℕ, List, ap, ◌∙◌, compact_text, name_text, analysis_tree, IfOk-weaker, view-Object}
+use Rattle.gm_analyse.proofs.Lower.{◌≡◌, ℕ, List, ap, ◌∙◌, name_text}
+use Rattle.serde_json.specs.Written.{compact_text}
+use Rattle.gm_analyse.specs.Tree.{analysis_tree}
+use Rattle.std.proofs.lemmas.Result.{IfOk-weaker}
+use Rattle.serde_json.proofs.Views.{view-Object}
 use Rattle.gm_analyse.proofs.NoFloat.{tree_no_float}
 use Rattle.gm_analyse.proofs.json.to_json.Goals as goal
 

@@ -1,4 +1,5 @@
-use Rattle.gm_analyse.proofs.Lower.{List, ℕ, length, subst, is_some, all_positions, Canonical, IsLastAbove}
+use Rattle.gm_analyse.proofs.Lower.{List, ℕ, length, subst, is_some, all_positions, IsLastAbove}
+use Rattle.gm_analyse.specs.declared.among.Among.TheVariants.{Canonical}
 use Rattle.gm_analyse.proofs.Reporting.{greatest_is}
 use Rattle.gm_analyse.proofs.longest_rows.greatest.Goals as goal
 

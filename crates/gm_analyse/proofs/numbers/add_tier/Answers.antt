@@ -1,5 +1,6 @@
-use Rattle.gm_analyse.proofs.Lower.{◌≡◌, ◌+◌, ◌++◌, ◌∷◌, [], List, ℕ, map, sym, ap, ◌∙◌, subst, arith, append_assoc, range_with_len, is_some, Position, at}
-use Rattle.gm_analyse.proofs.Lower.{AreNumbers, map-range_with_len_more}
+use Rattle.gm_analyse.proofs.Lower.{◌≡◌, ◌+◌, ◌++◌, ◌∷◌, [], List, ℕ, map, sym, ap, ◌∙◌, subst, arith, append_assoc, is_some, Position, at, AreNumbers}
+use Rattle.std.specs.List.{range_with_len}
+use Rattle.std.proofs.lemmas.List.FromFn.{map-range_with_len_more}
 use Rattle.gm_analyse.proofs.numbers.add_tier.Goals as goal
 
 pub loop-index-preserved : goal.loop-index-preserved

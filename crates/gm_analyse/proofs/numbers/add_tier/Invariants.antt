@@ -1,4 +1,5 @@
-use Rattle.gm_analyse.proofs.Lower.{◌+◌, ◌≤◌, ◌++◌, List, map, vec_len, range_with_len, is_some, REMOTENESS, Position, at, AreNumbers}
+use Rattle.gm_analyse.proofs.Lower.{◌+◌, ◌≤◌, ◌++◌, List, map, vec_len, is_some, REMOTENESS, Position, at, AreNumbers}
+use Rattle.std.specs.List.{range_with_len}
 use Rattle.gm_analyse.proofs.numbers.add_tier.Given as goal
 
 abbrev pub invariant-loop-index : goal.invariant-loop-index

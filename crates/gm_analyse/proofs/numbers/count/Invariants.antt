@@ -1,4 +1,5 @@
-use Rattle.gm_analyse.proofs.Lower.{◌≡◌, ℕ, ◌+◌, ◌-◌, ◌≤◌, max, slice_index_or, vec_len}
+use Rattle.gm_analyse.proofs.Lower.{◌≡◌, ℕ, ◌+◌, ◌≤◌, vec_len}
+use Rattle.std.proofs.Common.{◌-◌, max, slice_index_or}
 use Rattle.gm_analyse.proofs.numbers.count.Given as goal
 
 abbrev pub invariant-loop-numbers : goal.invariant-loop-numbers

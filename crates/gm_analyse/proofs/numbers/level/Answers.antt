@@ -1,4 +1,7 @@
-use Rattle.gm_analyse.proofs.Lower.{◌≡◌, sym, subst, Position, HasValue_once, rules, IsReachedByPlay}
+use Rattle.gm_analyse.proofs.Lower.{◌≡◌, sym, subst, Position}
+use Rattle.gm_game.proofs.Basic.{HasValue_once}
+use Rattle.std.proofs.Common.{rules}
+use Rattle.gm_find.specs.Reaching.{IsReachedByPlay}
 use Rattle.gm_analyse.proofs.numbers.level.Goals.{then-ne-via-then-ne, then-ne-via-else-ne+then-not-is_in}
 use Rattle.gm_analyse.proofs.numbers.level.Goals as goal
 

@@ -1,5 +1,8 @@
-use Rattle.gm_analyse.proofs.Lower.{◌≡◌, ◌+◌, ◌++◌, ◌∷◌, [], List, ℕ, take, get_or, sym, ap, ◌∙◌, subst, arith, is_some, take_all, take_more, append-nil}
-use Rattle.gm_analyse.proofs.Lower.{Contains-get_or, Position, all_positions, AreNumbers, flat_map-append, held_own, positions_in}
+use Rattle.gm_analyse.proofs.Lower.{◌≡◌, ◌+◌, ◌++◌, ◌∷◌, [], List, ℕ, take, get_or, sym, ap, ◌∙◌, subst, arith, is_some, append-nil, Contains-get_or, Position, all_positions, AreNumbers}
+use Rattle.std.proofs.lemmas.List.{take_all, take_more}
+use Rattle.std.proofs.lemmas.Grind.{flat_map-append}
+use Rattle.gm_play.proofs.Held.{held_own}
+use Rattle.gm_find.specs.Finding.{positions_in}
 use Rattle.gm_analyse.proofs.numbers.numbers_of.Goals as goal
 
 pub add_tier-requires-clause-held : goal.add_tier-requires-clause-held

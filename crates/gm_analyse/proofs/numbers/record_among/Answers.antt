@@ -1,4 +1,7 @@
-use Rattle.gm_analyse.proofs.Lower.{◌≤◌, sym, subst, IfSome, Option, REMOTENESS, Solved, Among, IsRecordAmong, value_small}
+use Rattle.gm_analyse.proofs.Lower.{◌≤◌, sym, subst, Option, REMOTENESS, Solved, Among}
+use Rattle.std.proofs.Common.{IfSome}
+use Rattle.gm_analyse.specs.Totals.{IsRecordAmong}
+use Rattle.gm_play.proofs.Small.{value_small}
 use Rattle.gm_analyse.proofs.Reporting.{canonical_among, legal_among}
 use Rattle.gm_analyse.proofs.numbers.record_among.Goals as goal
 

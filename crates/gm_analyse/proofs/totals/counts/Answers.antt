@@ -1,4 +1,4 @@
-use Rattle.gm_analyse.proofs.Lower.{◌≡◌, sym, subst, arith, is_some, all_positions, AreBefore}
+use Rattle.gm_analyse.proofs.Lower.{◌≡◌, sym, subst, arith, is_some, all_positions, AreCountsBefore}
 use Rattle.gm_analyse.proofs.CountLists.{no_counts, value_added}
 use Rattle.gm_analyse.proofs.Listed.{Num, num_once, all_counts}
 use Rattle.gm_analyse.proofs.totals.counts.Goals as goal
@@ -8,7 +8,7 @@ loop-value-init g c =
     let r = g.G.Game.rules in
     let ps = all_positions r c.args.known.now.tiers.now in
     let num = Num r c.args.among (is_some c.args.reached) ps in
-    subst (AreBefore num 0 0) (sym c.new-counts.ensures.items) (no_counts num (num_once r c.args.among (is_some c.args.reached) ps))
+    subst (AreCountsBefore num 0 0) (sym c.new-counts.ensures.items) (no_counts num (num_once r c.args.among (is_some c.args.reached) ps))
 
 pub loop-value-preserved : goal.loop-value-preserved
 loop-value-preserved g c =
@@ -25,4 +25,5 @@ returns g c =
     let tiers = c.args.known.now.tiers.now in
     let last : c.loop-value.value-index ≡ 4 = omega arith in
     all_counts r c.args.among (is_some c.args.reached) tiers c.loop-value.counts.items
-    (subst (λ n. AreBefore (Num r c.args.among (is_some c.args.reached) (all_positions r tiers)) n 0 c.loop-value.counts.items) last c.loop-value.invariant)
+    (subst (λ n. AreCountsBefore (Num r c.args.among (is_some c.args.reached) (all_positions r tiers)) n 0 c.loop-value.counts.items) last
+    c.loop-value.invariant)

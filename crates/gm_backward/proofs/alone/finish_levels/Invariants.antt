@@ -1,4 +1,5 @@
-use Rattle.gm_backward.proofs.Lower.{◌+◌, ◌-◌, REMOTENESS, place_of, IsLaterPlace}
+use Rattle.gm_backward.proofs.Lower.{◌+◌, ◌-◌, REMOTENESS, place_of}
+use Rattle.gm_backward.specs.inner.Tiling.{IsLaterPlace}
 use Rattle.gm_backward.proofs.alone.finish_levels.Given as goal
 
 abbrev pub invariant-loop-tiles : goal.invariant-loop-tiles

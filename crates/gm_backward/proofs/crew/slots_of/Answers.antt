@@ -1,4 +1,4 @@
-use Rattle.gm_backward.proofs.Lower.{IfOk-from_err}
+use Rattle.std.proofs.lemmas.Result.{IfOk-from_err}
 use Rattle.gm_backward.proofs.crew.slots_of.Goals as goal
 
 pub returns-in_err-push-clause-parts : goal.returns-in_err-push-clause-parts

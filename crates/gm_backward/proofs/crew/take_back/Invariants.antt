@@ -1,4 +1,5 @@
-use Rattle.gm_backward.proofs.Lower.{◌≡◌, ◌+◌, vec_len}
+use Rattle.gm_backward.proofs.Lower.{◌≡◌, ◌+◌}
+use Rattle.std.proofs.Common.{vec_len}
 use Rattle.gm_backward.proofs.crew.take_back.Given as goal
 
 abbrev pub invariant-loop-slot : goal.invariant-loop-slot

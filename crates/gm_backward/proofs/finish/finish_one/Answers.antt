@@ -1,4 +1,5 @@
-use Rattle.gm_backward.proofs.Lower.{List, Option, ◌++◌, length, ap, subst, sym, ◌∙◌, Solved, ArePart}
+use Rattle.gm_backward.proofs.Lower.{List, Option, ◌++◌, length, ap, subst, sym, ◌∙◌, Solved}
+use Rattle.gm_table.specs.Solving.{ArePart}
 use Rattle.gm_backward.proofs.finish.finish_one.Goals as goal
 
 pub returns : goal.returns

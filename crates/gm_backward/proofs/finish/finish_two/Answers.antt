@@ -1,4 +1,6 @@
-use Rattle.gm_backward.proofs.Lower.{IfOk-at_ok, IfOk-weaker, AreAllOf, AreRecordsOf}
+use Rattle.gm_backward.proofs.Lower.{IfOk-at_ok, AreRecordsOf}
+use Rattle.std.proofs.lemmas.Result.{IfOk-weaker}
+use Rattle.gm_backward.specs.inner.Tiling.{AreAllOf}
 use Rattle.gm_backward.proofs.finish.finish_two.Goals as goal
 
 pub returns : goal.returns

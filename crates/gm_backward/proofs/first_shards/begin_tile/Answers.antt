@@ -1,5 +1,7 @@
-use Rattle.gm_backward.proofs.Lower.{IfOk-from_err, length-drop, Start, HasNoneHere, ◌-◌, arith, ◌≡◌, ℕ, List, length, take, drop, suc, sym, ap, ◌∙◌, subst}
-use Rattle.gm_backward.proofs.Lower.{cut_at, length-take-le}
+use Rattle.std.proofs.lemmas.Result.{IfOk-from_err}
+use Rattle.std.proofs.lemmas.List.{length-drop, length-take-le}
+use Rattle.gm_backward.proofs.Lower.{Start, HasNoneHere, ◌-◌, arith, ◌≡◌, ℕ, List, length, drop, suc, sym, ap, ◌∙◌, subst, cut_at}
+use Rattle.std.proofs.Common.{take}
 use Rattle.gm_backward.proofs.BlockLemmas.{starts_part}
 use Rattle.gm_backward.proofs.SplitLemmas.{cut_within, step_up}
 use Rattle.gm_backward.proofs.TilingLemmas.{begun_at}

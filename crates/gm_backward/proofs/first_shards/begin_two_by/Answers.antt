@@ -1,4 +1,5 @@
-use Rattle.gm_backward.proofs.Lower.{◌+◌, IfOk-at_ok, IsTile}
+use Rattle.gm_backward.proofs.Lower.{◌+◌, IfOk-at_ok}
+use Rattle.gm_backward.specs.inner.Tiling.{IsTile}
 use Rattle.gm_backward.proofs.first_shards.begin_two_by.Goals as goal
 
 pub returns-in-Ok-Ok : goal.returns-in-Ok-Ok

@@ -1,5 +1,7 @@
-use Rattle.gm_backward.proofs.Lower.{◌≡◌, ◌+◌, ◌<◌, ◌≤◌, max, ℕ, suc, length, drop, refl, sym, ap, subst, ◌∙◌, arith, Ok, Err, slice_get_within, REMOTENESS}
-use Rattle.gm_backward.proofs.Lower.{TIER_SIZE, Place, NoteData, IsLevel, place_of, Spot, spot_of, pairs_into, AreFirst, IsLevelAt, pairs_are_into, IsTooFar}
+use Rattle.gm_backward.proofs.Lower.{◌≡◌, ◌+◌, ◌<◌, ◌≤◌, ℕ, suc, length, drop, refl, sym, ap, subst, ◌∙◌, arith, slice_get_within, REMOTENESS, TIER_SIZE, Place, NoteData, IsLevel, place_of, Spot, spot_of, pairs_into, AreFirst, IsTooFar}
+use Rattle.std.proofs.Common.{max, Ok, Err}
+use Rattle.gm_locks.specs.Rounds.{IsLevelAt}
+use Rattle.gm_locks.proofs.RoundLemmas.{pairs_are_into}
 use Rattle.gm_locks.proofs.Gains.{stays}
 use Rattle.gm_backward.proofs.Far.{refused_far}
 use Rattle.gm_backward.proofs.RoundLemmas.{item_next, item_last, into_fit}

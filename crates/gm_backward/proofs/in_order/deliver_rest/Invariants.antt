@@ -1,4 +1,5 @@
-use Rattle.gm_backward.proofs.Lower.{◌≡◌, ◌≤◌, max, length, drop, spot_of, pairs_into, AreFirst}
+use Rattle.gm_backward.proofs.Lower.{◌≡◌, ◌≤◌, length, drop, spot_of, pairs_into, AreFirst}
+use Rattle.std.proofs.Common.{max}
 use Rattle.gm_backward.proofs.in_order.deliver_rest.Given as goal
 
 -- the pairs that the walk has passed are delivered, as are the first ones that were so before it

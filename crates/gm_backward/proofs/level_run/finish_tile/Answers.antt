@@ -1,4 +1,5 @@
-use Rattle.gm_backward.proofs.Lower.{◌≡◌, List, length, ap, sym, ◌∙◌, arith, div_ceil, NoteData}
+use Rattle.gm_backward.proofs.Lower.{◌≡◌, List, length, ap, sym, ◌∙◌, arith, NoteData}
+use Rattle.std.specs.Int.{div_ceil}
 use Rattle.gm_backward.proofs.level_run.finish_tile.Goals as goal
 
 pub into_whole-requires : goal.into_whole-requires

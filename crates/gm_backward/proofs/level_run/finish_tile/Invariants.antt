@@ -1,4 +1,5 @@
-use Rattle.gm_backward.proofs.Lower.{◌≡◌, ℕ, ◌<◌, true, false, get_or}
+use Rattle.gm_backward.proofs.Lower.{◌≡◌, ℕ, ◌<◌}
+use Rattle.std.proofs.Common.{true, false, get_or}
 use Rattle.gm_backward.proofs.level_run.finish_tile.Given as goal
 
 abbrev pub invariant-loop-piece : goal.invariant-loop-piece

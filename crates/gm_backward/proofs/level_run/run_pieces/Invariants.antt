@@ -1,4 +1,5 @@
-use Rattle.gm_backward.proofs.Lower.{pairs_in, spot_of}
+use Rattle.gm_counters.specs.State.{pairs_in}
+use Rattle.gm_backward.proofs.Lower.{spot_of}
 use Rattle.gm_backward.proofs.level_run.run_pieces.Given as goal
 
 abbrev pub ghosts-run_on_board-A-Ledger : goal.ghosts-run_on_board-A-Ledger

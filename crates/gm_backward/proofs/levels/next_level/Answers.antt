@@ -1,4 +1,5 @@
-use Rattle.gm_backward.proofs.Lower.{◌≤◌, sym, subst, TIER_SIZE, Place, AreHeld, AreTiles}
+use Rattle.gm_backward.proofs.Lower.{◌≤◌, sym, subst, TIER_SIZE, Place, AreHeld}
+use Rattle.gm_frontier.specs.Levels.{AreTiles}
 use Rattle.gm_backward.proofs.levels.next_level.Goals as goal
 
 pub gather-requires-clause-tiles : goal.gather-requires-clause-tiles

@@ -1,4 +1,5 @@
-use Rattle.gm_backward.proofs.Lower.{◌≡◌, ℕ, ◌++◌, List, NoteData, pairs_of, piece_of, AreSplit}
+use Rattle.gm_backward.proofs.Lower.{◌≡◌, ℕ, ◌++◌, List, NoteData, pairs_of, piece_of}
+use Rattle.gm_backward.specs.inner.Split.{AreSplit}
 use Rattle.gm_backward.proofs.pieces.split.Given as goal
 
 -- the pairs that the walk has passed are in the lists

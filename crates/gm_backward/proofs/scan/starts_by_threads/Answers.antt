@@ -1,4 +1,5 @@
-use Rattle.gm_backward.proofs.Lower.{◌≡◌, ℕ, IfOk, length, subst, AreStarts}
+use Rattle.gm_backward.proofs.Lower.{◌≡◌, ℕ, length, subst, AreStarts}
+use Rattle.std.proofs.Common.{IfOk}
 use Rattle.gm_backward.proofs.scan.starts_by_threads.Goals as goal
 
 pub returns-clause-length : goal.returns-clause-length

@@ -1,4 +1,6 @@
-use Rattle.gm_backward.proofs.Lower.{at, IsStart, AreStarts, one_at, ◌≡◌, ℕ, ◌+◌, ◌-◌, ◌≤◌, [], ◌∷◌, ◌++◌, length, length-append, sym, ap, subst, ◌∙◌, arith}
+use Rattle.gm_backward.proofs.Lower.{at, AreStarts, ◌≡◌, ℕ, ◌+◌, ◌-◌, ◌≤◌, [], ◌∷◌, ◌++◌, length, length-append, sym, ap, subst, ◌∙◌, arith}
+use Rattle.gm_counters.specs.inner.Begin.{IsStart}
+use Rattle.gm_table.proofs.Dealt.{one_at}
 use Rattle.gm_backward.proofs.BlockLemmas.{starts_holes}
 use Rattle.gm_backward.proofs.starts.starts.Goals as goal
 

@@ -1,4 +1,5 @@
-use Rattle.gm_backward.proofs.Lower.{ℕ, ◌≤◌, ap, sym, subst, ◌∙◌, REMOTENESS, Spot, spot_of, HasNoneHere, next_spot}
+use Rattle.gm_backward.proofs.Lower.{ℕ, ◌≤◌, ap, sym, subst, ◌∙◌, REMOTENESS, Spot, spot_of, HasNoneHere}
+use Rattle.gm_backward.specs.inner.Tiling.{next_spot}
 use Rattle.gm_backward.proofs.RoundLemmas.{none_next}
 use Rattle.gm_backward.proofs.tiles.close_all.Goals as goal
 

@@ -1,4 +1,5 @@
-use Rattle.gm_board.proofs.Lower.{◌<◌, length, [], refl, arith, ROWS}
+use Rattle.gm_board.proofs.Lower.{◌<◌, length, [], refl, arith}
+use Rattle.gm_board.specs.declared.pascal.TheConstants.{ROWS}
 use Rattle.gm_board.proofs.PascalRows.{triangle_is}
 use Rattle.gm_board.proofs.pascal.binomial.Goals as goal
 

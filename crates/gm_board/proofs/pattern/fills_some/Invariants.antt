@@ -1,5 +1,6 @@
-use Rattle.gm_board.proofs.Lower.{◌≡◌, ◌==◌, take, list_any}
-use Rattle.std.proofs.Common.{bit_and}
+use Rattle.gm_board.proofs.Lower.{◌≡◌, take}
+use Rattle.std.proofs.Common.{◌==◌, bit_and}
+use Rattle.std.specs.List.{list_any}
 use Rattle.gm_board.proofs.pattern.fills_some.Given as goal
 
 abbrev pub invariant-loop-mask : goal.invariant-loop-mask

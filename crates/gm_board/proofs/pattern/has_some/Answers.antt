@@ -1,4 +1,5 @@
-use Rattle.gm_board.proofs.Lower.{◌∙◌, some_filled}
+use Rattle.gm_board.proofs.Lower.{◌∙◌}
+use Rattle.gm_board.specs.laws.BoardMasks.{some_filled}
 use Rattle.gm_board.proofs.pattern.has_some.Goals as goal
 
 pub returns : goal.returns

@@ -1,4 +1,6 @@
-use Rattle.gm_board.proofs.Lower.{◌≡◌, ℕ, ◌+◌, ◌/◌, ◌%◌, ◌^◌, [], get_or, refl, ap, ◌∙◌, arith, count_ones, binomial_small, mask_rank, mask_rank_below, UPPER}
+use Rattle.gm_board.proofs.Lower.{◌≡◌, ℕ, ◌+◌, ◌/◌, ◌%◌, ◌^◌, [], get_or, refl, ap, ◌∙◌, arith, count_ones, mask_rank, mask_rank_below}
+use Rattle.gm_board.specs.laws.Binomials.{binomial_small}
+use Rattle.gm_board.specs.declared.ranks.TheConstants.{UPPER}
 use Rattle.gm_board.proofs.RankTables.{long_rank_is}
 use Rattle.gm_board.proofs.ranks.long_rank.Goals as goal
 

@@ -1,4 +1,5 @@
-use Rattle.gm_board.proofs.Lower.{ℕ, ◌+◌, ◌/◌, ◌%◌, ◌^◌, [], get_or, refl, ap, ap₂, ◌∙◌, HIGH}
+use Rattle.gm_board.proofs.Lower.{ℕ, ◌+◌, ◌/◌, ◌%◌, ◌^◌, [], get_or, refl, ap, ap₂, ◌∙◌}
+use Rattle.gm_board.specs.declared.ranks.TheConstants.{HIGH}
 use Rattle.gm_board.proofs.RankTables.{short_rank_is}
 use Rattle.gm_board.proofs.ranks.short_rank.Goals as goal
 

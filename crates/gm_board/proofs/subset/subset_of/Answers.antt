@@ -1,4 +1,5 @@
-use Rattle.gm_board.proofs.Lower.{◌-◌, ◌^◌, ◌≤◌, arith, pow_mono, one_shl, mask_unrank_below}
+use Rattle.gm_board.proofs.Lower.{◌-◌, ◌^◌, ◌≤◌, arith, pow_mono, one_shl}
+use Rattle.gm_board.specs.laws.Masks.{mask_unrank_below}
 use Rattle.gm_board.specs.Binomials.{binomial as binomial_of}
 use Rattle.gm_board.proofs.UnrankSteps.{unrank_cell, unrank_take, unrank_leave, unrank_all}
 use Rattle.gm_board.proofs.FourSteps.{four_below}

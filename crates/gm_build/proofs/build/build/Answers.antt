@@ -1,4 +1,6 @@
-use Rattle.gm_build.proofs.Lower.{ℕ, IfOk, IfErr, IsTrue, ap, subst, Position, IsOrderFrom, IsBuildError, IsStopped}
+use Rattle.gm_build.proofs.Lower.{ℕ, IsTrue, ap, subst, IsOrderFrom, IsBuildError, IsStopped}
+use Rattle.std.proofs.Common.{IfOk, IfErr}
+use Rattle.gm_game.specs.declared.position.Position.{Position}
 use Rattle.gm_build.proofs.build.build.Goals as goal
 
 pub returns-clause-order : goal.returns-clause-order

@@ -1,6 +1,9 @@
-use Rattle.gm_build.proofs.Lower.{take_more, TIERS, IsOrderFrom, ComeChildrenFirst, IsReachedFrom}
-use Rattle.gm_build.proofs.Lower.{with_tier, IsBuildError, IsStopped, ◌≤◌, ◌+◌}
-use Rattle.gm_build.proofs.Lower.{ℕ, List, IsTrue, take, length, get_or, refl, sym, subst, arith, length-take, Contains-get_or}
+use Rattle.std.proofs.lemmas.List.{take_more}
+use Rattle.gm_build.proofs.Lower.{TIERS, IsOrderFrom, with_tier, IsBuildError, IsStopped, ◌≤◌, ◌+◌, ℕ, List, IsTrue, take, length, refl, sym, subst, arith}
+use Rattle.gm_tiers.specs.Orders.{ComeChildrenFirst}
+use Rattle.gm_tiers.specs.Reach.{IsReachedFrom}
+use Rattle.std.proofs.Common.{get_or, length-take}
+use Rattle.std.proofs.lemmas.List.Elements.{Contains-get_or}
 use Rattle.gm_build.proofs.OrderLemmas.{fresh_tier, children_held, stops_here}
 use Rattle.gm_build.proofs.ErrorLemmas.{build_error, order_count, order_error, order_stopped, stopped_by}
 use Rattle.gm_build.proofs.SoFar.{IsSoFar, so_far_none, so_far_fits, so_far_more, so_far_all}

@@ -1,4 +1,6 @@
-use Rattle.gm_build.proofs.Lower.{subst, IfOk-from_err, IsInspected}
+use Rattle.gm_build.proofs.Lower.{subst}
+use Rattle.std.proofs.lemmas.Result.{IfOk-from_err}
+use Rattle.gm_build.specs.Inspections.{IsInspected}
 use Rattle.gm_build.proofs.found.read_entry_table.Goals as goal
 
 pub returns-in_err-table-clause-tier : goal.returns-in_err-table-clause-tier

@@ -1,4 +1,5 @@
-use Rattle.gm_build.proofs.Lower.{◌≡◌, rules, None, Some, refl, IsTrue}
+use Rattle.gm_build.proofs.Lower.{◌≡◌, rules, Some, refl, IsTrue}
+use Rattle.std.proofs.Common.{None}
 use Rattle.gm_build.proofs.StoreLemmas.{inspected_in}
 use Rattle.gm_build.proofs.inspect.inspect_tier.Goals as goal
 

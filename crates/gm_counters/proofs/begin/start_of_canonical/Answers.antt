@@ -1,4 +1,5 @@
-use Rattle.gm_counters.proofs.Lower.{arith, canonical_children_few}
+use Rattle.gm_counters.proofs.Lower.{arith}
+use Rattle.gm_game.proofs.ChildrenLemmas.{canonical_children_few}
 use Rattle.gm_counters.proofs.begin.start_of_canonical.Goals as goal
 
 pub overflow_cast-result : goal.overflow_cast-result

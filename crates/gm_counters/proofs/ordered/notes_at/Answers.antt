@@ -1,5 +1,5 @@
-use Rattle.gm_counters.proofs.Lower.{IfOk-from_err, Contains-get_or, IsSettledAt, StatusIs, Settled, rules, [], ◌∷◌, ◌++◌, ◌≡◌, ℕ, ◌+◌, ◌<◌, length, get_or}
-use Rattle.gm_counters.proofs.Lower.{sym, subst, arith, Some}
+use Rattle.gm_counters.proofs.Lower.{IfOk-from_err, Contains-get_or, IsSettledAt, StatusIs, Settled, [], ◌∷◌, ◌++◌, ◌≡◌, ℕ, ◌+◌, ◌<◌, length, get_or, sym, subst, arith, Some}
+use Rattle.std.proofs.Common.{rules}
 use Rattle.gm_counters.proofs.NotesAtLemmas.{notes_more, some_note, note_is}
 use Rattle.gm_counters.proofs.ordered.notes_at.Goals as goal
 

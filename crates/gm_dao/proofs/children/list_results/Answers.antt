@@ -1,4 +1,7 @@
-use Rattle.gm_dao.proofs.Lower.{◌≡◌, ◌<◌, dao, legal, play, least_index_of, IsLegal, legal_in, play_legal}
+use Rattle.gm_dao.proofs.Lower.{◌≡◌, ◌<◌, dao, legal, least_index_of, legal_in}
+use Rattle.gm_dao.specs.DaoRules.{play}
+use Rattle.gm_dao.specs.laws.BoardFacts.{IsLegal}
+use Rattle.gm_dao.specs.laws.PlayFacts.{play_legal}
 use Rattle.gm_pieces.specs.Common.{ℕ, true, List, Cell, length, get_or, sym, ap, subst, ◌∙◌, at, board_of, board_game, listed_move, one_listed}
 use Rattle.gm_dao.proofs.children.list_results.Goals as goal
 

@@ -1,4 +1,6 @@
-use Rattle.gm_dao.proofs.Lower.{◌≡◌, ◌+◌, can_move, number_from, sixteen_most, slides_over}
+use Rattle.gm_dao.proofs.Lower.{◌≡◌, ◌+◌, can_move}
+use Rattle.gm_dao.specs.laws.CountFacts.{number_from, sixteen_most}
+use Rattle.gm_dao.specs.inner.MaskSlides.{slides_over}
 use Rattle.std.specs.Prelude.{◌*◌}
 use Rattle.gm_pieces.specs.Common.{ℕ, List, length, refl, ap, ◌∙◌, arith, trailing_zeros, w32, board_of, next_cell, cell_below, filter, range_with_len}
 use Rattle.gm_dao.proofs.LoopSteps.{moves_skip, moves_end}

@@ -1,4 +1,5 @@
-use Rattle.gm_dao.proofs.Lower.{◌+◌, ◌<◌, can_move, move_number_bound, AreMovesBelow}
+use Rattle.gm_dao.proofs.Lower.{◌+◌, ◌<◌, can_move, AreMovesBelow}
+use Rattle.gm_dao.specs.DaoRules.{move_number_bound}
 use Rattle.std.specs.Prelude.{◌*◌}
 use Rattle.gm_pieces.specs.Common.{ℕ, length, sym, ◌∙◌, arith, board_of, next_cell, cell_below, filter_room, steps}
 use Rattle.gm_dao.proofs.LoopSteps.{AreGoals, goals_are, goals_skip, end_at, move_more}

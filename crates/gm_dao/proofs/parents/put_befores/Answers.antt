@@ -1,4 +1,6 @@
-use Rattle.gm_dao.proofs.Lower.{◌+◌, least_index_of, dao, way_back, AreBeforesBelow, legal_in, put_room}
+use Rattle.gm_dao.proofs.Lower.{◌+◌, least_index_of, dao, AreBeforesBelow, legal_in}
+use Rattle.gm_dao.specs.inner.MaskSlides.{way_back}
+use Rattle.gm_pieces.specs.laws.Listed.{put_room}
 use Rattle.std.specs.Prelude.{◌*◌}
 use Rattle.gm_pieces.specs.Common.{ℕ, sym, ap, ◌∙◌, arith, board_of, next_cell, cell_below, before_at}
 use Rattle.gm_dao.proofs.LoopSteps.{end_at}

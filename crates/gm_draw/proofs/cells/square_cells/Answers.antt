@@ -1,4 +1,4 @@
-use Rattle.gm_draw.proofs.Lower.{refl}
+use Rattle.std.proofs.Common.{refl}
 use Rattle.gm_draw.specs.Points.{square_points}
 use Rattle.gm_draw.proofs.cells.square_cells.Goals as goal
 

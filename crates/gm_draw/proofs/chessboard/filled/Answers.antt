@@ -1,4 +1,5 @@
-use Rattle.gm_draw.proofs.Lower.{List, ℕ, ◌++◌, ap, sym, ◌∙◌, arith, chess_byte, spread}
+use Rattle.gm_draw.proofs.Lower.{List, ℕ, ◌++◌, ap, sym, ◌∙◌, arith, spread}
+use Rattle.gm_draw.specs.Chessboards.{chess_byte}
 use Rattle.gm_draw.proofs.Spreading.{spread_next, spread_all}
 use Rattle.gm_draw.proofs.chessboard.filled.Goals as goal
 

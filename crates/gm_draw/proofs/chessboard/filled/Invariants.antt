@@ -1,4 +1,5 @@
-use Rattle.gm_draw.proofs.Lower.{◌≡◌, ◌+◌, ◌≤◌, ◌++◌, drop, length, chess_byte, spread}
+use Rattle.gm_draw.proofs.Lower.{◌≡◌, ◌+◌, ◌≤◌, ◌++◌, drop, length, spread}
+use Rattle.gm_draw.specs.Chessboards.{chess_byte}
 use Rattle.std.proofs.Common.{◌*◌}
 use Rattle.gm_draw.proofs.chessboard.filled.Given as goal
 

@@ -1,4 +1,6 @@
-use Rattle.gm_draw.proofs.Lower.{◌≡◌, map, take, drawn_byte}
+use Rattle.gm_draw.proofs.Lower.{◌≡◌, take}
+use Rattle.std.proofs.Common.{map}
+use Rattle.gm_draw.specs.Templates.{drawn_byte}
 use Rattle.gm_draw.proofs.drawn.fill.Given as goal
 
 abbrev pub invariant-loop-byte : goal.invariant-loop-byte

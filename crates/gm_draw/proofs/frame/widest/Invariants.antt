@@ -1,4 +1,5 @@
-use Rattle.gm_draw.proofs.Lower.{◌≡◌, ◌≤◌, drop, widest}
+use Rattle.gm_draw.proofs.Lower.{◌≡◌, ◌≤◌, drop}
+use Rattle.gm_draw.specs.Diagrams.{widest}
 use Rattle.gm_draw.proofs.frame.widest.Given as goal
 
 abbrev pub invariant-loop-byte : goal.invariant-loop-byte

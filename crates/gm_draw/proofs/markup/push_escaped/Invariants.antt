@@ -1,4 +1,5 @@
-use Rattle.gm_draw.proofs.Lower.{◌≡◌, ◌++◌, take, flat_map, escaped_byte}
+use Rattle.gm_draw.proofs.Lower.{◌≡◌, ◌++◌, take, flat_map}
+use Rattle.gm_draw.specs.Diagrams.{escaped_byte}
 use Rattle.gm_draw.proofs.markup.push_escaped.Given as goal
 
 abbrev pub invariant-loop-byte : goal.invariant-loop-byte

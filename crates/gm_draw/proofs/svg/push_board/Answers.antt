@@ -1,4 +1,5 @@
-use Rattle.gm_draw.proofs.Lower.{◌++◌, arith, part_at, spread}
+use Rattle.gm_draw.proofs.Lower.{◌++◌, arith, spread}
+use Rattle.gm_draw.specs.Diagrams.{part_at}
 use Rattle.gm_draw.proofs.Spreading.{spread_next, spread_all}
 use Rattle.gm_draw.proofs.svg.push_board.Goals as goal
 

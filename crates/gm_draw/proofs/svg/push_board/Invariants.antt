@@ -1,4 +1,5 @@
-use Rattle.gm_draw.proofs.Lower.{◌≡◌, ◌+◌, ◌≤◌, ◌++◌, drop, part_at, spread}
+use Rattle.gm_draw.proofs.Lower.{◌≡◌, ◌+◌, ◌≤◌, ◌++◌, drop, spread}
+use Rattle.gm_draw.specs.Diagrams.{part_at}
 use Rattle.std.proofs.Common.{◌*◌}
 use Rattle.gm_draw.proofs.svg.push_board.Given as goal
 

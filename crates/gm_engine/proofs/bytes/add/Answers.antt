@@ -1,4 +1,6 @@
-use Rattle.gm_engine.proofs.Lower.{length, sym, ap, ◌∙◌, length-map, on_ok_weaker, record_with}
+use Rattle.gm_engine.proofs.Lower.{length, sym, ap, ◌∙◌, record_with}
+use Rattle.std.proofs.lemmas.List.{length-map}
+use Rattle.std.proofs.lemmas.Result.{on_ok_weaker}
 use Rattle.gm_engine.proofs.bytes.add.Goals as goal
 
 pub returns-in-Byte-clause-added : goal.returns-in-Byte-clause-added

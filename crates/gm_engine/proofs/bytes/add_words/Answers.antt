@@ -1,4 +1,5 @@
-use Rattle.gm_engine.proofs.Lower.{rules, ◌≡◌, ◌<◌, ◌+◌, ◌++◌, length, arith, ap, sym, subst, ◌∙◌, length-append, append_assoc}
+use Rattle.gm_engine.proofs.Lower.{rules, ◌≡◌, ◌<◌, ◌+◌, ◌++◌, length, arith, ap, sym, subst, ◌∙◌, append_assoc}
+use Rattle.std.proofs.lemmas.List.{length-append}
 use Rattle.std.proofs.Common.{◌*◌}
 use Rattle.gm_engine.proofs.Words.{word_more, word_at_end}
 use Rattle.gm_engine.proofs.bytes.add_words.Goals as goal

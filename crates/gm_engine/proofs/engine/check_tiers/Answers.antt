@@ -1,4 +1,4 @@
-use Rattle.gm_engine.proofs.Lower.{rules, ◌≡◌, ◌≤◌, ◌++◌, ◌+◌, take, drop, length, slice_index_or, subst, sym, arith, IsTrueTier, AreTrue, room}
+use Rattle.gm_engine.proofs.Lower.{rules, ◌≡◌, ◌≤◌, ◌++◌, ◌+◌, take, drop, length, slice_index_or, subst, sym, arith, IsTrueTier, AreTrueTiers, room}
 use Rattle.gm_engine.proofs.Trueness.{one_more_at, cut_more, first_of, enough_for, none_left}
 use Rattle.gm_engine.proofs.Ordering.{have_more, disordered}
 use Rattle.gm_engine.proofs.Refused.{unchecked}
@@ -19,7 +19,7 @@ loop-tier-preserved g c =
         one_more_at r c.args.width ts k known c.split_at.result.0.now c.loop-tier-test.true true_ c.in_ok-check_tier.ensures.known,
         cut_more c.args.records.now known rest c.split_at.result.0.now c.split_at.result.1.now _ is c.split_at.ensures.front c.split_at.ensures.back,
       ),
-      λ all. subst (AreTrue r c.args.width (drop (k + 1) ts)) (sym back) (first_of r c.args.width ts k rest c.loop-tier-test.true (later all)).1,
+      λ all. subst (AreTrueTiers r c.args.width (drop (k + 1) ts)) (sym back) (first_of r c.args.width ts k rest c.loop-tier-test.true (later all)).1,
     )
 
 pub returns-in_err-check_tier-clause-refused : goal.returns-in_err-check_tier-clause-refused
@@ -30,7 +30,7 @@ returns-in_err-check_tier-clause-refused g c =
     let rest = c.loop-tier.rest.now in
     let (closed, have, known, later) = c.loop-tier.invariant in
     let front : c.split_at.result.0.now ≡ take (room r c.args.width (slice_index_or ts k 0)) rest = search rules in
-    let is : AreTrue r c.args.width ts c.args.records.now → IsTrueTier r c.args.width (slice_index_or ts k 0) c.split_at.result.0.now =
+    let is : AreTrueTiers r c.args.width ts c.args.records.now → IsTrueTier r c.args.width (slice_index_or ts k 0) c.split_at.result.0.now =
     λ all. subst (IsTrueTier r c.args.width (slice_index_or ts k 0)) (sym front) (first_of r c.args.width ts k rest c.loop-tier-test.true (later all)).0 in
     let order = disordered r c.loop-tier.tables ts k c.loop-tier-test.true have in
     let why = unchecked r c.args.width ts c.args.records.now c.loop-tier.tables (slice_index_or ts k 0) c.split_at.result.0.now is order c.in_err-check_tier.field-0.0

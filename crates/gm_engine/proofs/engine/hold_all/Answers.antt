@@ -1,4 +1,5 @@
-use Rattle.gm_engine.proofs.Lower.{rules, ◌≤◌, length, slice_index_or, List, ℕ, subst, arith, take_all, AreDisordered, IsNotNext, HaveTables}
+use Rattle.gm_engine.proofs.Lower.{rules, ◌≤◌, length, slice_index_or, List, ℕ, subst, arith, AreDisordered, IsNotNext, HaveTables}
+use Rattle.std.proofs.lemmas.List.{take_all}
 use Rattle.gm_engine.proofs.Ordering.{disordered}
 use Rattle.gm_engine.proofs.Refused.{unheld}
 use Rattle.gm_engine.proofs.engine.hold_all.Goals as goal

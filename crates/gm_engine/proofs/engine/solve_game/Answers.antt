@@ -1,4 +1,5 @@
-use Rattle.gm_engine.proofs.Lower.{rules, ℕ, List, length, sym, subst, IsTierOrder, ComeChildrenFirst}
+use Rattle.gm_engine.proofs.Lower.{rules, ℕ, List, length, sym, subst}
+use Rattle.gm_tiers.specs.Orders.{IsTierOrder, ComeChildrenFirst}
 use Rattle.gm_engine.proofs.Refused.{unroomed_game}
 use Rattle.gm_engine.proofs.engine.solve_game.Goals as goal
 

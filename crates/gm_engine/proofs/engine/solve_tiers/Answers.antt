@@ -1,4 +1,4 @@
-use Rattle.gm_engine.proofs.Lower.{rules, ℕ, List, take, sym, subst, take_more, AreTrue}
+use Rattle.gm_engine.proofs.Lower.{rules, ℕ, List, take, sym, subst, take_more, AreTrueTiers}
 use Rattle.gm_engine.proofs.Ordering.{have_more, in_order}
 use Rattle.gm_engine.proofs.Refused.{unsolved_one}
 use Rattle.gm_engine.proofs.engine.solve_tiers.Goals as goal
@@ -21,6 +21,6 @@ loop-tier-preserved g c =
     let (closed, held, known) = c.loop-tier.invariant in (
       c.in_ok-solve_and_hold.ensures.closed,
       have_more c.loop-tier.tables c.solve_and_hold.new.tables ts k c.loop-tier-test.true held c.in_ok-solve_and_hold.ensures.held,
-      subst (λ (v : List ℕ). AreTrue r c.args.width v c.solve_and_hold.new.bytes.items) (sym (take_more ts k 0 c.loop-tier-test.true))
+      subst (λ (v : List ℕ). AreTrueTiers r c.args.width v c.solve_and_hold.new.bytes.items) (sym (take_more ts k 0 c.loop-tier-test.true))
           (c.in_ok-solve_and_hold.ensures.known (take k ts) known),
     )

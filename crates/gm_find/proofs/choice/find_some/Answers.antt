@@ -1,4 +1,5 @@
-use Rattle.gm_find.proofs.Lower.{is_some, Position, IsKnownAt}
+use Rattle.gm_find.proofs.Lower.{is_some, Position}
+use Rattle.gm_find.specs.Founds.{IsKnownAt}
 use Rattle.gm_find.proofs.Picking.{picked_all}
 use Rattle.gm_find.proofs.Telling.{all_known}
 use Rattle.gm_find.proofs.choice.find_some.Goals as goal

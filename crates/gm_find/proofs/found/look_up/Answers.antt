@@ -1,4 +1,6 @@
-use Rattle.gm_find.proofs.Lower.{◌∷◌, [], ◌∙◌, take_more, take_all, map-append, at, IsFound, position_of, All-push, refl}
+use Rattle.gm_find.proofs.Lower.{◌∷◌, [], ◌∙◌, take_more, take_all, at, IsFound, found_position, refl}
+use Rattle.std.proofs.lemmas.List.{map-append}
+use Rattle.std.proofs.lemmas.List.Elements.{All-push}
 use Rattle.gm_find.proofs.found.look_up.Goals as goal
 
 pub loop-p-preserved : goal.loop-p-preserved
@@ -10,7 +12,7 @@ loop-p-preserved g c =
     record {
       positions = rw (
         c.in_ok-push.ensures.items,
-        map-append position_of list (x ∷ []),
+        map-append found_position list (x ∷ []),
         c.loop-p.invariant.positions,
         take_more items k (at 0 0) c.loop-p-test.true,
         c.found_at.ensures.position,

@@ -1,4 +1,5 @@
-use Rattle.gm_find.proofs.Lower.{subst, Position, IsTrueValue, Achieves, IsAchievedBy}
+use Rattle.gm_find.proofs.Lower.{subst, Position, IsTrueValue, Achieves}
+use Rattle.gm_find.specs.Finding.{IsAchievedBy}
 use Rattle.gm_find.proofs.Matching.{achieves_is}
 use Rattle.gm_find.proofs.Onlies.{same_answer}
 use Rattle.gm_find.proofs.only.achieves.Goals as goal

@@ -1,4 +1,5 @@
-use Rattle.gm_find.proofs.Lower.{◌++◌, ◌∷◌, [], ℕ, take, get_or, arith, length-append, take_more, Achieves, length-take}
+use Rattle.gm_find.proofs.Lower.{◌++◌, ◌∷◌, [], ℕ, take, get_or, arith, length-append, take_more, Achieves}
+use Rattle.std.proofs.Common.{length-take}
 use Rattle.gm_find.proofs.ListLemmas.{those_push, those_skip, those_few}
 use Rattle.gm_find.proofs.only.achieving.Goals.{then-achieves, else-achieves}
 use Rattle.gm_find.proofs.only.achieving.Goals as goal

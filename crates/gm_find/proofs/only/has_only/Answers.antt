@@ -1,4 +1,5 @@
-use Rattle.gm_find.proofs.Lower.{◌∙◌, sym, eq-eqb, eqb-true}
+use Rattle.gm_find.proofs.Lower.{◌∙◌, sym, eqb-true}
+use Rattle.std.proofs.Common.{eq-eqb}
 use Rattle.gm_find.proofs.Matching.{only_is}
 use Rattle.gm_find.proofs.only.has_only.Goals as goal
 

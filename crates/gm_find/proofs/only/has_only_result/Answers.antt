@@ -1,5 +1,5 @@
-use Rattle.gm_find.proofs.Lower.{Contains-append_left, drop, take-append-drop, ◌≡◌, ℕ, List, take, get_or, sym, ap, ◌∙◌, subst, Contains, take_more, take_all}
-use Rattle.gm_find.proofs.Lower.{Contains-get_or}
+use Rattle.gm_find.proofs.Lower.{Contains-append_left, ◌≡◌, ℕ, List, take, get_or, sym, ap, ◌∙◌, subst, Contains, take_more, take_all, Contains-get_or}
+use Rattle.std.proofs.Common.{drop, take-append-drop}
 use Rattle.gm_find.proofs.Onlies.{only_skip, only_more, only_two, only_all}
 use Rattle.gm_find.proofs.only.has_only_result.Goals.{then-achieves+else-not-agrees, else-achieves}
 use Rattle.gm_find.proofs.only.has_only_result.Goals as goal

@@ -1,5 +1,5 @@
-use Rattle.gm_find.proofs.Lower.{◌<◌, ◌-◌, ℕ, List, get_or, refl, sym, ◌∙◌, subst, arith, Contains, take_all, Contains-get_or, Position, Win, HasValue}
-use Rattle.gm_find.proofs.Lower.{IsOnlyWin, IsOnlyAfter, IsOnlyDefence, AfterDefence}
+use Rattle.gm_find.proofs.Lower.{◌<◌, ◌-◌, ℕ, List, get_or, refl, sym, ◌∙◌, subst, arith, Contains, take_all, Contains-get_or, Position, Win, HasValue, IsOnlyAfter}
+use Rattle.gm_find.specs.Finding.{IsOnlyWin, IsOnlyDefence, AfterDefence}
 use Rattle.gm_find.proofs.Onlies.{each_more, turn_is, same_answer, win_is, is_win}
 use Rattle.gm_find.proofs.only_line.+turns.Goals as goal
 

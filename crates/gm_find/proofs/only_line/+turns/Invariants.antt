@@ -1,4 +1,5 @@
-use Rattle.gm_find.proofs.Lower.{ℕ, ◌+◌, ◌-◌, take, Contains, IsOnlyAfter, IsOnlyDefence}
+use Rattle.gm_find.proofs.Lower.{ℕ, ◌+◌, ◌-◌, take, Contains, IsOnlyAfter}
+use Rattle.gm_find.specs.Finding.{IsOnlyDefence}
 use Rattle.std.proofs.Common.{◌*◌}
 use Rattle.gm_find.proofs.only_line.+turns.Given as goal
 

@@ -1,5 +1,5 @@
-use Rattle.gm_find.proofs.Lower.{◌<◌, ◌∷◌, [], ℕ, List, map, take, length, get_or, ap, sym, subst, arith, ◌∙◌, is_some, take_more, take_all, map-append, Position, at, Adds}
-use Rattle.gm_find.proofs.Lower.{IsMatch, take-map}
+use Rattle.gm_find.proofs.Lower.{◌<◌, ◌∷◌, [], ℕ, List, map, take, length, get_or, ap, sym, subst, arith, ◌∙◌, is_some, take_more, take_all, Position, at, Adds, IsMatch}
+use Rattle.std.proofs.lemmas.List.{map-append, take-map}
 use Rattle.gm_find.proofs.ListLemmas.{adds_more, adds_full, adds_none, adds_one}
 use Rattle.gm_find.proofs.positions.add_run.Goals.{then-is_sought+in_ok-push, else-is_sought}
 use Rattle.gm_find.proofs.positions.add_run.Goals as goal

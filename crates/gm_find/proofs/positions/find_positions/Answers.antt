@@ -1,5 +1,7 @@
-use Rattle.gm_find.proofs.Lower.{◌≡◌, ◌<◌, ◌+◌, ◌-◌, ◌++◌, ◌∷◌, [], ℕ, List, take, length, get_or, ap, sym, subst, ◌∙◌, is_some, take_more, take_all, append-nil, Contains-get_or}
-use Rattle.gm_find.proofs.Lower.{Position, Rules, Adds, IsFirst, IsMatch, at, held_own, positions_in, all_positions, flat_map-append}
+use Rattle.gm_find.proofs.Lower.{◌≡◌, ◌<◌, ◌+◌, ◌-◌, ◌++◌, ◌∷◌, [], ℕ, List, take, length, get_or, ap, sym, subst, ◌∙◌, is_some, take_more, take_all, Contains-get_or, Position, Rules, Adds, IsFirst, IsMatch, at, positions_in, all_positions}
+use Rattle.std.proofs.lemmas.List.{append-nil}
+use Rattle.gm_play.proofs.Held.{held_own}
+use Rattle.std.proofs.lemmas.Grind.{flat_map-append}
 use Rattle.gm_find.proofs.ListLemmas.{first_append, run_first}
 use Rattle.gm_find.proofs.Matching.{run_has}
 use Rattle.gm_find.proofs.positions.find_positions.Goals.{in-Some+in_ok-add_run-in-Some, in-None+in_ok-add_all-in-None}

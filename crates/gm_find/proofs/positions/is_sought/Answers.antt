@@ -1,4 +1,5 @@
-use Rattle.gm_find.proofs.Lower.{held_own, is_some}
+use Rattle.gm_play.proofs.Held.{held_own}
+use Rattle.gm_find.proofs.Lower.{is_some}
 use Rattle.gm_find.proofs.Matching.{match_value}
 use Rattle.gm_find.proofs.positions.is_sought.Goals as goal
 

@@ -1,4 +1,6 @@
-use Rattle.gm_find.proofs.Lower.{ap, ◌∙◌, flat_map, found_row, IfOk-weaker}
+use Rattle.gm_find.proofs.Lower.{ap, ◌∙◌, found_row}
+use Rattle.std.specs.List.{flat_map}
+use Rattle.std.proofs.lemmas.Result.{IfOk-weaker}
 use Rattle.gm_find.proofs.rows.find_text.Goals as goal
 
 pub returns : goal.returns

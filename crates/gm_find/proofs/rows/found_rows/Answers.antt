@@ -1,4 +1,5 @@
-use Rattle.gm_find.proofs.Lower.{refl, found_row, flat_more, flat_all}
+use Rattle.gm_find.proofs.Lower.{refl, found_row}
+use Rattle.gm_play.proofs.Rows.{flat_more, flat_all}
 use Rattle.gm_find.proofs.rows.found_rows.Goals as goal
 
 pub push_found-requires : goal.push_found-requires

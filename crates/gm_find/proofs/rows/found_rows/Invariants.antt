@@ -1,4 +1,5 @@
-use Rattle.gm_find.proofs.Lower.{◌≡◌, take, flat_map, found_row}
+use Rattle.gm_find.proofs.Lower.{◌≡◌, take, found_row}
+use Rattle.std.specs.List.{flat_map}
 use Rattle.gm_find.proofs.rows.found_rows.Given as goal
 
 abbrev pub invariant-loop-x : goal.invariant-loop-x

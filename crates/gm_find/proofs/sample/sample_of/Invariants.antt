@@ -1,4 +1,6 @@
-use Rattle.gm_find.proofs.Lower.{◌≡◌, ◌≤◌, ◌+◌, ◌-◌, take, length, ArePicked, min}
+use Rattle.gm_find.proofs.Lower.{◌≡◌, ◌+◌, ◌-◌, take, length}
+use Rattle.std.proofs.Common.{◌≤◌, min}
+use Rattle.gm_find.specs.Samples.{ArePicked}
 use Rattle.gm_find.proofs.sample.sample_of.Given as goal
 
 abbrev pub invariant-loop-place : goal.invariant-loop-place

@@ -1,4 +1,6 @@
-use Rattle.gm_find.proofs.Lower.{◌∙◌, false, true, sym, ◌≡◌, rules, not-false}
+use Rattle.gm_find.proofs.Lower.{◌∙◌, true, sym, ◌≡◌}
+use Rattle.std.proofs.Common.{false, rules}
+use Rattle.std.proofs.lemmas.Bool.{not-false}
 use Rattle.gm_find.proofs.Keys.{key_found}
 use Rattle.gm_find.proofs.Searching.{found_old, found_new}
 use Rattle.gm_find.proofs.search.find.Goals as goal

@@ -1,4 +1,5 @@
-use Rattle.gm_find.proofs.Lower.{IfOk-from_err, drop_all, drop_more}
+use Rattle.std.proofs.lemmas.Result.{IfOk-from_err}
+use Rattle.std.proofs.lemmas.List.{drop_all, drop_more}
 use Rattle.gm_find.proofs.Searching.{taken}
 use Rattle.gm_find.proofs.search.find_children.Goals as goal
 

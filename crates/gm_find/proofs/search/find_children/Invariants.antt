@@ -1,4 +1,5 @@
-use Rattle.gm_find.proofs.Lower.{◌++◌, ◌∷◌, [], IsSearched, drop}
+use Rattle.gm_find.proofs.Lower.{◌++◌, ◌∷◌, [], IsSearched}
+use Rattle.std.proofs.Common.{drop}
 use Rattle.gm_find.proofs.search.find_children.Given as goal
 
 abbrev pub invariant-loop-child : goal.invariant-loop-child

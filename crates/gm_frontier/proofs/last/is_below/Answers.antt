@@ -1,4 +1,5 @@
-use Rattle.gm_frontier.proofs.Lower.{ap, sym, ◌∙◌, refl, option_copied}
+use Rattle.gm_frontier.proofs.Lower.{ap, sym, ◌∙◌, refl}
+use Rattle.std.specs.Option.{option_copied}
 use Rattle.gm_frontier.proofs.LastLemmas.{held_none, held_some}
 use Rattle.gm_frontier.proofs.last.is_below.Goals as goal
 

@@ -1,4 +1,5 @@
-use Rattle.gm_frontier.proofs.Lower.{ap, sym, ◌∙◌, subst, option_copied, IsChildPart}
+use Rattle.gm_frontier.proofs.Lower.{ap, sym, ◌∙◌, subst, IsChildPart}
+use Rattle.std.specs.Option.{option_copied}
 use Rattle.gm_frontier.proofs.RecordLemmas.{child_recorded, child_notes}
 use Rattle.gm_frontier.proofs.part.child_part.Goals as goal
 

@@ -1,4 +1,5 @@
-use Rattle.gm_frontier.proofs.Lower.{◌≡◌, List, length, get_or, ap, sym, ◌∙◌, arith, NoteData, length-flat_map-take}
+use Rattle.gm_frontier.proofs.Lower.{◌≡◌, List, length, get_or, ap, sym, ◌∙◌, arith, NoteData}
+use Rattle.std.proofs.lemmas.List.Folds.{length-flat_map-take}
 use Rattle.gm_frontier.proofs.part.note_count.Goals as goal
 
 pub overflow_add-count : goal.overflow_add-count

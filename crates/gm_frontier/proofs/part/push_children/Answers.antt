@@ -1,5 +1,6 @@
-use Rattle.gm_frontier.proofs.Lower.{IfOk-from_err, ℕ, List, ◌++◌, get_or, refl, sym, ap, subst, ◌∙◌, Contains, flat_map, take_all, Contains-get_or}
-use Rattle.gm_frontier.proofs.Lower.{contains_none, joined, IsChildPart, notes_of_tier, append-nil}
+use Rattle.gm_frontier.proofs.Lower.{IfOk-from_err, ℕ, List, ◌++◌, get_or, refl, sym, ap, subst, ◌∙◌, Contains, flat_map, take_all, contains_none, joined, IsChildPart, notes_of_tier}
+use Rattle.std.proofs.lemmas.List.Elements.{Contains-get_or}
+use Rattle.std.proofs.Common.{append-nil}
 use Rattle.gm_frontier.proofs.PieceLemmas.{joined_more, all_more}
 use Rattle.gm_frontier.proofs.part.push_children.Goals as goal
 

@@ -1,4 +1,5 @@
-use Rattle.gm_frontier.proofs.Lower.{rules, filter-from_retain}
+use Rattle.gm_frontier.proofs.Lower.{rules}
+use Rattle.arrayvec.proofs.ArrayVecLemmas.{filter-from_retain}
 use Rattle.gm_frontier.proofs.row.keep_within.Goals as goal
 
 pub returns : goal.returns

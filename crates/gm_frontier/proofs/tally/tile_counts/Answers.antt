@@ -1,5 +1,4 @@
-use Rattle.gm_frontier.proofs.Lower.{rules, ◌≡◌, ◌∙◌, ℕ, ◌+◌, ◌<◌, ◌/◌, List, length, get_or, subst, Contains, contains_first, contains_later, NoteData}
-use Rattle.gm_frontier.proofs.Lower.{tile_count}
+use Rattle.gm_frontier.proofs.Lower.{rules, ◌≡◌, ◌∙◌, ℕ, ◌+◌, ◌<◌, ◌/◌, List, length, get_or, subst, Contains, contains_first, contains_later, NoteData, tile_count}
 use Rattle.gm_frontier.proofs.TallyLemmas.{counted_more, room_left}
 use Rattle.gm_frontier.proofs.tally.tile_counts.Goals as goal
 

@@ -1,4 +1,5 @@
-use Rattle.gm_frontier.proofs.Lower.{◌≡◌, ℕ, ◌<◌, ◌+◌, ◌/◌, get_or, Contains, NoteData, tile_count, vec_len}
+use Rattle.gm_frontier.proofs.Lower.{◌≡◌, ℕ, ◌<◌, ◌+◌, ◌/◌, get_or, Contains, NoteData, tile_count}
+use Rattle.std.proofs.Common.{vec_len}
 use Rattle.gm_frontier.proofs.tally.tile_counts.Given as goal
 
 abbrev pub invariant-loop-parent : goal.invariant-loop-parent

@@ -1,8 +1,9 @@
-use Rattle.gm_game.proofs.Lower.{◌≡◌, [], ◌∷◌, ◌++◌, ◌+◌, ◌-◌, ◌≤◌, List, Option, map, take, get_or, is_some, ◌&&◌, IfSome, arith, sym, ap, true, Some, ℕ, ◌∙◌}
-use Rattle.gm_game.proofs.Lower.{subst, take_all, Contains-get_or, list_all, Solved, children, evaluated, lost_in, tied_in, least_of, all_won, lesser, greater}
+use Rattle.gm_game.proofs.Lower.{◌≡◌, [], ◌∷◌, ◌++◌, ◌+◌, ◌-◌, ◌≤◌, List, Option, map, take, get_or, is_some, ◌&&◌, arith, sym, ap, true, Some, ℕ, ◌∙◌, subst, list_all, Solved, children, evaluated, lost_in, tied_in, least_of, all_won, lesser, greater}
+use Rattle.std.proofs.Common.{IfSome}
+use Rattle.std.proofs.lemmas.List.{take_all}
+use Rattle.std.proofs.lemmas.List.Elements.{Contains-get_or}
 use Rattle.std.specs.List.{Contains}
-use Rattle.gm_game.proofs.Folding.{least_push, all_won_push, known_push, one_more, evaluated_small, fits_since, evaluated_open, when_known, when_unknown}
-use Rattle.gm_game.proofs.Folding.{evaluated_at_end}
+use Rattle.gm_game.proofs.Folding.{least_push, all_won_push, known_push, one_more, evaluated_small, fits_since, evaluated_open, when_known, when_unknown, evaluated_at_end}
 use Rattle.gm_game.proofs.ahead.+look_ahead.Goals.{then-known, else-known}
 use Rattle.gm_game.proofs.ahead.+look_ahead.Goals as goal
 

@@ -1,4 +1,9 @@
-use Rattle.gm_game.proofs.Lower.{◌≡◌, Ok, sym, ap, subst, ◌∙◌, parse-decimal, IsAscii-decimal, result_ok, IsUtf8, IsUtf8-from_ascii}
+use Rattle.gm_game.proofs.Lower.{◌≡◌, sym, ap, subst, ◌∙◌}
+use Rattle.std.proofs.Common.{Ok}
+use Rattle.std.proofs.lemmas.Fmt.{parse-decimal, IsAscii-decimal}
+use Rattle.std.specs.Result.{result_ok}
+use Rattle.std.specs.Str.{IsUtf8}
+use Rattle.std.proofs.lemmas.Str.{IsUtf8-from_ascii}
 use Rattle.gm_game.proofs.text.parsed.Goals as goal
 
 pub returns-in-Ok : goal.returns-in-Ok

@@ -1,4 +1,7 @@
-use Rattle.gm_immediate.proofs.Lower.{List, get_or, sym, subst, arith, Contains, take_all, Position, at, HasSame, no_repeats_to}
+use Rattle.gm_immediate.proofs.Lower.{List, get_or, sym, subst, arith, Contains, Position, at}
+use Rattle.std.proofs.lemmas.List.{take_all}
+use Rattle.gm_game.specs.Children.{HasSame}
+use Rattle.gm_table.proofs.Distinct.{no_repeats_to}
 use Rattle.gm_immediate.proofs.OnceLemmas.{listed_old, listed_new}
 use Rattle.gm_immediate.proofs.once.list_once.Goals.{then-not-is_among, else-not-is_among}
 use Rattle.gm_immediate.proofs.once.list_once.Goals as goal

@@ -1,4 +1,7 @@
-use Rattle.gm_immediate.proofs.Lower.{ℕ, ◌+◌, sym, subst, arith, AreThere, value_in, is_decided, AreOnce, IsDeliveryIn}
+use Rattle.gm_immediate.proofs.Lower.{ℕ, ◌+◌, sym, subst, arith, AreThere, IsDeliveryIn}
+use Rattle.gm_table.specs.Tables.{value_in}
+use Rattle.gm_table.specs.inner.Shorts.{is_decided}
+use Rattle.gm_immediate.specs.inner.Gathered.{AreOnce}
 use Rattle.gm_immediate.proofs.Deliveries.{deliveries_inner}
 use Rattle.gm_immediate.proofs.Values.{gathered_sum, stays, value_true, decides, too_far, number_few}
 use Rattle.gm_immediate.proofs.position.settle_inner.Goals as goal

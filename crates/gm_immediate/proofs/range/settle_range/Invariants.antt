@@ -1,4 +1,5 @@
-use Rattle.gm_immediate.proofs.Lower.{◌≡◌, ◌≤◌, ◌-◌, cache_of}
+use Rattle.gm_immediate.proofs.Lower.{◌≡◌, ◌≤◌, ◌-◌}
+use Rattle.gm_table.specs.inner.Caches.{cache_of}
 use Rattle.gm_immediate.proofs.Parts.{ArePassed}
 use Rattle.gm_immediate.proofs.range.settle_range.Given as goal
 

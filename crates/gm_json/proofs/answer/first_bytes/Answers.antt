@@ -1,4 +1,5 @@
-use Rattle.gm_json.proofs.Lower.{◌<◌, length, sym, arith, length-take, take_all}
+use Rattle.gm_json.proofs.Lower.{◌<◌, length, sym, arith, length-take}
+use Rattle.std.proofs.lemmas.List.{take_all}
 use Rattle.gm_json.proofs.answer.first_bytes.Goals as goal
 
 pub slice_bounds-result-end : goal.slice_bounds-result-end

@@ -1,5 +1,4 @@
-use Rattle.gm_json.proofs.Lower.{◌≡◌, ◌++◌, [], List, ℕ, true, false, codes, ap, refl, ◌∙◌, Members, member, no_members, string, members_text, take, whole}
-use Rattle.gm_json.proofs.Lower.{text, member_text}
+use Rattle.gm_json.proofs.Lower.{◌≡◌, ◌++◌, [], List, ℕ, true, false, codes, ap, refl, ◌∙◌, Members, member, no_members, string, members_text, take, whole, text, member_text}
 use Rattle.gm_json.proofs.Writing.{opened, member_next, clear_lossy}
 use Rattle.gm_json.proofs.answer.no_position.Goals as goal
 

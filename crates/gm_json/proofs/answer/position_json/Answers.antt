@@ -1,4 +1,6 @@
-use Rattle.gm_json.proofs.Lower.{[], List, subst, sym, All, IfOk-weaker, MoveValue, IsMoveOf, AreMovesOf}
+use Rattle.gm_json.proofs.Lower.{[], List, subst, sym, All, MoveValue}
+use Rattle.std.proofs.lemmas.Result.{IfOk-weaker}
+use Rattle.gm_play.specs.PlayTexts.{IsMoveOf, AreMovesOf}
 use Rattle.gm_json.proofs.Answering.{with_moves, without_moves}
 use Rattle.gm_json.proofs.answer.position_json.Goals as goal
 

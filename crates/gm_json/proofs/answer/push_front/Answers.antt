@@ -1,5 +1,4 @@
-use Rattle.gm_json.proofs.Lower.{◌++◌, ◌∷◌, Bool, false, codes, sym, ap, ◌∙◌, if◌then◌else◌, on_ok_weaker, Members, member, members_text, move_trees}
-use Rattle.gm_json.proofs.Lower.{position_members}
+use Rattle.gm_json.proofs.Lower.{◌++◌, ◌∷◌, Bool, false, codes, sym, ap, ◌∙◌, if◌then◌else◌, on_ok_weaker, Members, member, members_text, move_trees, position_members}
 use Rattle.gm_json.proofs.Writing.{opened, member_next}
 use Rattle.gm_json.proofs.answer.push_front.Goals as goal
 

@@ -1,4 +1,4 @@
-use Rattle.gm_json.proofs.Lower.{◌+◌, [], List, ℕ, drop, subst, arith, drop_more, drop_all, on_ok_weaker, IsAnswer, IsOfOutput, Midst}
+use Rattle.gm_json.proofs.Lower.{◌+◌, [], List, ℕ, drop, subst, arith, drop_more, drop_all, on_ok_weaker, IsAnswer, IsAskOutputError, Midst}
 use Rattle.gm_json.proofs.Serving.{opens, closes, unwritten, broken_output}
 use Rattle.gm_json.proofs.Exits.{passed, err_kind}
 use Rattle.gm_json.proofs.ask.answer_block.Goals as goal
@@ -51,6 +51,6 @@ returns-clause-err g c r0 r1 r2 w0 h reads =
     let at_end : Midst says hand.number hand.line.items hand.answers.items [] r0 r2 w0 (g.W.Write.contents c.loop-byte.output)
     = subst (λ (ahead : List ℕ). Midst says hand.number hand.line.items hand.answers.items ahead r0 r2 w0 (g.W.Write.contents c.loop-byte.output))
     (drop_all k c.args.block.now c.loop-byte-test.false) (c.loop-byte.invariant.goes r0 r1 r2 w0 h reads) in
-    err_kind c.flush.result IsOfOutput _ _
+    err_kind c.flush.result IsAskOutputError _ _
     (λ e k part. broken_output says e _ _ _ _ k (unwritten says hand.number hand.line.items hand.answers.items [] r0 r2 w0 _ at_end _ part))
     c.flush.ensures.kind c.flush.ensures.err

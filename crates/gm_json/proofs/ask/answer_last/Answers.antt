@@ -1,4 +1,5 @@
-use Rattle.gm_json.proofs.Lower.{◌≡◌, ◌<◌, length, arith, rules, on_ok_weaker, IsAnswer, IsOfOutput, Keeps-refl}
+use Rattle.gm_json.proofs.Lower.{◌≡◌, ◌<◌, length, arith, rules, on_ok_weaker, IsAnswer, IsAskOutputError}
+use Rattle.std.proofs.KnownBytes.{Keeps-refl}
 use Rattle.gm_json.proofs.Serving.{all_served, last_done, last_failed, last_refused}
 use Rattle.gm_json.proofs.Exits.{passed, err_kind}
 use Rattle.gm_json.proofs.ask.answer_last.Goals as goal
@@ -29,7 +30,7 @@ returns-clause-ok g c r0 r1 r2 w0 h same end =
 pub returns-clause-err : goal.returns-clause-err
 returns-clause-err g c r0 r1 r2 w0 h same =
     let some : 0 < length c.args.hand.now.line.items = grind (arith, c.is_empty.ensures, c.if-is_empty.false) in
-    err_kind c.flush.result IsOfOutput _ _
+    err_kind c.flush.result IsAskOutputError _ _
     (λ e k part. last_failed (IsAnswer g.G.Game.rules g.G.Shown.shown g.G.Shown.move_shown c.args.asked c.args.tiers.now) c.args.hand.now.number
     c.args.hand.now.line.items r0 r1 r2 w0 _ h same _ some e c.args.hand.now.answers.items
     c.take_answer.new.hand.answers.items c.requires.answers c.in_ok-take_answer.ensures.ok k part)

@@ -1,4 +1,4 @@
-use Rattle.gm_json.proofs.Lower.{on_ok_weaker, IsAnswer, IsOfOutput}
+use Rattle.gm_json.proofs.Lower.{on_ok_weaker, IsAnswer, IsAskOutputError}
 use Rattle.gm_json.proofs.Serving.{line_said, line_unsaid, line_cut}
 use Rattle.gm_json.proofs.Exits.{err_kind}
 use Rattle.gm_json.proofs.ask.end_line.Goals as goal
@@ -17,6 +17,6 @@ returns-in-Ok-clause-err g c =
     let line = c.args.hand.now.line.items in
     let n = c.args.hand.now.number in
     let answers = c.args.hand.now.answers.items in
-    err_kind c.next_line.result IsOfOutput _ _
+    err_kind c.next_line.result IsAskOutputError _ _
     (λ e k part. line_cut says e line n answers _ _ k (line_unsaid says line n answers c.take_answer.new.hand.answers.items _ _ c.in-Ok.ensures.ok part))
     c.next_line.ensures.kind c.next_line.ensures.err

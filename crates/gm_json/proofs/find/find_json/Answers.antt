@@ -1,4 +1,6 @@
-use Rattle.gm_json.proofs.Lower.{ap, ◌∙◌, flat_map, IfOk-weaker, found_line}
+use Rattle.gm_json.proofs.Lower.{ap, ◌∙◌, found_line}
+use Rattle.std.specs.List.{flat_map}
+use Rattle.std.proofs.lemmas.Result.{IfOk-weaker}
 use Rattle.gm_json.proofs.find.find_json.Goals as goal
 
 pub returns : goal.returns

@@ -1,4 +1,6 @@
-use Rattle.gm_json.proofs.Lower.{ap, ◌∙◌, line_of, found_line, flat_more, flat_all, view-Object}
+use Rattle.gm_json.proofs.Lower.{ap, ◌∙◌, line_of, found_line}
+use Rattle.gm_play.proofs.Rows.{flat_more, flat_all}
+use Rattle.serde_json.proofs.Views.{view-Object}
 use Rattle.gm_json.proofs.NoFloat.{found_no_float}
 use Rattle.gm_json.proofs.find.found_lines.Goals as goal
 

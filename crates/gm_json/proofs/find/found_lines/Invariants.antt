@@ -1,4 +1,5 @@
-use Rattle.gm_json.proofs.Lower.{◌≡◌, take, flat_map, found_line}
+use Rattle.gm_json.proofs.Lower.{◌≡◌, take, found_line}
+use Rattle.std.specs.List.{flat_map}
 use Rattle.gm_json.proofs.find.found_lines.Given as goal
 
 abbrev pub invariant-loop-x : goal.invariant-loop-x

@@ -1,5 +1,9 @@
-use Rattle.gm_json.proofs.Lower.{◌≡◌, ◌+◌, ◌≤◌, ◌++◌, true, length, ℕ, List, [], drop, get_or, sym, ap, subst, ◌∙◌, drop_more, drop_all, Data, null, Position}
-use Rattle.gm_json.proofs.Lower.{AreBest, text, line_of, end_line, step_tree, steps_from, view, best_step, refl, rules, ap₂, Null, the_lemmas}
+use Rattle.gm_json.proofs.Lower.{◌≡◌, ◌+◌, ◌≤◌, ◌++◌, true, length, ℕ, List, [], drop, get_or, sym, ap, subst, ◌∙◌, drop_more, drop_all, Data, Position, AreBest, text, line_of, step_tree, steps_from, refl, rules, ap₂}
+use Rattle.serde_json.specs.Data.{null}
+use Rattle.gm_json.specs.Lines.{end_line}
+use Rattle.serde_json.specs.View.{view}
+use Rattle.gm_play.proofs.Rows.{best_step}
+use Rattle.serde_json.specs.declared.value.Value.{Null, the_lemmas}
 use Rattle.gm_json.proofs.Steps.{steps_end, steps_next, steps_true}
 use Rattle.gm_json.proofs.line.line_json.Goals as goal
 

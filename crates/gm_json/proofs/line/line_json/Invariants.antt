@@ -1,4 +1,5 @@
-use Rattle.gm_json.proofs.Lower.{◌≡◌, true, ◌++◌, drop, null, AreBest, line_of, step_tree, steps_from}
+use Rattle.gm_json.proofs.Lower.{◌≡◌, true, ◌++◌, drop, AreBest, line_of, step_tree, steps_from}
+use Rattle.serde_json.specs.Data.{null}
 use Rattle.gm_json.proofs.line.line_json.Given as goal
 
 abbrev pub invariant-loop-number : goal.invariant-loop-number

@@ -1,5 +1,6 @@
-use Rattle.gm_json.proofs.Lower.{◌≡◌, ◌++◌, ◌∷◌, [], List, ℕ, true, false, codes, refl, ap, sym, subst, ◌∙◌, All, compact_text, MoveValue, IsMoveOf, moves_tree}
-use Rattle.gm_json.proofs.Lower.{member, no_members, members_text, move_trees, position_members}
+use Rattle.gm_json.proofs.Lower.{◌≡◌, ◌++◌, ◌∷◌, [], List, ℕ, true, false, codes, refl, ap, sym, subst, ◌∙◌, All, compact_text, MoveValue, member, no_members, members_text, move_trees, position_members}
+use Rattle.gm_play.specs.PlayTexts.{IsMoveOf}
+use Rattle.gm_json.specs.Moves.{moves_tree}
 use Rattle.gm_json.proofs.Writing.{opened, member_next}
 use Rattle.gm_json.proofs.moves.moves_json.Goals as goal
 

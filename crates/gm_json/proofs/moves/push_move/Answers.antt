@@ -1,5 +1,4 @@
-use Rattle.gm_json.proofs.Lower.{◌≡◌, ◌++◌, List, ℕ, ◌∷◌, true, false, codes, ap, ◌∙◌, on_ok_weaker, Members, member, no_members, string, members_text}
-use Rattle.gm_json.proofs.Lower.{member_text, value_word, whole, text}
+use Rattle.gm_json.proofs.Lower.{◌≡◌, ◌++◌, List, ℕ, ◌∷◌, true, false, codes, ap, ◌∙◌, on_ok_weaker, Members, member, no_members, string, members_text, member_text, value_word, whole, text}
 use Rattle.gm_json.proofs.Writing.{opened, member_next}
 use Rattle.gm_json.proofs.moves.push_move.Goals as goal
 

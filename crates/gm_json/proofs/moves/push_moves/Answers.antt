@@ -1,5 +1,5 @@
-use Rattle.gm_json.proofs.Lower.{◌++◌, List, ℕ, ◌∷◌, [], false, codes, map, refl, ap, ◌∙◌, on_ok_weaker, items_of, items_text, move_tree, move_trees}
-use Rattle.gm_json.proofs.Lower.{append_assoc, comma_if, compact_text, get_or, key_text}
+use Rattle.gm_json.proofs.Lower.{◌++◌, List, ℕ, ◌∷◌, [], false, codes, map, refl, ap, ◌∙◌, on_ok_weaker, items_of, items_text, move_trees, append_assoc, comma_if, compact_text, get_or, key_text}
+use Rattle.gm_json.specs.Moves.{move_tree}
 use Rattle.gm_json.proofs.Writing.{opened, items_more, items_end, value_after}
 use Rattle.gm_json.proofs.moves.push_moves.Goals as goal
 

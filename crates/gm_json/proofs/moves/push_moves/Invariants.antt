@@ -1,4 +1,5 @@
-use Rattle.gm_json.proofs.Lower.{◌≡◌, ◌++◌, ◌∷◌, false, codes, map, drop, items_of, items_text, move_tree, key_text}
+use Rattle.gm_json.proofs.Lower.{◌≡◌, ◌++◌, ◌∷◌, false, codes, map, drop, items_of, items_text, key_text}
+use Rattle.gm_json.specs.Moves.{move_tree}
 use Rattle.gm_json.proofs.moves.push_moves.Given as goal
 
 abbrev pub invariant-loop-x : goal.invariant-loop-x

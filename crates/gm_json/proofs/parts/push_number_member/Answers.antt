@@ -1,4 +1,5 @@
-use Rattle.gm_json.proofs.Lower.{refl, on_ok_weaker, whole, decimal}
+use Rattle.gm_json.proofs.Lower.{refl, on_ok_weaker, whole}
+use Rattle.std.specs.Fmt.{decimal}
 use Rattle.gm_json.proofs.Writing.{value_after}
 use Rattle.gm_json.proofs.parts.push_number_member.Goals as goal
 

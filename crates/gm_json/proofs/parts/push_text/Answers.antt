@@ -1,4 +1,5 @@
-use Rattle.gm_json.proofs.Lower.{◌≡◌, ◌++◌, List, ℕ, OnOk, sym, subst, ◌∙◌, quoted}
+use Rattle.gm_json.proofs.Lower.{◌≡◌, ◌++◌, List, ℕ, sym, subst, ◌∙◌, quoted}
+use Rattle.std.proofs.Common.{OnOk}
 use Rattle.gm_json.proofs.Writing.{clear_lossy}
 use Rattle.gm_json.proofs.parts.push_text.Goals as goal
 

@@ -1,4 +1,6 @@
-use Rattle.gm_json.proofs.Lower.{◌≡◌, List, ℕ, true, sym, ap, subst, ◌∙◌, list_all, on_ok_weaker, quoted, string, is_clear, value_word}
+use Rattle.gm_json.proofs.Lower.{◌≡◌, List, ℕ, true, sym, ap, subst, ◌∙◌, on_ok_weaker, quoted, string, value_word}
+use Rattle.std.specs.List.{list_all}
+use Rattle.gm_json.specs.inner.Parts.{is_clear}
 use Rattle.gm_json.proofs.Writing.{value_after, word_clear}
 use Rattle.gm_json.proofs.parts.push_value_member.Goals as goal
 

@@ -1,4 +1,5 @@
-use Rattle.gm_json.proofs.Lower.{◌≡◌, ◌∷◌, [], Some, refl, sym, subst, ap₂, at, IsPlaceLine}
+use Rattle.gm_json.proofs.Lower.{◌≡◌, ◌∷◌, [], Some, refl, sym, subst, ap₂, at}
+use Rattle.gm_json.specs.Places.{IsPlaceLine}
 use Rattle.gm_json.proofs.Placing.{has_space, words_of, names}
 use Rattle.std.proofs.lemmas.Bool.Decides.{Decides-eqb}
 use Rattle.std.proofs.lemmas.Slice.Eq.{strip_prefix_is}

@@ -1,4 +1,6 @@
-use Rattle.gm_locks.proofs.Lower.{◌≡◌, ℕ, List, Some, slice_get, true, false, refl, subst, ◌∙◌, arith, is_err, listed_at, NoteData, piece_of, piece_pairs}
+use Rattle.gm_locks.proofs.Lower.{◌≡◌, ℕ, List, Some, slice_get, true, false, refl, subst, ◌∙◌, arith, NoteData, piece_of, piece_pairs}
+use Rattle.std.specs.Result.{is_err}
+use Rattle.gm_frontier.proofs.PieceLemmas.{listed_at}
 use Rattle.gm_locks.proofs.Gains.{stays}
 use Rattle.gm_locks.proofs.RoundLemmas.{IsNext, of_piece, next_there, next_new, next_taken, next_refused}
 use Rattle.gm_locks.proofs.PieceLemmas.{run_next}

@@ -1,4 +1,6 @@
-use Rattle.gm_locks.proofs.Lower.{◌≡◌, ◌-◌, ◌≤◌, take, drop, spot_of, AreFirst, AreNew, piece_pairs}
+use Rattle.gm_locks.proofs.Lower.{◌≡◌, ◌-◌, ◌≤◌, spot_of, AreFirst, piece_pairs}
+use Rattle.std.proofs.Common.{take, drop}
+use Rattle.gm_locks.specs.Pieces.{AreNew}
 use Rattle.gm_locks.proofs.piece.deliver_from.Given as goal
 
 abbrev pub invariant-loop-k : goal.invariant-loop-k

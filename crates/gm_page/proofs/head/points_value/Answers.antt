@@ -1,5 +1,7 @@
-use Rattle.gm_page.proofs.Lower.{◌≡◌, ◌+◌, ◌++◌, ◌∷◌, [], List, ℕ, ap, subst, ◌∙◌, drop, drop_more, drop_all, map, map-append, view, view-Array, Data, text}
-use Rattle.gm_page.proofs.Lower.{texts, array, items_of, Bor}
+use Rattle.gm_page.proofs.Lower.{◌≡◌, ◌+◌, ◌++◌, ◌∷◌, [], List, ℕ, ap, subst, ◌∙◌, drop, drop_more, drop_all, map, view, view-Array, Data, text, array, items_of}
+use Rattle.std.proofs.lemmas.List.{map-append}
+use Rattle.gm_draw.specs.Pictures.{texts}
+use Rattle.std.specs.Borrow.{Bor}
 use Rattle.gm_page.proofs.Rowing.{written_next, written_end}
 use Rattle.gm_page.proofs.head.points_value.Goals as goal
 

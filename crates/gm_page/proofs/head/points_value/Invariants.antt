@@ -1,4 +1,5 @@
-use Rattle.gm_page.proofs.Lower.{◌≡◌, ◌++◌, drop, map, view, text, texts}
+use Rattle.gm_page.proofs.Lower.{◌≡◌, ◌++◌, drop, map, view, text}
+use Rattle.gm_draw.specs.Pictures.{texts}
 use Rattle.gm_page.proofs.head.points_value.Given as goal
 
 abbrev pub invariant-loop-point : goal.invariant-loop-point

@@ -1,4 +1,6 @@
-use Rattle.gm_page.proofs.Lower.{◌≡◌, false, sym, subst, ap, ◌∙◌, Data, Members, object, has_float, view-Object}
+use Rattle.gm_page.proofs.Lower.{◌≡◌, false, sym, subst, ap, ◌∙◌, Data, has_float}
+use Rattle.serde_json.specs.Data.{Members, object}
+use Rattle.serde_json.proofs.Views.{view-Object}
 use Rattle.gm_page.proofs.Rowing.{head_without}
 use Rattle.gm_page.proofs.head.push_head.Goals as goal
 

@@ -1,4 +1,5 @@
-use Rattle.gm_page.proofs.Lower.{◌≡◌, ℕ, List, get_or, refl, sym, subst, ◌∙◌, Contains, false≢true, Contains-get_or, Position}
+use Rattle.gm_page.proofs.Lower.{◌≡◌, ℕ, List, get_or, refl, sym, subst, ◌∙◌, Contains, Contains-get_or, Position}
+use Rattle.std.proofs.lemmas.Bool.{false≢true}
 use Rattle.gm_page.proofs.Closing.{each_next, each_done}
 use Rattle.gm_page.proofs.listing.has_results.Goals as goal
 

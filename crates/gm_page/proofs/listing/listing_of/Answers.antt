@@ -1,5 +1,6 @@
-use Rattle.gm_page.proofs.Lower.{◌<◌, ◌≤◌, List, length, map, get_or, subst, sym, ap, ◌∙◌, Position, MoveValue, AreMoveValues, IsReached, result_of, []}
-use Rattle.gm_page.proofs.Lower.{with_all, at, rules, arith, slice_get-get_or, Contains-get_or}
+use Rattle.gm_page.proofs.Lower.{◌<◌, ◌≤◌, List, length, map, get_or, subst, sym, ap, ◌∙◌, Position, MoveValue, IsReached, result_of, [], with_all, at, rules, arith, Contains-get_or}
+use Rattle.gm_play.specs.MoveValues.{AreMoveValues}
+use Rattle.std.proofs.lemmas.Option.{slice_get-get_or}
 use Rattle.gm_page.proofs.Reaching.{all_through, more_through, reached_on, through_known}
 use Rattle.gm_page.proofs.listing.listing_of.Goals as goal
 

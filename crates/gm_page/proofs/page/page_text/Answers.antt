@@ -1,4 +1,5 @@
-use Rattle.gm_page.proofs.Lower.{◌≡◌, ◌++◌, ℕ, List, refl, subst, flat_map, head_tree, script_line, rules, page_front, page_back}
+use Rattle.gm_page.proofs.Lower.{◌≡◌, ◌++◌, ℕ, List, refl, subst, flat_map, head_tree, script_line, rules}
+use Rattle.gm_page.specs.Pages.{page_front, page_back}
 use Rattle.gm_page.proofs.Paging.{parts_of}
 use Rattle.gm_page.proofs.Reaching.{listing_held}
 use Rattle.gm_page.proofs.page.page_text.Goals as goal

@@ -1,4 +1,10 @@
-use Rattle.gm_page.proofs.Lower.{◌++◌, BETWEEN, ASKING, BOARDS, PLAYING, CHOOSING, DRAWING}
+use Rattle.gm_page.proofs.Lower.{◌++◌}
+use Rattle.gm_page.specs.declared.engine.TheConstants.{BETWEEN}
+use Rattle.gm_page.specs.declared.viewer_asking.TheConstants.{ASKING}
+use Rattle.gm_page.specs.declared.viewer_boards.TheConstants.{BOARDS}
+use Rattle.gm_page.specs.declared.viewer_playing.TheConstants.{PLAYING}
+use Rattle.gm_page.specs.declared.viewer_choosing.TheConstants.{CHOOSING}
+use Rattle.gm_page.specs.declared.viewer_drawing.TheConstants.{DRAWING}
 use Rattle.gm_page.specs.Pages.{page_back}
 use Rattle.gm_page.proofs.Paging.{before_others}
 use Rattle.gm_page.proofs.page.push_back.Goals as goal

@@ -1,6 +1,8 @@
-use Rattle.gm_page.proofs.Lower.{◌≡◌, false, [], ◌∷◌, ◌++◌, List, map, sym, refl, ap, subst, ◌∙◌, All, All-drop, map-append, Data, view, view-Array, array, items_of}
-use Rattle.gm_page.proofs.Lower.{has_float, on_ok_weaker, rules, MoveValue, IsMoveOf, are_moves, text, text_of, Group, AreGroups, group_tree, row_tree, script_line}
-use Rattle.std.proofs.lemmas.List.Elements.{All-take}
+use Rattle.gm_page.proofs.Lower.{◌≡◌, false, [], ◌∷◌, ◌++◌, List, map, sym, refl, ap, subst, ◌∙◌, All, Data, view, view-Array, array, items_of, has_float, on_ok_weaker, rules, MoveValue, text, text_of, Group, AreGroups, group_tree, row_tree, script_line}
+use Rattle.std.proofs.lemmas.List.Elements.{All-drop, All-take}
+use Rattle.std.proofs.lemmas.List.{map-append}
+use Rattle.gm_play.specs.PlayTexts.{IsMoveOf}
+use Rattle.gm_play.proofs.Rows.{are_moves}
 use Rattle.gm_page.proofs.Rowing.{AreGrouped, is_run, none_first, row_without, written_next, written_end}
 use Rattle.gm_page.proofs.rows.push_row.Goals as goal
 

@@ -1,4 +1,5 @@
-use Rattle.gm_page.proofs.Lower.{List, ◌++◌, length, map, All, view, Group, AreGroups, IsMoveOf, group_tree}
+use Rattle.gm_page.proofs.Lower.{List, ◌++◌, length, map, All, view, Group, AreGroups, group_tree}
+use Rattle.gm_play.specs.PlayTexts.{IsMoveOf}
 use Rattle.gm_page.proofs.Rowing.{AreGrouped}
 use Rattle.gm_page.proofs.rows.push_row.Given as goal
 

@@ -1,5 +1,5 @@
-use Rattle.gm_page.proofs.Lower.{◌≡◌, ◌++◌, ◌∷◌, [], List, sym, subst, refl, drop_more, drop_all, flat_map, Data, Position, at, IsReached, All, IsRow, AreRows}
-use Rattle.gm_page.proofs.Lower.{script_line}
+use Rattle.gm_page.proofs.Lower.{◌≡◌, ◌++◌, ◌∷◌, [], List, sym, subst, refl, drop_more, drop_all, flat_map, Data, Position, at, IsReached, All, AreRows, script_line}
+use Rattle.gm_page.specs.Rows.{IsRow}
 use Rattle.gm_page.proofs.Rowing.{HasRows, written_next, written_end}
 use Rattle.gm_page.proofs.rows.push_rows.Goals as goal
 

@@ -1,4 +1,4 @@
-use Rattle.gm_page.proofs.Lower.{ℕ, List, [], ◌∷◌, ◌++◌, sym, subst, refl, drop_more, drop_all, flat_map, Found, Entry, entry_text, answer_text, AreEntries}
+use Rattle.gm_page.proofs.Lower.{ℕ, List, [], ◌∷◌, ◌++◌, sym, subst, refl, drop_more, drop_all, flat_map, Found, Entry, entry_text, solution_item, AreEntries}
 use Rattle.gm_page.proofs.Rowing.{written_next, written_end}
 use Rattle.gm_page.proofs.Sheeting.{HasEntries}
 use Rattle.gm_page.proofs.sheet.push_entries.Goals as goal
@@ -17,9 +17,9 @@ loop-x-preserved g c rest are =
     let old = c.loop-x.entries.items in
     let new_answers = c.push_entry.new.answers.items in
     let (e, is, n, m) = c.in_ok-push_entry.ensures in
-    written_next (λ (t : List ℕ). Has t (new_answers ++ flat_map answer_text rest)) old (entry_text e) c.push_entry.new.entries.items
+    written_next (λ (t : List ℕ). Has t (new_answers ++ flat_map solution_item rest)) old (entry_text e) c.push_entry.new.entries.items
     (flat_map entry_text rest) n
-    (written_next (Has (old ++ (entry_text e ++ flat_map entry_text rest))) c.loop-x.answers.items (answer_text e) new_answers (flat_map answer_text rest) m
+    (written_next (Has (old ++ (entry_text e ++ flat_map entry_text rest))) c.loop-x.answers.items (solution_item e) new_answers (flat_map solution_item rest) m
     (c.loop-x.invariant (e ∷ rest) (subst (λ (xs : List Found). Are xs (e ∷ rest)) (sym (drop_more c.args.found.now c.loop-x.x-index _ c.loop-x-test.true))
     (is, are))))
 

@@ -1,4 +1,6 @@
-use Rattle.gm_page.proofs.Lower.{ℕ, List, true, sym, subst, ◌∙◌, on_ok_weaker, Entry, IsDiagram, IsSolution}
+use Rattle.gm_page.proofs.Lower.{ℕ, List, true, sym, subst, ◌∙◌, on_ok_weaker, Entry}
+use Rattle.gm_page.specs.ShowTexts.{IsDiagram}
+use Rattle.gm_page.specs.Sheets.{IsSolution}
 use Rattle.gm_page.proofs.sheet.push_entry.Goals as goal
 
 pub returns : goal.returns

@@ -1,5 +1,8 @@
-use Rattle.gm_page.proofs.Lower.{◌≡◌, ◌++◌, ℕ, List, sym, subst, ap, ap₂, ◌∙◌, flat_map, All, IfOk-weaker, Found, AreEntries, All-contains_itself, chosen_in}
-use Rattle.gm_page.proofs.Lower.{IsKnownAt, entry_text, answer_text, heading, lists}
+use Rattle.gm_page.proofs.Lower.{◌≡◌, ◌++◌, ℕ, List, sym, subst, ap, ap₂, ◌∙◌, flat_map, All, Found, AreEntries, entry_text, solution_item}
+use Rattle.std.proofs.lemmas.Result.{IfOk-weaker}
+use Rattle.std.proofs.lemmas.List.Elements.{All-contains_itself}
+use Rattle.gm_find.proofs.Telling.{chosen_in}
+use Rattle.gm_page.specs.Sheets.{IsKnownFound, heading, lists}
 use Rattle.std.specs.Option.{is_some}
 use Rattle.gm_page.proofs.sheet.sheet_text.Goals as goal
 
@@ -7,7 +10,7 @@ pub push_entries-requires : goal.push_entries-requires
 push_entries-requires g c =
     let r = g.G.Game.rules in
     let xs = c.in_ok-found.found.items in
-    subst (All (IsKnownAt r c.args.known.now.tables.now)) (sym c.as_slice.ensures.value)
+    subst (All (IsKnownFound r c.args.known.now.tables.now)) (sym c.as_slice.ensures.value)
     (λ k d inside. (
       c.in_ok-found.ensures.each k d inside,
       c.args.known.now.held _ (chosen_in r c.args.sought (is_some c.args.reached) c.args.choice c.args.known.now.tiers.now xs c.in_ok-found.ensures.chosen _
@@ -19,7 +22,7 @@ returns g c =
     let (es, are, a, b) = c.in_ok-push_entries.ensures in
     let entries : c.as_slice-2.result.now ≡ flat_map entry_text es = c.as_slice-2.ensures.value ∙ a ∙ ap (λ (t : List ℕ). t ++ flat_map entry_text es)
     c.new-entries.ensures.items in
-    let answers : c.as_slice-3.result.now ≡ flat_map answer_text es = c.as_slice-3.ensures.value ∙ b ∙ ap (λ (t : List ℕ). t ++ flat_map answer_text es)
+    let answers : c.as_slice-3.result.now ≡ flat_map solution_item es = c.as_slice-3.ensures.value ∙ b ∙ ap (λ (t : List ℕ). t ++ flat_map solution_item es)
     c.new-answers.ensures.items in
     IfOk-weaker c.sheet_with.result _ _ (λ v h. record {
       found = c.in_ok-found.found.items;

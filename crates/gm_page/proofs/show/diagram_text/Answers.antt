@@ -1,4 +1,6 @@
-use Rattle.gm_page.proofs.Lower.{refl, IfOk-weaker, IsDiagram}
+use Rattle.gm_page.proofs.Lower.{refl}
+use Rattle.std.proofs.lemmas.Result.{IfOk-weaker}
+use Rattle.gm_page.specs.ShowTexts.{IsDiagram}
 use Rattle.gm_page.proofs.show.diagram_text.Goals as goal
 
 pub returns : goal.returns

@@ -1,4 +1,5 @@
-use Rattle.gm_page.proofs.Lower.{refl, arith, common_steps}
+use Rattle.gm_page.proofs.Lower.{refl, arith}
+use Rattle.std.proofs.lemmas.Grind.{common_steps}
 use Rattle.gm_page.proofs.show.show_text.Goals.{then-explained+in_ok-push_naming, else-explained}
 use Rattle.gm_page.proofs.show.show_text.Goals as goal
 

@@ -1,5 +1,6 @@
-use Rattle.gm_page.proofs.Lower.{ap₂, append_assoc, codes, escaped, ◌≡◌, ◌+◌, ◌++◌, true, ℕ, List, drop, get_or, refl, sym, subst, ◌∙◌, append-nil, Position}
-use Rattle.gm_page.proofs.Lower.{AreBest, steps_text, drop_more, drop_all, best_step}
+use Rattle.gm_page.proofs.Lower.{ap₂, append_assoc, codes, ◌≡◌, ◌+◌, ◌++◌, true, ℕ, List, drop, get_or, refl, sym, subst, ◌∙◌, append-nil, Position, AreBest, steps_text, drop_more, drop_all}
+use Rattle.gm_draw.specs.Diagrams.{escaped}
+use Rattle.gm_play.proofs.Rows.{best_step}
 use Rattle.gm_page.proofs.Sheeting.{steps_next}
 use Rattle.gm_page.proofs.solution.push_steps.Goals as goal
 

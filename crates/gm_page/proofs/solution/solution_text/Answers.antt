@@ -1,4 +1,7 @@
-use Rattle.gm_page.proofs.Lower.{subst, arith, Position, IsBestLine, SOLUTION_MOVES, common_steps}
+use Rattle.gm_page.proofs.Lower.{subst, arith, Position}
+use Rattle.gm_play.specs.BestLines.{IsBestLine}
+use Rattle.gm_page.specs.declared.solution.TheConstants.{SOLUTION_MOVES}
+use Rattle.std.proofs.lemmas.Grind.{common_steps}
 use Rattle.gm_page.proofs.solution.solution_text.Goals.{in-Some+in_ok-push_move-in-Some+in_ok-push_line-in-Some, in-None+in_ok-extend_from_slice-in-None}
 use Rattle.gm_page.proofs.solution.solution_text.Goals as goal
 

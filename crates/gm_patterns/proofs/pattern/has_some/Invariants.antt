@@ -1,5 +1,5 @@
 use Rattle.std.specs.Prelude.{◌≡◌, take}
-use Rattle.gm_patterns.specs.Lower.{board_of}
+use Rattle.gm_board.specs.Images.{board_of}
 use Rattle.gm_patterns.specs.Patterns.{has_some}
 use Rattle.gm_patterns.proofs.pattern.has_some.Given as goal
 

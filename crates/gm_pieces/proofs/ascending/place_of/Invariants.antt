@@ -1,5 +1,5 @@
-use Rattle.std.specs.Prelude.{ℕ, length}
-use Rattle.gm_pieces.proofs.Lower.{◌<◌, ◌≤◌, slice_index}
+use Rattle.std.specs.Prelude.{ℕ, length, slice_index}
+use Rattle.gm_pieces.proofs.Lower.{◌<◌, ◌≤◌}
 use Rattle.gm_pieces.proofs.ascending.place_of.Given as goal
 
 abbrev pub invariant-loop-next : goal.invariant-loop-next

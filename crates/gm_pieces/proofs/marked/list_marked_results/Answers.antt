@@ -1,8 +1,9 @@
-use Rattle.gm_pieces.proofs.Lower.{◌≡◌, ◌<◌, ◌++◌, ◌∷◌, ℕ, [], true, length, map, List, Position, HasSame, sym, ap, subst, ◌∙◌, arith, next_images, board_game, least_image, position_after, plays}
-use Rattle.std.proofs.Common.{append_assoc}
+use Rattle.gm_pieces.proofs.Lower.{◌≡◌, ◌<◌, ◌++◌, ◌∷◌, ℕ, [], length, map, List, Position, HasSame, sym, ap, subst, ◌∙◌, arith, next_images, board_game, position_after}
+use Rattle.std.proofs.Common.{true, append_assoc}
+use Rattle.gm_game.specs.Boards.{least_image}
+use Rattle.gm_pieces.specs.laws.MoveLaws.{plays, plays_not}
 use Rattle.std.proofs.lemmas.List.{append-nil, length-append}
-use Rattle.gm_pieces.specs.Marking.{marked}
-use Rattle.gm_pieces.specs.laws.MoveLaws.{plays_not}
+use Rattle.gm_pieces.specs.inner.Marking.{marked}
 use Rattle.gm_pieces.specs.laws.MarkedFacts.{first_in, later_in, one_less, marked_move, move_fits, steps_counted, results_marked, results_over}
 use Rattle.gm_pieces.proofs.marked.list_marked_results.Goals as goal
 

@@ -1,5 +1,7 @@
-use Rattle.gm_pieces.proofs.Lower.{◌≤◌, ◌+◌, ◌++◌, ℕ, length, map, Contains, HasSame, IsMove, next_images, board_game, position_after}
-use Rattle.gm_pieces.specs.Marking.{marked}
+use Rattle.gm_pieces.proofs.Lower.{◌≤◌, ◌+◌, ◌++◌, ℕ, length, map, HasSame, next_images, board_game, position_after}
+use Rattle.std.specs.List.{Contains}
+use Rattle.gm_pieces.specs.MoveGames.{IsMove}
+use Rattle.gm_pieces.specs.inner.Marking.{marked}
 use Rattle.gm_pieces.proofs.marked.list_marked_results.Given as goal
 
 abbrev pub invariant-loop-number : goal.invariant-loop-number

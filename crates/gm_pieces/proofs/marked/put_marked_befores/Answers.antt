@@ -1,7 +1,9 @@
-use Rattle.gm_pieces.proofs.Lower.{◌≡◌, ◌∷◌, ℕ, [], length, List, map, sym, ap, ap₂, ◌∙◌, arith, board_game, befores, least_index, put, put_all}
+use Rattle.gm_pieces.proofs.Lower.{◌≡◌, ◌∷◌, ℕ, [], length, List, map, sym, ap, ap₂, ◌∙◌, arith, board_game, least_index, put_all}
+use Rattle.gm_pieces.specs.MoveGames.{befores}
+use Rattle.gm_game.specs.Ascending.{put}
 use Rattle.gm_board.specs.laws.Lists.{and_left, and_right}
 use Rattle.gm_game.proofs.Putting.{put_few}
-use Rattle.gm_pieces.specs.Marking.{marked, index_before}
+use Rattle.gm_pieces.specs.inner.Marking.{marked, index_before}
 use Rattle.gm_pieces.specs.laws.MarkedFacts.{first_in, later_in, one_less, marked_led, led_fits, befores_room, befores_marked}
 use Rattle.gm_pieces.proofs.marked.put_marked_befores.Goals as goal
 

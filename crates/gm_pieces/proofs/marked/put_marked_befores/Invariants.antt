@@ -1,5 +1,7 @@
-use Rattle.gm_pieces.proofs.Lower.{◌≡◌, ◌≤◌, ◌+◌, ℕ, [], length, map, Contains, board_game, befores, least_index, put_all}
-use Rattle.gm_pieces.specs.Marking.{IsLed, marked, index_before}
+use Rattle.gm_pieces.proofs.Lower.{◌≡◌, ◌≤◌, ◌+◌, ℕ, [], length, map, board_game, least_index, put_all}
+use Rattle.std.specs.List.{Contains}
+use Rattle.gm_pieces.specs.MoveGames.{befores}
+use Rattle.gm_pieces.specs.inner.Marking.{IsLed, marked, index_before}
 use Rattle.gm_pieces.proofs.marked.put_marked_befores.Given as goal
 
 abbrev pub invariant-loop-number : goal.invariant-loop-number

@@ -1,4 +1,7 @@
-use Rattle.gm_pieces.proofs.Lower.{ℕ, List, eqb, length, filter, range_with_len, sym, ap, ◌∙◌, arith, step_listed, tried_none, tried_out, edge_past}
+use Rattle.gm_pieces.proofs.Lower.{ℕ, List, length, filter, range_with_len, sym, ap, ◌∙◌, arith, edge_past}
+use Rattle.std.proofs.Common.{eqb}
+use Rattle.gm_pieces.specs.laws.MoveLaws.{step_listed}
+use Rattle.gm_pieces.specs.laws.TriedFacts.{tried_none, tried_out}
 use Rattle.gm_pieces.specs.MoveGames.{steps}
 use Rattle.gm_pieces.proofs.moves.has_no_move.Goals as goal
 

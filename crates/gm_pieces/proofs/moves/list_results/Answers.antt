@@ -1,4 +1,7 @@
-use Rattle.gm_pieces.proofs.Lower.{◌≡◌, true, sym, ap, subst, ◌∙◌, least_image, board_game, listed_move, one_listed}
+use Rattle.gm_pieces.proofs.Lower.{◌≡◌, sym, ap, subst, ◌∙◌, board_game}
+use Rattle.std.proofs.Common.{true}
+use Rattle.gm_game.specs.Boards.{least_image}
+use Rattle.gm_pieces.specs.laws.ChildFacts.{listed_move, one_listed}
 use Rattle.gm_pieces.proofs.moves.list_results.Goals as goal
 
 pub moved-requires-clause-step : goal.moved-requires-clause-step

@@ -1,6 +1,10 @@
-use Rattle.gm_pieces.proofs.Lower.{◌+◌, ◌<◌, ℕ, [], map, filter_map, range_with_len, put, put_all, least_index, sym, ap, ap₂, ◌∙◌, arith, board_game, before_at}
-use Rattle.gm_pieces.proofs.Lower.{number_at, before_skip, before_room, puts_none, puts_some, puts_same, edge_at, edge_past}
-use Rattle.gm_pieces.specs.MoveGames.{befores}
+use Rattle.gm_pieces.proofs.Lower.{◌+◌, ◌<◌, ℕ, [], map, range_with_len, put_all, least_index, sym, ap, ap₂, ◌∙◌, arith, board_game, edge_past}
+use Rattle.std.specs.List.{filter_map}
+use Rattle.gm_game.specs.Ascending.{put}
+use Rattle.gm_pieces.specs.MoveGames.{before_at, befores}
+use Rattle.gm_pieces.specs.inner.Tried.{number_at}
+use Rattle.gm_pieces.specs.laws.MoveLaws.{before_skip, before_room}
+use Rattle.gm_pieces.specs.laws.TriedFacts.{puts_none, puts_some, puts_same, edge_at}
 use Rattle.gm_pieces.proofs.moves.put_befores.Goals.{in-Some, in-None}
 use Rattle.gm_pieces.proofs.moves.put_befores.Goals as goal
 

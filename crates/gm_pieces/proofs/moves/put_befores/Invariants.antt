@@ -1,4 +1,6 @@
-use Rattle.gm_pieces.proofs.Lower.{◌≡◌, [], map, filter_map, range_with_len, put_all, least_index, board_game, before_at, edge}
+use Rattle.gm_pieces.proofs.Lower.{◌≡◌, [], map, range_with_len, put_all, least_index, board_game, edge}
+use Rattle.std.specs.List.{filter_map}
+use Rattle.gm_pieces.specs.MoveGames.{before_at}
 use Rattle.gm_pieces.proofs.moves.put_befores.Given as goal
 
 abbrev pub invariant-loop-place : goal.invariant-loop-place

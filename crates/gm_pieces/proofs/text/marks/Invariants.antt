@@ -1,4 +1,6 @@
-use Rattle.gm_pieces.proofs.Lower.{◌<◌, ◌^◌, IsRead}
+use Rattle.gm_pieces.proofs.Lower.{◌<◌}
+use Rattle.std.specs.Prelude.{◌^◌}
+use Rattle.gm_board.specs.laws.Marks.{IsRead}
 use Rattle.gm_pieces.proofs.text.marks.Given as goal
 
 abbrev pub invariant-loop-cell : goal.invariant-loop-cell

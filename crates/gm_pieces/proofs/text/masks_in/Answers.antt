@@ -1,4 +1,5 @@
-use Rattle.gm_pieces.proofs.Lower.{arith, read_apart}
+use Rattle.gm_pieces.proofs.Lower.{arith}
+use Rattle.gm_board.specs.laws.Marks.{read_apart}
 use Rattle.gm_pieces.proofs.text.masks_in.Goals as goal
 
 pub returns-clause-apart : goal.returns-clause-apart

@@ -1,4 +1,5 @@
-use Rattle.gm_play.proofs.Lower.{◌-◌, length, AreFresh}
+use Rattle.gm_play.proofs.Lower.{◌-◌, length}
+use Rattle.gm_play.specs.BestLines.{AreFresh}
 use Rattle.gm_play.proofs.Walking.{IsOnWay}
 use Rattle.gm_play.proofs.best_line.follow.Given as goal
 

@@ -1,4 +1,5 @@
-use Rattle.gm_play.proofs.Lower.{◌≡◌, None, sym, subst, IsBestMove, option_map, rules}
+use Rattle.gm_play.proofs.Lower.{◌≡◌, None, sym, subst, IsBestMove, rules}
+use Rattle.std.specs.Option.{option_map}
 use Rattle.gm_play.proofs.Wanted.{best_is, children_known, none_if}
 use Rattle.gm_play.proofs.best_moves.best_of.Goals as goal
 

@@ -1,4 +1,5 @@
-use Rattle.gm_play.proofs.Lower.{◌≡◌, take, get_or, sym, subst, ◌∙◌, take_more, IsAscending}
+use Rattle.gm_play.proofs.Lower.{◌≡◌, take, get_or, sym, subst, ◌∙◌, take_more}
+use Rattle.gm_game.specs.Rules.{IsAscending}
 use Rattle.gm_play.proofs.Choosing.{considered}
 use Rattle.gm_play.proofs.Wanted.{all_below}
 use Rattle.gm_play.proofs.best_moves.choose.Goals as goal

@@ -1,4 +1,5 @@
-use Rattle.gm_play.proofs.Lower.{MoveValue, IsMoveValue, All-permutation, IsPermutation-map}
+use Rattle.gm_play.proofs.Lower.{MoveValue, IsMoveValue}
+use Rattle.std.proofs.lemmas.List.Sorted.{All-permutation, IsPermutation-map}
 use Rattle.gm_play.proofs.Held.{held_own, held_children}
 use Rattle.gm_play.proofs.Wanted.{children_known, own_known}
 use Rattle.gm_play.proofs.Ranking.{begins_best}

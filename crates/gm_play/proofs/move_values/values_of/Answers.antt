@@ -1,5 +1,5 @@
-use Rattle.gm_play.proofs.Lower.{◌≡◌, ◌<◌, ◌≤◌, ℕ, List, ◌∷◌, [], length, map, take, get_or, sym, ap, ◌∙◌, subst, arith, Contains, take_more, refl, take_all}
-use Rattle.gm_play.proofs.Lower.{map-append, length-take-le, All-push, MoveValue, IsMoveValue, length-map, Contains-get_or}
+use Rattle.gm_play.proofs.Lower.{◌≡◌, ◌<◌, ◌≤◌, ℕ, List, ◌∷◌, [], length, map, take, get_or, sym, ap, ◌∙◌, subst, arith, Contains, take_more, refl, take_all, length-take-le, All-push, MoveValue, IsMoveValue, Contains-get_or}
+use Rattle.std.proofs.lemmas.List.{map-append, length-map}
 use Rattle.gm_play.proofs.move_values.values_of.Goals as goal
 
 -- there is room for one more

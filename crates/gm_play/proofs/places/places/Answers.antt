@@ -1,5 +1,10 @@
-use Rattle.gm_play.proofs.Lower.{◌≡◌, ℕ, true, List, refl, sym, ap, subst, ◌∙◌, arith, Position, IsGame, Rules, IsShown, at, same_position, Located, PlaceError}
-use Rattle.gm_play.proofs.Lower.{NoSuchTier, NoSuchIndex, NotLegal, NotCanonical, IsAt, IsRefusedAt, IsLocated, ArePlaces}
+use Rattle.gm_play.proofs.Lower.{◌≡◌, ℕ, true, List, refl, sym, ap, subst, ◌∙◌, arith, Position, IsGame, Rules, IsShown}
+use Rattle.gm_game.specs.Rules.{at}
+use Rattle.gm_game.proofs.SetLemmas.{same_position}
+use Rattle.gm_play.specs.declared.places.Located.{Located}
+use Rattle.gm_play.specs.declared.places.PlaceError.{PlaceError}
+use Rattle.gm_play.specs.declared.places.PlaceError.TheVariants.{NoSuchTier, NoSuchIndex, NotLegal, NotCanonical}
+use Rattle.gm_play.specs.Places.{IsAt, IsRefusedAt, IsLocated, ArePlaces}
 use Rattle.gm_play.proofs.places.places.Goals as goal
 
 module _ (r : Rules) (g : IsGame r) (shown : Position → List ℕ) (move_shown : Position → ℕ → List ℕ) (t : IsShown r shown move_shown) where

@@ -1,5 +1,7 @@
-use Rattle.gm_play.proofs.Lower.{◌≡◌, ◌≢◌, ◌+◌, [], drop, drop_more, drop_all, get_or, true, Option, None, Some, is_some, refl, subst, arith, inl, End}
-use Rattle.gm_play.proofs.Lower.{IsReplied}
+use Rattle.gm_play.proofs.Lower.{◌≡◌, ◌≢◌, ◌+◌, [], drop, drop_more, get_or, true, Option, None, Some, refl, subst, arith, inl, End}
+use Rattle.std.proofs.lemmas.List.{drop_all}
+use Rattle.std.proofs.Common.{is_some}
+use Rattle.gm_play.specs.Lines.{IsReplied}
 use Rattle.gm_play.proofs.Playing.{answers, played, ends_last, replies_on, replies_not, reached_answered, reached_replied, moves_answered, moves_replied}
 use Rattle.gm_play.proofs.Reaching.{own_reached}
 use Rattle.gm_play.proofs.Wanted.{none_if}

@@ -1,4 +1,6 @@
-use Rattle.gm_play.proofs.Lower.{◌≡◌, ◌∙◌, ◌+◌, ◌≤◌, ◌<◌, ◌++◌, ◌∷◌, [], length, ℕ, arith, SESSION_BYTES, KEPT, Advice, eq-eqb, ne_eqb}
+use Rattle.gm_play.proofs.Lower.{◌≡◌, ◌∙◌, ◌+◌, ◌≤◌, ◌<◌, ◌++◌, ◌∷◌, [], length, ℕ, arith, SESSION_BYTES, KEPT, Advice}
+use Rattle.std.proofs.Common.{eq-eqb}
+use Rattle.std.proofs.lemmas.Bool.{ne_eqb}
 use Rattle.std.proofs.lemmas.Result.{on_ok_weaker, IfErr-weaker}
 use Rattle.gm_play.proofs.Kept.{kept_push, kept_full}
 use Rattle.gm_play.proofs.Parts.{passed}

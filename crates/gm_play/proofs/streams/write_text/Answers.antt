@@ -1,4 +1,6 @@
-use Rattle.gm_play.proofs.Lower.{◌-◌, ◌++◌, length, take, drop, sym, ap, subst, ◌∙◌, arith, rules, length-take, Appends, Appends-trans, take-add, take-take}
+use Rattle.gm_play.proofs.Lower.{◌-◌, ◌++◌, length, take, drop, sym, ap, subst, ◌∙◌, arith, rules, Appends, Appends-trans}
+use Rattle.std.proofs.lemmas.List.{length-take, take-take}
+use Rattle.std.proofs.Common.{take-add}
 use Rattle.gm_play.proofs.Parts.{part_stuck, part_kept}
 use Rattle.gm_play.proofs.streams.write_text.Goals as goal
 

@@ -1,4 +1,5 @@
-use Rattle.gm_play.proofs.Lower.{refl, ap, sym, subst, ◌∙◌, All, flat_map, move_row, IsMoveOf}
+use Rattle.gm_play.proofs.Lower.{refl, ap, sym, subst, ◌∙◌, All, flat_map, IsMoveOf}
+use Rattle.gm_play.specs.PlayTexts.{move_row}
 use Rattle.gm_play.proofs.Rows.{flat_more, flat_all}
 use Rattle.gm_play.proofs.texts.moves_text.Goals as goal
 

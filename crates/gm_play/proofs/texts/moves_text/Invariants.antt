@@ -1,4 +1,5 @@
-use Rattle.gm_play.proofs.Lower.{◌≡◌, take, flat_map, move_row}
+use Rattle.gm_play.proofs.Lower.{◌≡◌, take, flat_map}
+use Rattle.gm_play.specs.PlayTexts.{move_row}
 use Rattle.gm_play.proofs.texts.moves_text.Given as goal
 
 abbrev pub invariant-loop-x : goal.invariant-loop-x

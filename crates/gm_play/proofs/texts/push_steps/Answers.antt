@@ -1,4 +1,5 @@
-use Rattle.gm_play.proofs.Lower.{sym, ◌∙◌, drop_more, drop_all, append_assoc, append-nil}
+use Rattle.gm_play.proofs.Lower.{sym, ◌∙◌, drop_more, append_assoc, append-nil}
+use Rattle.std.proofs.lemmas.List.{drop_all}
 use Rattle.gm_play.proofs.Rows.{best_step}
 use Rattle.gm_play.proofs.texts.push_steps.Goals as goal
 

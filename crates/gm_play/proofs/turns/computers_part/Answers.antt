@@ -1,5 +1,4 @@
-use Rattle.gm_play.proofs.Lower.{List, ℕ, ◌++◌, ◌∙◌, [], codes, None, Some, sym, ap, ap₂, refl, subst, length, arith, append-nil, Computer, IsBestMove, winner}
-use Rattle.gm_play.proofs.Lower.{◌≡◌, Option, IsSome, Position, Rules}
+use Rattle.gm_play.proofs.Lower.{List, ℕ, ◌++◌, ◌∙◌, [], codes, None, Some, sym, ap, ap₂, refl, subst, length, arith, append-nil, Computer, IsBestMove, winner, ◌≡◌, Option, IsSome, Position, Rules}
 use Rattle.gm_play.proofs.Saying.{nested, over_short, computer_plays}
 use Rattle.gm_play.proofs.turns.computers_part.Goals as goal
 

@@ -1,5 +1,7 @@
-use Rattle.gm_play.proofs.Lower.{Some, refl, sym, subst, ◌∙◌, Position, IsBestMove, ◌≡◌, ℕ, true, ap, IsGame, Rules, IsTrueValue, after_best, Exchange}
-use Rattle.gm_play.proofs.Lower.{left_after, value_left, IsExchange}
+use Rattle.gm_play.proofs.Lower.{Some, refl, sym, subst, ◌∙◌, Position, IsBestMove, ◌≡◌, ℕ, true, ap, IsGame, Rules, IsTrueValue}
+use Rattle.gm_play.specs.PlayTexts.{after_best}
+use Rattle.gm_play.specs.declared.why.Exchange.{Exchange}
+use Rattle.gm_play.specs.Why.{left_after, value_left, IsExchange}
 use Rattle.gm_play.proofs.Rows.{after_true}
 use Rattle.gm_play.proofs.why.exchange_after.Goals as goal
 

@@ -1,7 +1,9 @@
-use Rattle.gm_play.proofs.Lower.{refl, sym, subst, ◌∙◌, All, MoveValue, IsMoveValue, IsMoveOf, AreExchangeRows, List, take_all, [], All-nil, ◌≡◌, ℕ, ◌+◌, ◌<◌}
-use Rattle.gm_play.proofs.Lower.{◌∷◌, ◌++◌, length, take, get_or, ap₂, take_more, map-append, flat_map-append, All-push, Position, Rules, Exchange, made_of}
-use Rattle.gm_play.proofs.Lower.{IsExchange, exchange_row}
-use Rattle.std.proofs.lemmas.List.{append-nil}
+use Rattle.gm_play.proofs.Lower.{refl, sym, subst, ◌∙◌, All, MoveValue, IsMoveValue, IsMoveOf, List, take_all, [], ◌≡◌, ℕ, ◌+◌, ◌<◌, ◌∷◌, ◌++◌, length, take, get_or, ap₂, take_more, All-push, Position, Rules}
+use Rattle.gm_play.specs.Why.{AreExchangeRows, made_of, IsExchange, exchange_row}
+use Rattle.std.proofs.lemmas.List.Elements.{All-nil}
+use Rattle.std.proofs.lemmas.List.{map-append, append-nil}
+use Rattle.std.proofs.lemmas.Grind.{flat_map-append}
+use Rattle.gm_play.specs.declared.why.Exchange.{Exchange}
 use Rattle.gm_play.proofs.why.why_text.Goals as goal
 
 module _ (r : Rules) (shown : Position → List ℕ) (move_shown : Position → ℕ → List ℕ) (p : Position) where

@@ -1,4 +1,5 @@
-use Rattle.gm_play.proofs.Lower.{take, AreExchangeRows}
+use Rattle.gm_play.proofs.Lower.{take}
+use Rattle.gm_play.specs.Why.{AreExchangeRows}
 use Rattle.gm_play.proofs.why.why_text.Given as goal
 
 abbrev pub invariant-loop-x : goal.invariant-loop-x

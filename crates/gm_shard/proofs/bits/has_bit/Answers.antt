@@ -1,4 +1,8 @@
-use Rattle.gm_shard.proofs.Lower.{◌≡◌, ◌==◌, ◌↔◌, ℕ, subst, sym, bit_at, shr_and_one, Decides-eqb}
+use Rattle.gm_shard.proofs.Lower.{◌≡◌, ◌↔◌, ℕ, subst, sym}
+use Rattle.std.proofs.Common.{◌==◌}
+use Rattle.std.specs.Int.{bit_at}
+use Rattle.std.proofs.lemmas.Nat.Bits.{shr_and_one}
+use Rattle.std.proofs.lemmas.Bool.Decides.{Decides-eqb}
 use Rattle.std.specs.Prelude.{IsTrue}
 use Rattle.gm_shard.proofs.bits.has_bit.Goals as goal
 

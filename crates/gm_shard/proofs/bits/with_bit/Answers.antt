@@ -1,5 +1,8 @@
-use Rattle.std.proofs.Common.{◌*◌}
-use Rattle.gm_shard.proofs.Lower.{◌%◌, ◌^◌, arith, or_lt, w128, bit_at_set_same, bit_at_set_other}
+use Rattle.std.proofs.Common.{◌*◌, ◌%◌, ◌^◌}
+use Rattle.gm_shard.proofs.Lower.{arith}
+use Rattle.std.proofs.lemmas.Nat.{or_lt}
+use Rattle.std.specs.Int.{w128}
+use Rattle.std.proofs.lemmas.Nat.Bits.{bit_at_set_same, bit_at_set_other}
 use Rattle.gm_shard.proofs.bits.with_bit.Goals as goal
 
 pub returns-clause-same : goal.returns-clause-same

@@ -1,4 +1,5 @@
-use Rattle.gm_shard.proofs.Lower.{get_or, sym, refl, arith, slice_get-get_or}
+use Rattle.gm_shard.proofs.Lower.{get_or, sym, refl, arith}
+use Rattle.std.proofs.lemmas.Option.{slice_get-get_or}
 use Rattle.gm_shard.proofs.RunLemmas.{applied, not_applied}
 use Rattle.gm_shard.proofs.replay.apply.Goals as goal
 

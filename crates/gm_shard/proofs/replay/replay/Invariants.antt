@@ -1,4 +1,5 @@
-use Rattle.gm_shard.proofs.Lower.{ℕ, ◌<◌, ◌≤◌, drop, slice_index_or, ShardState, IsGood}
+use Rattle.gm_shard.proofs.Lower.{ℕ, ◌<◌, ◌≤◌, drop, ShardState, IsGood}
+use Rattle.std.proofs.Common.{slice_index_or}
 use Rattle.gm_shard.proofs.RunLemmas.{Leads}
 use Rattle.gm_shard.proofs.replay.replay.Given as goal
 

@@ -1,4 +1,7 @@
-use Rattle.gm_solver.proofs.Lower.{◌+◌, ◌-◌, REMOTENESS, place_of, IsLaterPlace}
+use Rattle.gm_solver.proofs.Lower.{◌+◌, REMOTENESS}
+use Rattle.std.proofs.Common.{◌-◌}
+use Rattle.gm_counters.specs.Steps.{place_of}
+use Rattle.gm_backward.specs.inner.Tiling.{IsLaterPlace}
 use Rattle.gm_solver.proofs.passes.finish_levels.Given as goal
 
 abbrev pub invariant-loop-tiles : goal.invariant-loop-tiles

@@ -1,4 +1,5 @@
-use Rattle.gm_solver.proofs.Lower.{subst, sym, Place, AreShardsAt}
+use Rattle.gm_solver.proofs.Lower.{subst, sym, Place}
+use Rattle.gm_backward.specs.inner.Tiling.{AreShardsAt}
 use Rattle.gm_solver.proofs.passes.run_level.Goals as goal
 
 pub run_passes-requires-clause-none : goal.run_passes-requires-clause-none

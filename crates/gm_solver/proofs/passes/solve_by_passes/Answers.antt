@@ -1,4 +1,7 @@
-use Rattle.gm_solver.proofs.Lower.{ℕ, sym, ap, subst, ◌∙◌, err_from_is_err_and, REMOTENESS, Place, AreHeld, IsTrueTable, IsNumberBefore}
+use Rattle.gm_solver.proofs.Lower.{ℕ, sym, ap, subst, ◌∙◌, REMOTENESS, Place, IsNumberBefore}
+use Rattle.std.proofs.lemmas.Result.{err_from_is_err_and}
+use Rattle.gm_table.specs.Tables.{AreHeld}
+use Rattle.gm_game.specs.Records.{IsTrueTable}
 use Rattle.gm_solver.proofs.passes.solve_by_passes.Goals as goal
 
 pub finish_levels-requires-clause-held : goal.finish_levels-requires-clause-held

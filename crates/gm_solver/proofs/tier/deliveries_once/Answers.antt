@@ -1,4 +1,4 @@
-use Rattle.gm_solver.proofs.Lower.{IsDelivery}
+use Rattle.gm_table.specs.Solving.{IsDelivery}
 use Rattle.gm_solver.proofs.FullLemmas.{there_once}
 use Rattle.gm_solver.proofs.tier.deliveries_once.Goals as goal
 

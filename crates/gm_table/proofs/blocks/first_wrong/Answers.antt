@@ -1,4 +1,5 @@
-use Rattle.gm_table.proofs.Lower.{ℕ, subst, IsFirstWrongIn}
+use Rattle.gm_table.proofs.Lower.{ℕ, subst}
+use Rattle.gm_table.specs.Checks.{IsFirstWrongIn}
 use Rattle.gm_table.proofs.CheckLemmas.{first_of_all}
 use Rattle.gm_table.proofs.blocks.first_wrong.Goals as goal
 

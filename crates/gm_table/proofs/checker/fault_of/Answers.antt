@@ -1,4 +1,6 @@
-use Rattle.gm_table.proofs.Lower.{◌≡◌, ℕ, length, rules, refl, Option, MatchOption, subst, FitsAt, IsFirstWrong}
+use Rattle.gm_table.proofs.Lower.{◌≡◌, ℕ, length, rules, refl, Option, subst, IsFirstWrong}
+use Rattle.std.proofs.Common.{MatchOption}
+use Rattle.gm_table.specs.Checks.{FitsAt}
 use Rattle.gm_table.proofs.ValueLemmas.{true_iff_fit}
 use Rattle.gm_table.proofs.VerdictLemmas.{true_no_first}
 use Rattle.gm_table.proofs.checker.fault_of.Goals as goal

@@ -1,4 +1,7 @@
-use Rattle.gm_table.proofs.Lower.{Option, IfSome, Err, refl, ap, subst, CheckError, AreWrong}
+use Rattle.gm_table.proofs.Lower.{Option, IfSome, refl, ap, subst}
+use Rattle.std.proofs.Common.{Err}
+use Rattle.gm_table.specs.declared.checker.CheckError.{CheckError}
+use Rattle.gm_table.specs.Checks.{AreWrong}
 use Rattle.gm_table.proofs.ValueLemmas.{true_iff_fit}
 use Rattle.gm_table.proofs.VerdictLemmas.{true_no_first, wrong_untrue, names_first}
 use Rattle.gm_table.proofs.checker.table_unless.Goals as goal

@@ -1,4 +1,5 @@
-use Rattle.gm_table.proofs.Lower.{◌+◌, ◌<◌, length, ◌∙◌, ap, arith, WinLose, Ties, later}
+use Rattle.gm_table.proofs.Lower.{◌+◌, ◌<◌, length, ◌∙◌, ap, arith, WinLose, Ties}
+use Rattle.gm_table.specs.Levels.{later}
 use Rattle.gm_table.proofs.HoleLemmas.{greatest_over}
 use Rattle.gm_table.proofs.LevelLemmas.{greatest_with_one}
 use Rattle.gm_table.proofs.levels.greatest_levels.Goals as goal

@@ -1,4 +1,5 @@
-use Rattle.gm_table.proofs.Lower.{◌≡◌, ◌<◌, ◌==◌, if◌then◌else◌, ℕ, List, [], ◌∷◌, ◌++◌, length, get_or, rules, refl, ap, ◌∙◌, with_item}
+use Rattle.gm_table.proofs.Lower.{◌≡◌, ◌<◌, ◌==◌, if◌then◌else◌, ℕ, List, [], ◌∷◌, ◌++◌, length, get_or, rules, refl, ap, ◌∙◌}
+use Rattle.std.specs.Vec.{with_item}
 use Rattle.gm_table.proofs.RunLemmas.{run_push}
 use Rattle.gm_table.proofs.runs.add.Goals as goal
 

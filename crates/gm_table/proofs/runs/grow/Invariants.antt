@@ -1,4 +1,6 @@
-use Rattle.gm_table.proofs.Lower.{◌≡◌, ℕ, ◌+◌, ◌-◌, vec_len, run_at}
+use Rattle.gm_table.proofs.Lower.{◌≡◌, ℕ, ◌+◌, ◌-◌}
+use Rattle.std.proofs.Common.{vec_len}
+use Rattle.gm_table.specs.inner.Runs.{run_at}
 use Rattle.gm_table.proofs.runs.grow.Given as goal
 
 abbrev pub invariant-loop-alloc : goal.invariant-loop-alloc

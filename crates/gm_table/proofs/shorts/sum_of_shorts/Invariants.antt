@@ -1,4 +1,6 @@
-use Rattle.gm_table.proofs.Lower.{◌≡◌, ◌≤◌, map, length, take, filter, is_decided, IsSummary, record_of_short, marked_short}
+use Rattle.gm_table.proofs.Lower.{◌≡◌, ◌≤◌, map, length, take, is_decided, IsSummary, record_of_short}
+use Rattle.std.specs.List.{filter}
+use Rattle.gm_table.specs.inner.Shorts.{marked_short}
 use Rattle.gm_table.proofs.shorts.sum_of_shorts.Given as goal
 
 abbrev pub invariant-loop-short : goal.invariant-loop-short

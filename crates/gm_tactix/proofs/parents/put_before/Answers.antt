@@ -1,5 +1,6 @@
 use Rattle.std.specs.Prelude.{◌*◌}
-use Rattle.gm_tactix.proofs.Lower.{false, sym, ap, ◌∙◌, board_game, tactix, counters_of, counters_length}
+use Rattle.gm_tactix.proofs.Lower.{false, sym, ap, ◌∙◌, board_game, tactix, counters_of}
+use Rattle.gm_tactix.specs.laws.CounterMaskFacts.{counters_length}
 use Rattle.gm_pieces.specs.Common.{least_index as least_index_of}
 use Rattle.gm_tactix.proofs.BeforeSteps.{taken_room, taken_more}
 use Rattle.gm_tactix.proofs.parents.put_before.Goals as goal

@@ -1,4 +1,5 @@
-use Rattle.gm_tactix.proofs.Lower.{◌++◌, ℕ, List, ap₂, ◌∙◌, inl, inr, arith, cases_lt, can_take, counters_of}
+use Rattle.gm_tactix.proofs.Lower.{◌++◌, ℕ, List, ap₂, ◌∙◌, inl, inr, arith, can_take, counters_of}
+use Rattle.gm_pieces.specs.Common.{cases_lt}
 use Rattle.gm_tactix.proofs.LineSegments.{line_taken, lines_more}
 use Rattle.gm_tactix.proofs.segments.list_takeable.Goals as goal
 

@@ -1,4 +1,6 @@
-use Rattle.gm_tactix.proofs.Lower.{◌≡◌, ◌≤◌, ◌+◌, length, take, filter, flat_map, range_with_len, can_take, counters_of, line_segments}
+use Rattle.gm_tactix.proofs.Lower.{◌≡◌, ◌≤◌, ◌+◌, length, take, filter, range_with_len, can_take, counters_of}
+use Rattle.gm_pieces.specs.Common.{flat_map}
+use Rattle.gm_tactix.specs.inner.Lines.{line_segments}
 use Rattle.std.specs.Prelude.{◌*◌}
 use Rattle.gm_tactix.proofs.segments.list_takeable.Given as goal
 

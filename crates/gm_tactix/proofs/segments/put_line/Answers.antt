@@ -1,4 +1,5 @@
-use Rattle.gm_tactix.proofs.Lower.{◌≡◌, ◌+◌, ◌++◌, ℕ, List, take, ap, ◌∙◌, subst, arith, take_all}
+use Rattle.gm_tactix.proofs.Lower.{◌≡◌, ◌+◌, ◌++◌, ℕ, List, take, ap, ◌∙◌, subst, arith}
+use Rattle.gm_pieces.specs.Common.{take_all}
 use Rattle.gm_tactix.proofs.LineTable.{block, shifted, most, long}
 use Rattle.gm_tactix.proofs.LineSegments.{put_all}
 use Rattle.gm_tactix.proofs.segments.put_line.Goals as goal

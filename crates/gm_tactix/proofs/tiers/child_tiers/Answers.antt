@@ -1,4 +1,5 @@
-use Rattle.gm_tactix.proofs.Lower.{◌≡◌, ◌-◌, ℕ, List, length, ap, ◌∙◌, arith, length-range_with_len}
+use Rattle.gm_tactix.proofs.Lower.{◌≡◌, ◌-◌, ℕ, List, length, ap, ◌∙◌, arith}
+use Rattle.gm_pieces.specs.Common.{length-range_with_len}
 use Rattle.gm_tactix.proofs.tiers.child_tiers.Goals as goal
 
 pub push-requires : goal.push-requires

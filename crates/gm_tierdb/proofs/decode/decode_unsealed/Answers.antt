@@ -1,4 +1,4 @@
-use Rattle.gm_tierdb.proofs.Lower.{sym, subst, Two, AreRead, records_part}
+use Rattle.gm_tierdb.proofs.Lower.{sym, subst, Two, AreDecoded, records_part}
 use Rattle.gm_tierdb.proofs.RefusalLemmas.{old_version}
 use Rattle.gm_tierdb.proofs.SealLemmas.{unsealed_text, whole_of_text, refuses_of_whole, not_old_text, error_again}
 use Rattle.gm_tierdb.proofs.decode.decode_unsealed.Goals as goal
@@ -29,7 +29,7 @@ pub returns-in-Some-clause-found : goal.returns-in-Some-clause-found
 returns-in-Some-clause-found g c =
     let size = g.G.Game.rules.tier_size c.args.tier in
     unsealed_text g.G.Game.rules g.met.G.Game.lawful.name_length c.args.tier c.args.bytes.now c.in_ok-records.ensures.whole c.in-Some.records
-    (subst (AreRead Two size (records_part Two size c.args.bytes.now)) c.in-Some.is c.in_ok-records.ensures.found)
+    (subst (AreDecoded Two size (records_part Two size c.args.bytes.now)) c.in-Some.is c.in_ok-records.ensures.found)
 
 pub returns-in-Some-clause-exact : goal.returns-in-Some-clause-exact
 returns-in-Some-clause-exact g c records is = sym ((returns-in-Some-clause-found g c).only records is).1

@@ -1,4 +1,6 @@
-use Rattle.gm_tierdb.proofs.Lower.{rules, WinLose, Ties, REMOTENESS_1}
+use Rattle.gm_tierdb.proofs.Lower.{rules}
+use Rattle.gm_game.specs.declared.position.Phase.TheVariants.{WinLose, Ties}
+use Rattle.gm_table.specs.declared.version.TheConstants.{REMOTENESS_1}
 use Rattle.gm_tierdb.proofs.LimitLemmas.{within_both, within_greatest}
 use Rattle.gm_tierdb.proofs.encode.fits_v1.Goals as goal
 

@@ -1,5 +1,5 @@
-use Rattle.gm_tierdb.proofs.Lower.{◌+◌, ◌<◌, ◌++◌, ◌-◌, ◌∙◌, length, replicate, ap, arith, width, record_bytes, record_at}
-use Rattle.std.proofs.Common.{◌*◌}
+use Rattle.gm_tierdb.proofs.Lower.{◌+◌, ◌<◌, ◌++◌, ◌-◌, ◌∙◌, length, ap, arith, width, record_bytes, record_at}
+use Rattle.std.proofs.Common.{replicate, ◌*◌}
 use Rattle.gm_tierdb.proofs.HoleBytes.{holes_more}
 use Rattle.gm_tierdb.proofs.RecordLemmas.{one_more}
 use Rattle.gm_tierdb.proofs.encode.push_records.Goals as goal

@@ -1,5 +1,6 @@
-use Rattle.gm_tierdb.proofs.Lower.{◌≡◌, ◌++◌, ap, ◌∙◌, length, flat_map, to_le_bytes, w64, sha256, record_bytes, magic, body}
-use Rattle.gm_tierdb.specs.TierText.{version_text}
+use Rattle.gm_tierdb.proofs.Lower.{◌≡◌, ◌++◌, ap, ◌∙◌, length, flat_map, to_le_bytes, sha256, record_bytes, magic}
+use Rattle.std.specs.Int.{w64}
+use Rattle.gm_tierdb.specs.TierText.{body, version_text}
 use Rattle.gm_tierdb.proofs.RecordLemmas.{storable_for}
 use Rattle.gm_tierdb.proofs.encode.write_file.Goals as goal
 

@@ -1,4 +1,5 @@
-use Rattle.gm_tierdb.proofs.Lower.{rules, ◌≡◌, owner_of}
+use Rattle.gm_tierdb.proofs.Lower.{rules, ◌≡◌}
+use Rattle.gm_tierdb.specs.inner.Owners.{owner_of}
 use Rattle.gm_tierdb.proofs.HeadLemmas.{owner_kept}
 use Rattle.gm_tierdb.proofs.owner.may_be_anothers.Goals as goal
 

@@ -1,4 +1,6 @@
-use Rattle.gm_tierdb.proofs.Lower.{◌≡◌, ◌≤◌, length, subst, ◌++◌, ◌∷◌, [], arith, ap, ◌∙◌, sym, take, to_le_bytes, All-push, word, width, IsStorable, none_here}
+use Rattle.gm_tierdb.proofs.Lower.{◌≡◌, ◌≤◌, length, subst, ◌++◌, ◌∷◌, [], arith, ap, ◌∙◌, sym, take, to_le_bytes, record_width, width, IsStorable}
+use Rattle.std.proofs.lemmas.List.Elements.{All-push}
+use Rattle.gm_table.proofs.CodeLemmas.{none_here}
 use Rattle.std.proofs.lemmas.List.{length-append}
 use Rattle.gm_tierdb.proofs.RecordLemmas.{all_read, grown, none_read, one_less, room}
 use Rattle.gm_tierdb.proofs.records.read_records.Goals as goal
@@ -47,7 +49,7 @@ loop-index-preserved c =
     let (storable, number) = c.in-Some.ensures.some in
     let items : c.push.new.self ≡ front ++ found ∷ [] = c.in-Ok-push.ensures.ok in
     rw items (
-      grown v c.args.bytes.now rest one more front found are split (ap (to_le_bytes (word v)) number ∙ c.number_at.ensures.bytes),
+      grown v c.args.bytes.now rest one more front found are split (ap (to_le_bytes (record_width v)) number ∙ c.number_at.ensures.bytes),
       All-push (IsStorable v) front found fit storable,
       omega (arith, len, length-append front (found ∷ [])),
       one_less v c.loop-index.index c.args.size rest more c.loop-index-test.true left (omega (arith, c.split_at.ensures.back_len, c.record_len.ensures.value)),

@@ -1,4 +1,7 @@
-use Rattle.gm_tierdb.proofs.Lower.{◌≡◌, ◌++◌, ◌∙◌, ap, take, arith, length-append, length-take, take-append-le, READ_LEN, Consumes-trans}
+use Rattle.gm_tierdb.proofs.Lower.{◌≡◌, ◌++◌, ◌∙◌, ap, take, arith, length-append}
+use Rattle.std.proofs.lemmas.List.{length-take, take-append-le}
+use Rattle.gm_tierdb.specs.declared.streams.TheConstants.{READ_LEN}
+use Rattle.std.proofs.KnownBytes.{Consumes-trans}
 use Rattle.gm_tierdb.proofs.StreamLemmas.{joined_small}
 use Rattle.gm_tierdb.proofs.streams.read_into.Goals as goal
 

@@ -1,4 +1,6 @@
-use Rattle.gm_tierdb.proofs.Lower.{length, ◌-◌, ◌≤◌, READ_LEN, Consumes}
+use Rattle.gm_tierdb.proofs.Lower.{length, ◌-◌, ◌≤◌}
+use Rattle.gm_tierdb.specs.declared.streams.TheConstants.{READ_LEN}
+use Rattle.std.specs.Io.KnownBytes.{Consumes}
 use Rattle.gm_tierdb.proofs.streams.read_into.Given as goal
 
 abbrev pub invariant-loop-chunk : goal.invariant-loop-chunk

@@ -1,4 +1,7 @@
-use Rattle.gm_tierdb.proofs.Lower.{◌-◌, ◌++◌, length, take, drop, sym, ap, subst, ◌∙◌, arith, take-add, rules, length-take, take-take, Appends, Appends-trans}
+use Rattle.gm_tierdb.proofs.Lower.{◌-◌, ◌++◌, length, take, drop, sym, ap, subst, ◌∙◌, arith, rules, take-take, Appends}
+use Rattle.std.proofs.Common.{take-add}
+use Rattle.std.proofs.lemmas.List.{length-take}
+use Rattle.std.proofs.KnownBytes.{Appends-trans}
 use Rattle.gm_tierdb.proofs.StreamLemmas.{part_stuck, part_kept}
 use Rattle.gm_tierdb.proofs.streams.write_text.Goals as goal
 

@@ -1,4 +1,5 @@
-use Rattle.gm_tiers.proofs.Lower.{◌≡◌, ◌<◌, ◌≤◌, ◌-◌, ◌∙◌, Ok, length, arith, ⊎_elim, ap, sym, true≢false, cases_lt, TIERS, goes_through}
+use Rattle.gm_tiers.proofs.Lower.{◌≡◌, ◌<◌, ◌≤◌, ◌-◌, ◌∙◌, Ok, length, arith, ⊎_elim, ap, sym, cases_lt, TIERS, goes_through}
+use Rattle.std.proofs.Common.{true≢false}
 use Rattle.gm_tiers.proofs.StepLemmas.{passed_on}
 use Rattle.gm_tiers.proofs.AnswerLemmas.{place_more, place_ends, past_all}
 use Rattle.gm_tiers.proofs.search.search.Goals as goal

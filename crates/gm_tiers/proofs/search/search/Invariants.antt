@@ -1,4 +1,5 @@
-use Rattle.gm_tiers.proofs.Lower.{◌≡◌, ◌-◌, Ok, TIERS, search_of, goes_through}
+use Rattle.gm_tiers.proofs.Lower.{◌≡◌, ◌-◌, Ok, TIERS, goes_through}
+use Rattle.gm_tiers.specs.Search.{search_of}
 use Rattle.gm_tiers.proofs.search.search.Given as goal
 
 abbrev pub invariant-loop-next : goal.invariant-loop-next

@@ -1,4 +1,5 @@
-use Rattle.gm_toys.proofs.Lower.{◌≡◌, range_with_len}
+use Rattle.gm_toys.proofs.Lower.{◌≡◌}
+use Rattle.std.specs.List.{range_with_len}
 use Rattle.gm_toys.proofs.subtraction.moves_down.Given as goal
 
 abbrev pub invariant-loop-taken : goal.invariant-loop-taken

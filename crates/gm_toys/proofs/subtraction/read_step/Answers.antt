@@ -1,4 +1,8 @@
-use Rattle.gm_toys.proofs.Lower.{◌≡◌, ◌<◌, ◌↔◌, ◌∙◌, ℕ, List, Option, Some, sym, ap, min, arith, Contains, decimal, moves_down, range_in, range_from}
+use Rattle.gm_toys.proofs.Lower.{◌≡◌, ◌↔◌, ℕ, Some, sym, arith, decimal, range_in}
+use Rattle.std.proofs.Common.{◌<◌, ◌∙◌, List, Option, ap, min}
+use Rattle.std.specs.List.{Contains}
+use Rattle.gm_toys.specs.Subtraction.{moves_down}
+use Rattle.gm_toys.specs.laws.SubtractionLaws.{range_from}
 use Rattle.gm_toys.proofs.Reading.{IsReadTo}
 use Rattle.gm_toys.proofs.subtraction.read_step.Goals as goal
 

@@ -1,4 +1,5 @@
-use Rattle.gm_backward.proofs.Lower.{ℕ, sym, ap, subst, ◌∙◌, err_from_is_err_and, REMOTENESS, Place, AreHeld, IsTrueTable, IsNumberBefore}
+use Rattle.gm_backward.proofs.Lower.{ℕ, sym, ap, subst, ◌∙◌, REMOTENESS, Place, AreHeld, IsTrueTable, IsNumberBefore}
+use Rattle.std.proofs.lemmas.Result.{err_from_is_err_and}
 use Rattle.gm_backward.proofs.context.SolveContext.solve.Goals as goal
 
 pub finish_levels-requires-clause-held : goal.finish_levels-requires-clause-held

@@ -1,6 +1,7 @@
-use Rattle.gm_backward.proofs.Lower.{◌≡◌, ℕ, ◌+◌, ◌<◌, min, List, Some, ◌++◌, length, length-append, slice_get, sym, ap, subst, ◌∙◌, arith, IfOk}
-use Rattle.gm_backward.proofs.Lower.{slice_get-get_or, Start, AreStarts, block_in, IsPart}
-use Rattle.std.proofs.Common.{◌*◌}
+use Rattle.gm_backward.proofs.Lower.{◌≡◌, ℕ, ◌+◌, ◌<◌, List, Some, ◌++◌, length, length-append, slice_get, sym, ap, subst, ◌∙◌, arith, slice_get-get_or, Start, AreStarts}
+use Rattle.std.proofs.Common.{min, IfOk, ◌*◌}
+use Rattle.gm_table.specs.inner.Dealing.{block_in}
+use Rattle.gm_backward.specs.inner.Blocks.{IsPart}
 use Rattle.gm_backward.proofs.BlockLemmas.{starts_more}
 use Rattle.gm_immediate.proofs.BlockLemmas.{zip_at}
 use Rattle.gm_backward.proofs.scan.Scan.in_order_of.Goals as goal

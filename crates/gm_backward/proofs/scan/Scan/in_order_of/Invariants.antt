@@ -1,5 +1,5 @@
-use Rattle.gm_backward.proofs.Lower.{◌≡◌, min, length, AreStarts}
-use Rattle.std.proofs.Common.{◌*◌}
+use Rattle.gm_backward.proofs.Lower.{◌≡◌, length, AreStarts}
+use Rattle.std.proofs.Common.{min, ◌*◌}
 use Rattle.gm_backward.proofs.scan.Scan.in_order_of.Given as goal
 
 abbrev pub invariant-loop-block : goal.invariant-loop-block

@@ -1,4 +1,7 @@
-use Rattle.gm_backward.proofs.Lower.{◌∙◌, nat_range, IfOk-then, zip_whole}
+use Rattle.gm_backward.proofs.Lower.{◌∙◌}
+use Rattle.rayon.specs.Numbers.{nat_range}
+use Rattle.rayon.proofs.ListFacts.{IfOk-then}
+use Rattle.gm_table.proofs.Dealt.{zip_whole}
 use Rattle.gm_backward.proofs.scan.Scan.start_all.Goals as goal
 
 pub returns : goal.returns

@@ -1,4 +1,5 @@
-use Rattle.gm_backward.proofs.Lower.{IfOk-at_ok, IfOk-weaker, REMOTENESS, IsTrueTable, place_of, AreRecordsOf}
+use Rattle.gm_backward.proofs.Lower.{IfOk-at_ok, REMOTENESS, IsTrueTable, place_of, AreRecordsOf}
+use Rattle.std.proofs.lemmas.Result.{IfOk-weaker}
 use Rattle.gm_backward.proofs.TilingLemmas.{four_halves}
 use Rattle.gm_backward.proofs.tiles.Tiles.finish.Goals as goal
 

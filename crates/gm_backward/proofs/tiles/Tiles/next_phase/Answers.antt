@@ -1,4 +1,5 @@
-use Rattle.gm_backward.proofs.Lower.{rules, place_of}
+use Rattle.std.proofs.Common.{rules}
+use Rattle.gm_backward.proofs.Lower.{place_of}
 use Rattle.gm_backward.proofs.RoundLemmas.{turned_none}
 use Rattle.gm_backward.proofs.tiles.Tiles.next_phase.Goals as goal
 

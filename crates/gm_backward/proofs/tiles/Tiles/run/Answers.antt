@@ -1,4 +1,5 @@
-use Rattle.gm_backward.proofs.Lower.{subst, sym, Place, AreShardsAt}
+use Rattle.gm_backward.proofs.Lower.{subst, sym, Place}
+use Rattle.gm_backward.specs.inner.Tiling.{AreShardsAt}
 use Rattle.gm_backward.proofs.tiles.Tiles.run.Goals as goal
 
 pub run_pieces-requires-clause-none : goal.run_pieces-requires-clause-none

@@ -1,6 +1,8 @@
-use Rattle.gm_board.proofs.Lower.{◌≡◌, ℕ, ◌+◌, ◌^◌, ◌<◌, sym, ap, ◌∙◌, subst, arith, lt_trans, mask_rank, arrangement_index, arrangements, arrangements_fit}
-use Rattle.gm_board.proofs.Lower.{cells_of, mine_mask, their_mask}
-use Rattle.std.proofs.Common.{◌*◌}
+use Rattle.gm_board.proofs.Lower.{◌≡◌, ℕ, ◌+◌, ◌^◌, ◌<◌, sym, ap, ◌∙◌, subst, arith, mask_rank, cells_of}
+use Rattle.std.proofs.Common.{lt_trans, ◌*◌}
+use Rattle.gm_board.specs.Arrangements.{arrangement_index, arrangements}
+use Rattle.gm_board.specs.laws.Arrangements.{arrangements_fit}
+use Rattle.gm_board.specs.Pieces.{mine_mask, their_mask}
 use Rattle.gm_board.specs.laws.Pieces.{pieces_index_below, mine_again, theirs_again}
 use Rattle.gm_board.proofs.IndexSteps.{index_is}
 use Rattle.gm_board.proofs.arrangement.Arrangement.index.Goals.{After-rank_subset-2}

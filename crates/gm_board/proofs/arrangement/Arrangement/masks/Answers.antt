@@ -1,4 +1,6 @@
-use Rattle.gm_board.proofs.Lower.{◌≡◌, ℕ, ◌%◌, ap, ap₂, ◌∙◌, mask_unrank, arrangement_index, cells_of, mine_mask, their_mask}
+use Rattle.gm_board.proofs.Lower.{◌≡◌, ℕ, ◌%◌, ap, ap₂, ◌∙◌, mask_unrank, cells_of}
+use Rattle.gm_board.specs.Arrangements.{arrangement_index}
+use Rattle.gm_board.specs.Pieces.{mine_mask, their_mask}
 use Rattle.gm_board.specs.laws.Pieces.{arrangement_pieces, index_of_masks}
 use Rattle.gm_board.proofs.IndexSteps.{AreDigits, digits_are, mine_mask_is, their_mask_is}
 use Rattle.gm_board.proofs.arrangement.Arrangement.masks.Goals.{After-ways-ways, After-spread-theirs}

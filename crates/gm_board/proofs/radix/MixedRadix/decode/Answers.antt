@@ -1,4 +1,5 @@
-use Rattle.gm_board.proofs.Lower.{◌≡◌, ◌-◌, length, arith, rules}
+use Rattle.gm_board.proofs.Lower.{◌≡◌, ◌-◌, length, arith}
+use Rattle.std.proofs.Common.{rules}
 use Rattle.gm_board.proofs.RadixSteps.{decoded_more}
 use Rattle.gm_board.proofs.radix.MixedRadix.decode.Goals as goal
 

@@ -1,4 +1,5 @@
-use Rattle.gm_board.proofs.Lower.{◌≡◌, take, digits_number}
+use Rattle.gm_board.proofs.Lower.{◌≡◌, take}
+use Rattle.gm_board.specs.inner.Digits.{digits_number}
 use Rattle.gm_board.proofs.radix.MixedRadix.encode.Given as goal
 
 abbrev pub invariant-loop-k : goal.invariant-loop-k

@@ -1,4 +1,5 @@
-use Rattle.gm_board.proofs.Lower.{◌≡◌, ◌%◌, ◌^◌, drop, radix_size}
+use Rattle.gm_board.proofs.Lower.{◌≡◌, ◌%◌, ◌^◌, drop}
+use Rattle.gm_board.specs.inner.Digits.{radix_size}
 use Rattle.gm_board.proofs.radix.MixedRadix.size.Given as goal
 
 abbrev pub invariant-loop-k : goal.invariant-loop-k

@@ -1,4 +1,6 @@
-use Rattle.gm_build.proofs.Lower.{inl, rules, Result, Ok, Err, OnErr, subst, IsOfTier, IsFoundIn}
+use Rattle.gm_build.proofs.Lower.{inl, rules, Result, Err, subst}
+use Rattle.std.proofs.Common.{Ok, OnErr}
+use Rattle.gm_build.specs.Findings.{IsOfTier, IsEntryFound}
 use Rattle.gm_build.proofs.StoreLemmas.{may_have_text, text_kept}
 use Rattle.gm_build.proofs.tier.Builder.build_tier.Goals as goal
 
@@ -15,7 +17,7 @@ returns-in-Ok-clause-text g c keeps =
     let r = g.G.Game.rules in
     let start = g.S.Store.texts c.args.store.now in
     let reads = g.S.Store.kept_is_read keeps in
-    let found = subst (IsFoundIn r start c.args.tier) c.in-Ok-Current.field-0-is (c.in-Ok-Current.ensures.found reads) in
+    let found = subst (IsEntryFound r start c.args.tier) c.in-Ok-Current.field-0-is (c.in-Ok-Current.ensures.found reads) in
     text_kept r start (g.S.Store.texts c.load_tier.new.store) c.args.tier (c.in-Ok-Current.ensures.same reads c.args.tier) found.0
 
 pub returns-in-Ok-Current-clause-here : goal.returns-in-Ok-Current-clause-here

@@ -1,4 +1,5 @@
-use Rattle.gm_build.proofs.Lower.{IfOk-at_ok, IsStepWork, Solved}
+use Rattle.std.proofs.lemmas.Result.{IfOk-at_ok}
+use Rattle.gm_build.proofs.Lower.{IsStepWork, Solved}
 use Rattle.gm_build.proofs.tier.Builder.make_text_beside.Goals.{in-Ok, in-Err}
 use Rattle.gm_build.proofs.tier.Builder.make_text_beside.Goals as goal
 

@@ -1,4 +1,4 @@
-use Rattle.gm_counters.proofs.Lower.{logged, ◌≤◌, length, ap, subst, sym, REMOTENESS, ShardState, state_by, IsWhole, next_level}
+use Rattle.gm_counters.proofs.Lower.{logged, ◌≤◌, length, ap, subst, sym, REMOTENESS, ShardState, state_by, IsWhole, at_next_level}
 use Rattle.gm_counters.proofs.CloseLemmas.{kept_next}
 use Rattle.gm_counters.proofs.deliveries.Ordered.close.Goals as goal
 
@@ -11,4 +11,4 @@ invariant_of-self g c =
     (subst (λ (s : ShardState). s.level ≤ REMOTENESS) (sym c.self.view_is) c.requires.fits)
 
 pub returns : goal.returns
-returns g c = ap next_level c.self.view_is
+returns g c = ap at_next_level c.self.view_is

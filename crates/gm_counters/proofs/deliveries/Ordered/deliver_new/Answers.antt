@@ -1,4 +1,5 @@
-use Rattle.gm_counters.proofs.Lower.{◌≡◌, ◌==◌, ◌<◌, ◌≤◌, ℕ, Bool, ap, subst, sym, ◌∙◌, true≢false, next_status, is_settling, ShardState, REMOTENESS}
+use Rattle.gm_counters.proofs.Lower.{◌≡◌, ◌==◌, ◌<◌, ◌≤◌, ℕ, Bool, ap, subst, sym, ◌∙◌, true≢false, next_status, ShardState, REMOTENESS}
+use Rattle.gm_counters.specs.Delivery.{is_settling}
 use Rattle.gm_counters.proofs.StepLemmas.{Step, room_above, next_is, settling_is, next_after, can_settle, can_stay, out_fresh, out_settled, out_far}
 use Rattle.gm_counters.proofs.OrderedLemmas.{step_new}
 use Rattle.gm_counters.proofs.deliveries.Ordered.deliver_new.Given.{Over}

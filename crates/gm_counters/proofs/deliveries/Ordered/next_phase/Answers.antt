@@ -1,4 +1,5 @@
-use Rattle.gm_counters.proofs.Lower.{logged, length, ap, subst, sym, ShardState, state_by, CanTurn, first_ties}
+use Rattle.gm_counters.proofs.Lower.{logged, length, ap, subst, sym, ShardState, state_by, first_ties}
+use Rattle.gm_counters.specs.Steps.{CanTurn}
 use Rattle.gm_counters.proofs.CloseLemmas.{kept_ties}
 use Rattle.gm_counters.proofs.deliveries.Ordered.next_phase.Goals as goal
 

@@ -1,5 +1,6 @@
-use Rattle.gm_counters.proofs.Lower.{◌≡◌, ◌+◌, ◌++◌, ℕ, List, Option, length, sym, ap, subst, ◌∙◌, arith, append_assoc, Place, Phase, Ties, Solved, IsLastLevel}
-use Rattle.gm_counters.proofs.Lower.{AreFinal}
+use Rattle.gm_counters.proofs.Lower.{◌≡◌, ◌+◌, ◌++◌, ℕ, List, Option, length, sym, ap, subst, ◌∙◌, arith, Phase, Ties, Solved, IsLastLevel, AreFinal}
+use Rattle.std.proofs.lemmas.List.{append_assoc}
+use Rattle.gm_game.specs.declared.position.Place.{Place}
 use Rattle.std.proofs.Common.{length-append}
 use Rattle.gm_counters.proofs.FinishLemmas.{final_append, part_true}
 use Rattle.gm_counters.proofs.ordered.OrderedShard.finish.Goals as goal

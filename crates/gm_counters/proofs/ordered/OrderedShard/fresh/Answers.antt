@@ -1,5 +1,7 @@
-use Rattle.gm_counters.proofs.Lower.{IfOk-from_err, Contains, IsPermutation, IsNonDecreasing, IsNonDecreasingBy-from_sort, NoteData, IsRun, ShardState}
-use Rattle.gm_counters.proofs.Lower.{IsSettledAt, AreSettledAt, AreNotesAt, place_of, ℕ, ◌+◌, List, length, sym, subst}
+use Rattle.gm_counters.proofs.Lower.{IfOk-from_err, Contains, IsPermutation, IsNonDecreasing, NoteData, ShardState, IsSettledAt, AreSettledAt, AreNotesAt, ℕ, ◌+◌, List, length, sym, subst}
+use Rattle.std.proofs.lemmas.List.Sorted.{IsNonDecreasingBy-from_sort}
+use Rattle.gm_frontier.specs.Levels.{IsRunOfNotes}
+use Rattle.gm_counters.specs.Steps.{place_of}
 use Rattle.gm_counters.proofs.FreshLemmas.{settled_permuted, run_of}
 use Rattle.gm_counters.proofs.ordered.OrderedShard.fresh.Given.{Over}
 use Rattle.gm_counters.proofs.ordered.OrderedShard.fresh.Goals.{After-sort_unstable}
@@ -30,7 +32,7 @@ of-requires g c =
     let up : IsNonDecreasing items = IsNonDecreasingBy-from_sort (λ (x : ℕ). x) items c.sort_unstable.ensures.sorted in
     let notes : AreNotesAt r s items found = subst (λ (x : ShardState). AreNotesAt r x items found) c.self.view_is
     (subst (λ (l : List ℕ). AreNotesAt r c.self.inside.children l found) c.as_slice.ensures.value c.in_ok-notes.ensures) in
-    let run : IsRun r (place_of s) s.lo (s.lo + length s.delivered) found = run_of r s c.range-lo.ensures.good items found all up notes in
+    let run : IsRunOfNotes r (place_of s) s.lo (s.lo + length s.delivered) found = run_of r s c.range-lo.ensures.good items found all up notes in
     rw (c.place.ensures, c.range-lo.ensures.lo, c.range-lo.ensures.hi) run
 
 pub returns-in_err-indexes-clause-place : goal.returns-in_err-indexes-clause-place

@@ -1,5 +1,6 @@
-use Rattle.gm_counters.proofs.Lower.{◌≡◌, ◌+◌, ◌-◌, ◌++◌, [], ◌∷◌, ℕ, List, Option, None, length, replicate, ap, subst, ◌∙◌, arith, append_assoc}
-use Rattle.gm_counters.proofs.Lower.{length-replicate, Solved, Hole, ShardState, StatusIs, AreFinal, record_of}
+use Rattle.gm_counters.proofs.Lower.{◌≡◌, ◌+◌, ◌-◌, ◌++◌, [], ◌∷◌, ℕ, List, Option, None, length, replicate, ap, subst, ◌∙◌, arith, length-replicate, Solved, Hole, ShardState, StatusIs, AreFinal}
+use Rattle.std.proofs.lemmas.List.{append_assoc}
+use Rattle.gm_counters.specs.inner.Closing.{record_of_status}
 use Rattle.std.proofs.Common.{length-append}
 use Rattle.gm_counters.proofs.FinishLemmas.{final_append, final_holes, final_one}
 use Rattle.gm_counters.proofs.ordered.OrderedShard.push_next.Goals as goal
@@ -16,7 +17,7 @@ returns-clause-ok g c =
     let (status, known, number) = c.final_number.ensures in
     let count = next.result - c.args.index in
     let holes : List (Option Solved) = replicate count None in
-    let one : List (Option Solved) = record_of status ∷ [] in
+    let one : List (Option Solved) = record_of_status status ∷ [] in
     let many : length holes ≡ count = length-replicate count None in
     let long : length (holes ++ one) ≡ length holes + 1 = length-append holes one in
     let place : next.result ≡ c.args.index + length holes = omega arith in (

@@ -1,4 +1,6 @@
-use Rattle.gm_frontier.proofs.Lower.{◌≡◌, sym, subst, Phase, WinLose, Place, IsLastLevel, place_at, ExpectedData, IsExpected, next_level}
+use Rattle.gm_frontier.proofs.Lower.{◌≡◌, sym, subst, Phase, WinLose, Place, IsLastLevel, IsExpected}
+use Rattle.gm_frontier.specs.Levels.{place_at}
+use Rattle.gm_frontier.specs.Counts.{ExpectedData, next_level}
 use Rattle.gm_frontier.proofs.ExpectedLemmas.{expected_turned, shown}
 use Rattle.gm_frontier.proofs.expected.Expected.next_phase.Goals as goal
 

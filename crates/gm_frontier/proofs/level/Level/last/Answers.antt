@@ -1,4 +1,5 @@
-use Rattle.gm_frontier.proofs.Lower.{◌≡◌, refl, sym, ap, subst, arith, length, Place, IsLastLevel, AreBelow}
+use Rattle.gm_frontier.proofs.Lower.{◌≡◌, refl, sym, ap, subst, arith, length, Place, IsLastLevel}
+use Rattle.gm_frontier.specs.Levels.{AreBelow}
 use Rattle.gm_frontier.proofs.LastLemmas.{last_iff, no_notes_left}
 use Rattle.gm_frontier.proofs.level.Level.last.Goals as goal
 

@@ -1,4 +1,5 @@
-use Rattle.gm_frontier.proofs.Lower.{ℕ, List, ◌≡◌, ap, ◌∙◌, inl, arith, length, subst, NoteData, LevelData, pairs_of, IsWhole}
+use Rattle.gm_frontier.proofs.Lower.{ℕ, List, ◌≡◌, ap, ◌∙◌, inl, arith, length, subst, NoteData, LevelData, pairs_of}
+use Rattle.gm_frontier.specs.Levels.{IsWholeLevel}
 use Rattle.std.proofs.lemmas.Iterator.Consumers.{count_from_yields_List, YieldsList-from_first}
 use Rattle.gm_frontier.proofs.CountLemmas.{notes_few}
 use Rattle.gm_frontier.proofs.PairLemmas.{positions_once, canonical_notes}
@@ -10,7 +11,7 @@ count-requires-clause-fits g c =
     let r = g.G.Game.rules in
     let laws = g.met.G.Game.lawful in
     let l = c.args.self.now in
-    let whole = subst (λ (x : LevelData). IsWhole r x c.self.inside.len) c.self.view_is c.self.invariant in
+    let whole = subst (λ (x : LevelData). IsWholeLevel r x c.self.inside.len) c.self.view_is c.self.invariant in
     let all = stretch_all l.notes c.self.inside.len whole.count in
     let pairs : length c.of.result ≡ length (pairs_of r l.place.tier c.args.lo c.args.hi l.notes) =
     ap length (c.of.ensures ∙ ap (pairs_of r l.place.tier c.args.lo c.args.hi) all) in

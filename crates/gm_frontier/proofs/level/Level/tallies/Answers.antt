@@ -1,4 +1,5 @@
-use Rattle.gm_frontier.proofs.Lower.{◌≡◌, ℕ, length, refl, arith, div_ceil, AreAllTallies}
+use Rattle.gm_frontier.proofs.Lower.{◌≡◌, ℕ, length, refl, arith, div_ceil}
+use Rattle.gm_frontier.specs.inner.Tallies.{AreAllTallies}
 use Rattle.gm_frontier.proofs.AllTallies.{none_first, one_more, all_first, all_count}
 use Rattle.gm_frontier.proofs.level.Level.tallies.Goals as goal
 

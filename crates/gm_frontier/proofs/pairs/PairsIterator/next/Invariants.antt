@@ -1,4 +1,5 @@
-use Rattle.gm_frontier.proofs.Lower.{◌≡◌, ◌≤◌, length, ◌-◌, ◌++◌, pairs_of, stretch}
+use Rattle.gm_frontier.proofs.Lower.{◌≡◌, ◌≤◌, length, ◌-◌, ◌++◌, pairs_of}
+use Rattle.gm_frontier.specs.inner.Rows.{stretch}
 use Rattle.gm_frontier.proofs.pairs.PairsIterator.next.Given as goal
 
 abbrev pub invariant-loop-pair : goal.invariant-loop-pair

@@ -1,4 +1,4 @@
-use Rattle.gm_game.proofs.Lower.{AreHoles}
+use Rattle.gm_game.specs.Rules.{AreHoles}
 use Rattle.gm_game.proofs.game.Game.first_canonical.Given as goal
 
 abbrev pub invariant-loop-index : goal.invariant-loop-index

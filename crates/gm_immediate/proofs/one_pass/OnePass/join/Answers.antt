@@ -1,4 +1,4 @@
-use Rattle.gm_immediate.proofs.Lower.{subst, arith, IsFound}
+use Rattle.gm_immediate.proofs.Lower.{subst, arith, IsBlockFound}
 use Rattle.gm_immediate.proofs.Parts.{joined_none, joined_more, joined_true, joined_deliveries, joined_few, found_at}
 use Rattle.gm_immediate.proofs.Deliveries.{not_too_far}
 use Rattle.gm_immediate.proofs.one_pass.OnePass.join.Goals as goal
@@ -11,14 +11,14 @@ returns-in-Err-clause-stop g c =
     let self = c.args.self.now in
     let found = found_at g.G.Game.rules self.tier self.dealing.rows c.args.found.now c.place_of.result c.loop-block.block c.index-found-place_of.result
     c.requires c.place_of.ensures.within c.place_of.ensures.value c.index-found-place_of.is in
-    (subst (IsFound g.G.Game.rules self.tier c.loop-block.block) c.in-Err.is found).finding
+    (subst (IsBlockFound g.G.Game.rules self.tier c.loop-block.block) c.in-Err.is found).finding
 
 pub overflow_add-number : goal.overflow_add-number
 overflow_add-number g c =
     let self = c.args.self.now in
     let found = found_at g.G.Game.rules self.tier self.dealing.rows c.args.found.now c.place_of.result c.loop-block.block c.index-found-place_of.result
     c.requires c.place_of.ensures.within c.place_of.ensures.value c.index-found-place_of.is in
-    let block = (subst (IsFound g.G.Game.rules self.tier c.loop-block.block) c.in-Ok.is found).finding in
+    let block = (subst (IsBlockFound g.G.Game.rules self.tier c.loop-block.block) c.in-Ok.is found).finding in
     let few = joined_few g.G.Game.rules self.tier c.loop-block.block c.loop-block.all c.in-Ok.records c.loop-block.number c.in-Ok.more
     c.loop-block.invariant block in
     let size = self.size_is in
@@ -30,7 +30,7 @@ loop-block-preserved g c =
     let self = c.args.self.now in
     let found = found_at g.G.Game.rules self.tier self.dealing.rows c.args.found.now c.place_of.result c.loop-block.block c.index-found-place_of.result
     c.requires c.place_of.ensures.within c.place_of.ensures.value c.index-found-place_of.is in
-    let block = (subst (IsFound g.G.Game.rules self.tier c.loop-block.block) c.in-Ok.is found).finding in
+    let block = (subst (IsBlockFound g.G.Game.rules self.tier c.loop-block.block) c.in-Ok.is found).finding in
     joined_more g.G.Game.rules self.tier c.loop-block.block c.loop-block.all c.in-Ok.records c.append.new.self c.loop-block.number c.in-Ok.more
     c.loop-block.invariant block c.in_ok-append-in-Ok.ensures.ok
 

@@ -1,4 +1,8 @@
-use Rattle.gm_immediate.proofs.Lower.{◌≡◌, ap, subst, ◌∙◌, AllZip, nat_range, IfOk-then, block_in, IsFound, zip_whole, range_start, range_end, min_len_base}
+use Rattle.gm_immediate.proofs.Lower.{◌≡◌, ap, subst, ◌∙◌, AllZip, block_in, IsBlockFound}
+use Rattle.rayon.specs.Numbers.{nat_range}
+use Rattle.rayon.proofs.ListFacts.{IfOk-then}
+use Rattle.gm_table.proofs.Dealt.{zip_whole}
+use Rattle.rayon.specs.Lists.{range_start, range_end, min_len_base}
 use Rattle.std.proofs.Common.{◌*◌}
 use Rattle.gm_immediate.proofs.Parts.{found_by_zip}
 use Rattle.gm_immediate.proofs.one_pass.OnePass.settle_all.Goals as goal
@@ -19,7 +23,7 @@ returns g c =
     ∙ (λ i. nat_range (range_start (least i)) (range_end (least i)))
     ∙ (λ i. nat_range (ends.0 i) (ends.1 i))
     ∙ ap (nat_range 0) c.blocks-blocks.ensures.count in
-    let asked : AllZip (λ place x. IsFound r self.tier (block_in self.dealing.rows place) x) numbers h.0 =
-    subst (λ f. AllZip (λ place x. IsFound r f.0.now.tier (block_in f.0.now.dealing.rows place) x) numbers h.0) c.map.ensures.f zip in
-    found_by_zip r self.tier self.dealing.rows v.items (zip_whole (λ place x. IsFound r self.tier (block_in self.dealing.rows place) x)
+    let asked : AllZip (λ place x. IsBlockFound r self.tier (block_in self.dealing.rows place) x) numbers h.0 =
+    subst (λ f. AllZip (λ place x. IsBlockFound r f.0.now.tier (block_in f.0.now.dealing.rows place) x) numbers h.0) c.map.ensures.f zip in
+    found_by_zip r self.tier self.dealing.rows v.items (zip_whole (λ place x. IsBlockFound r self.tier (block_in self.dealing.rows place) x)
     count numbers h.0 v.items whole asked h.2))

@@ -1,4 +1,6 @@
-use Rattle.gm_immediate.proofs.Lower.{rules, ◌≡◌, ℕ, [], ◌∷◌, ◌++◌, length, length-append, sym, ap, subst, arith, block_in, EachAt, one_at, IsFound}
+use Rattle.std.proofs.Common.{rules}
+use Rattle.gm_immediate.proofs.Lower.{◌≡◌, ℕ, [], ◌∷◌, ◌++◌, length, length-append, sym, ap, subst, arith, block_in, IsBlockFound}
+use Rattle.gm_table.proofs.Dealt.{EachAt, one_at}
 use Rattle.gm_immediate.proofs.one_pass.OnePass.settle_in_turn.Goals as goal
 
 pub loop-place-preserved : goal.loop-place-preserved
@@ -13,8 +15,8 @@ loop-place-preserved g c =
     let long = old.long in
     record {
       long = omega arith;
-      each = subst (EachAt (λ place x. IsFound r self.tier (block_in self.dealing.rows place) x)) (sym pushed)
-          (one_at _ before c.settle_and_report.result (subst (λ (k : ℕ). IsFound r self.tier (block_in self.dealing.rows k) c.settle_and_report.result) (sym long)
+      each = subst (EachAt (λ place x. IsBlockFound r self.tier (block_in self.dealing.rows place) x)) (sym pushed)
+          (one_at _ before c.settle_and_report.result (subst (λ (k : ℕ). IsBlockFound r self.tier (block_in self.dealing.rows k) c.settle_and_report.result) (sym long)
           c.settle_and_report.ensures) old.each);
     }
 

@@ -1,4 +1,5 @@
-use Rattle.gm_locks.proofs.Lower.{ℕ, ◌<◌, sym, subst, ◌∙◌, ap, length, List, div_ceil, NoteData}
+use Rattle.gm_locks.proofs.Lower.{ℕ, ◌<◌, sym, subst, ◌∙◌, ap, length, List, NoteData}
+use Rattle.std.specs.Int.{div_ceil}
 use Rattle.gm_locks.proofs.RoundLemmas.{level_into}
 use Rattle.gm_locks.proofs.PieceLemmas.{begun_pieced}
 use Rattle.gm_locks.proofs.piece.Pieced.around.Goals as goal

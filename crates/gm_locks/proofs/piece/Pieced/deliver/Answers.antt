@@ -1,5 +1,8 @@
-use Rattle.gm_locks.proofs.Lower.{◌-◌, ◌<◌, ◌≤◌, ◌==◌, ℕ, List, length, set, refl, sym, ap, arith, Result, Ok, Err, IsOk, get_or_read, NoteData, Refused}
-use Rattle.gm_locks.proofs.Lower.{TooFar, PiecedData, IsTurnAt}
+use Rattle.gm_locks.proofs.Lower.{◌-◌, ◌<◌, ◌≤◌, ℕ, List, length, refl, sym, ap, arith, Result, Ok, Err, NoteData, Refused, PiecedData, IsTurnAt}
+use Rattle.std.proofs.Common.{◌==◌, set}
+use Rattle.std.specs.Result.{IsOk}
+use Rattle.std.proofs.lemmas.List.{get_or_read}
+use Rattle.gm_counters.specs.declared.status.Refused.TheVariants.{TooFar}
 use Rattle.gm_locks.proofs.PieceLemmas.{turned_at}
 use Rattle.gm_locks.proofs.piece.Pieced.deliver.Given.{Over}
 use Rattle.gm_locks.proofs.piece.Pieced.deliver.Goals.{After-range-after}

@@ -1,5 +1,5 @@
-use Rattle.gm_locks.proofs.Lower.{◌≡◌, ℕ, ◌⊎◌, inl, inr, true, false, get_or, length, refl, sym, ap, subst, Result, Ok, Err, OnOk, List, NoteData, PiecedData}
-use Rattle.std.proofs.Common.{IsOk}
+use Rattle.gm_locks.proofs.Lower.{◌≡◌, ℕ, ◌⊎◌, inl, inr, true, false, get_or, length, refl, sym, ap, subst, Result, Ok, Err, List, NoteData, PiecedData}
+use Rattle.std.proofs.Common.{OnOk, IsOk}
 use Rattle.gm_locks.proofs.PieceLemmas.{turned_bits}
 use Rattle.gm_locks.proofs.pieces.Taken.deliver.Given.{Over}
 use Rattle.gm_locks.proofs.pieces.Taken.deliver.Goals.{After-deliver}

@@ -1,4 +1,5 @@
-use Rattle.gm_page.proofs.Lower.{◌≡◌, None, ℕ, List, Some, cond, sym, ap, subst, ◌∙◌, get, Position, is_key, place_of, Tells}
+use Rattle.gm_page.proofs.Lower.{◌≡◌, None, ℕ, List, Some, cond, sym, ap, subst, ◌∙◌, get, Position, is_key, place_of}
+use Rattle.gm_page.specs.Listings.{Tells}
 use Rattle.gm_page.proofs.Places.{tells_more}
 use Rattle.gm_page.proofs.listing.Listing.add.Goals as goal
 

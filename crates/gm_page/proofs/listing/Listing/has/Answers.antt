@@ -1,4 +1,5 @@
-use Rattle.gm_page.proofs.Lower.{ap, ◌∙◌, is_some}
+use Rattle.gm_page.proofs.Lower.{ap, ◌∙◌}
+use Rattle.std.proofs.Common.{is_some}
 use Rattle.gm_page.proofs.Places.{has_place}
 use Rattle.gm_page.proofs.listing.Listing.has.Goals as goal
 

@@ -1,5 +1,5 @@
 use Rattle.std.specs.Prelude.{◌-◌, ◌≤◌}
-use Rattle.gm_patterns.specs.Lower.{AreHoles}
+use Rattle.gm_game.specs.Rules.{AreHoles}
 use Rattle.gm_patterns.specs.PatternGames.{pattern_rules}
 use Rattle.gm_patterns.proofs.on_patterns.PatternMovesMoveLists.first_board.Given as goal
 

@@ -1,4 +1,5 @@
-use Rattle.gm_pieces.proofs.Lower.{arith, all_below}
+use Rattle.gm_pieces.proofs.Lower.{arith}
+use Rattle.gm_pieces.specs.laws.TriedFacts.{all_below}
 use Rattle.gm_pieces.proofs.candidates.Candidates.below.Goals as goal
 
 pub returns : goal.returns

@@ -1,4 +1,9 @@
-use Rattle.gm_pieces.proofs.Lower.{◌≤◌, ◌+◌, length, List, get_or, take, take_all, take_more, sym, subst, arith, Position, length_with_le, set_more, IsSetOf}
+use Rattle.gm_pieces.proofs.Lower.{◌≤◌, ◌+◌, length, List, take, sym, subst, arith, Position}
+use Rattle.std.proofs.Common.{get_or}
+use Rattle.std.proofs.lemmas.List.{take_all, take_more}
+use Rattle.gm_game.proofs.SetLemmas.{length_with_le}
+use Rattle.gm_game.proofs.ChildrenSteps.{set_more}
+use Rattle.gm_game.specs.Children.{IsSetOf}
 use Rattle.gm_pieces.proofs.lists.MoveLists.fill_children.Goals as goal
 
 pub loop-p-preserved : goal.loop-p-preserved

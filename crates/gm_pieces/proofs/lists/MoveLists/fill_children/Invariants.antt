@@ -1,4 +1,5 @@
-use Rattle.gm_pieces.proofs.Lower.{◌≤◌, length, take, IsSetOf}
+use Rattle.gm_pieces.proofs.Lower.{◌≤◌, length, take}
+use Rattle.gm_game.specs.Children.{IsSetOf}
 use Rattle.gm_pieces.proofs.lists.MoveLists.fill_children.Given as goal
 
 abbrev pub invariant-loop-p : goal.invariant-loop-p

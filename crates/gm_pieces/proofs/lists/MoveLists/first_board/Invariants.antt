@@ -1,4 +1,6 @@
-use Rattle.gm_pieces.proofs.Lower.{◌≤◌, ◌-◌, AreHoles, move_rules}
+use Rattle.gm_pieces.proofs.Lower.{◌≤◌, move_rules}
+use Rattle.std.specs.Prelude.{◌-◌}
+use Rattle.gm_game.specs.Rules.{AreHoles}
 use Rattle.gm_pieces.proofs.lists.MoveLists.first_board.Given as goal
 
 abbrev pub invariant-loop-index : goal.invariant-loop-index

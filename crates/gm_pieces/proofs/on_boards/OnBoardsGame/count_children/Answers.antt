@@ -1,4 +1,7 @@
-use Rattle.gm_pieces.proofs.Lower.{◌∙◌, ap, length, List, Position, next_images, set_of, board_children, board_of, board_game, move_rules, move_game_lawful}
+use Rattle.gm_pieces.proofs.Lower.{◌∙◌, ap, length, List, Position, next_images, board_game, move_rules, move_game_lawful}
+use Rattle.gm_game.specs.Children.{set_of}
+use Rattle.gm_game.proofs.ChildrenSteps.{board_children}
+use Rattle.gm_game.specs.Boards.{board_of}
 use Rattle.gm_game.proofs.ChildrenLemmas.{set_itself, canonical_children_once}
 use Rattle.gm_pieces.proofs.on_boards.OnBoardsGame.count_children.Goals as goal
 

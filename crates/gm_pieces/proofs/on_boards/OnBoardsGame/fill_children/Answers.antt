@@ -1,4 +1,5 @@
-use Rattle.gm_pieces.proofs.Lower.{board_children, board_game, move_game_lawful}
+use Rattle.gm_game.proofs.ChildrenSteps.{board_children}
+use Rattle.gm_pieces.proofs.Lower.{board_game, move_game_lawful}
 use Rattle.gm_pieces.proofs.on_boards.OnBoardsGame.fill_children.Goals as goal
 
 pub returns : goal.returns

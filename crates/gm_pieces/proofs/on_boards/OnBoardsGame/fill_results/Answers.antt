@@ -1,4 +1,5 @@
-use Rattle.gm_pieces.proofs.Lower.{board_results, board_game, move_game_lawful}
+use Rattle.gm_game.proofs.ChildrenSteps.{board_results}
+use Rattle.gm_pieces.proofs.Lower.{board_game, move_game_lawful}
 use Rattle.gm_pieces.proofs.on_boards.OnBoardsGame.fill_results.Goals as goal
 
 pub returns : goal.returns

@@ -1,4 +1,7 @@
-use Rattle.gm_pieces.proofs.Lower.{◌≡◌, rules, subst, next_images, HasSame, at, board_results, board_game, move_rules, move_game_lawful}
+use Rattle.gm_pieces.proofs.Lower.{◌≡◌, subst, next_images, HasSame, board_game, move_rules, move_game_lawful}
+use Rattle.std.proofs.Common.{rules}
+use Rattle.gm_game.specs.Rules.{at}
+use Rattle.gm_game.proofs.ChildrenSteps.{board_results}
 use Rattle.gm_pieces.proofs.on_boards.OnBoardsGame.first_results.Goals as goal
 
 pub returns-then-is_none : goal.returns-then-is_none

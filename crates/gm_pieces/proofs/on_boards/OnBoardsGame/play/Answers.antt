@@ -1,4 +1,4 @@
-use Rattle.gm_pieces.proofs.Lower.{move_at}
+use Rattle.gm_pieces.specs.laws.ChildFacts.{move_at}
 use Rattle.gm_pieces.proofs.on_boards.OnBoardsGame.play.Goals as goal
 
 pub moved-requires-clause-step : goal.moved-requires-clause-step

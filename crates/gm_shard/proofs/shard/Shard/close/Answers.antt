@@ -1,4 +1,5 @@
-use Rattle.gm_shard.proofs.Lower.{◌∙◌, refl, ap, subst, sym, arith, IsWhole, next_level}
+use Rattle.gm_shard.proofs.Lower.{◌∙◌, refl, ap, subst, sym, arith}
+use Rattle.gm_counters.specs.Steps.{IsWhole, at_next_level}
 use Rattle.gm_shard.proofs.CloseLemmas.{not_whole, whole_from}
 use Rattle.gm_shard.proofs.shard.Shard.close.Goals as goal
 
@@ -17,6 +18,6 @@ close-requires-clause-whole g c = subst (IsWhole g.G.Game.rules) (sym c.self.vie
 
 pub returns : goal.returns
 returns g c = (
-  c.close.ensures ∙ ap next_level c.self.view_is,
+  c.close.ensures ∙ ap at_next_level c.self.view_is,
   whole_from g.met.G.Game.lawful c.range-range.ensures.good c.number-number.ensures.exact c.requires.is_for (omega arith),
 )

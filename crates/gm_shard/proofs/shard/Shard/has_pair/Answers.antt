@@ -1,4 +1,5 @@
-use Rattle.gm_shard.proofs.Lower.{◌≡◌, ℕ, ◌-◌, ◌↔◌, IsTrue, Some, get_or, subst, sym, arith, Contains, ShardState, IsInRange, delivered_to, IsPlaceOf}
+use Rattle.gm_shard.proofs.Lower.{◌≡◌, ℕ, ◌-◌, ◌↔◌, Some, get_or, subst, sym, arith, Contains, ShardState, IsInRange, delivered_to, IsPlaceOf}
+use Rattle.std.proofs.Common.{IsTrue}
 use Rattle.gm_shard.proofs.MaskedLemmas.{in_told, pair_is}
 use Rattle.gm_shard.proofs.shard.Shard.has_pair.Goals as goal
 

@@ -1,4 +1,5 @@
-use Rattle.gm_solver.proofs.Lower.{rules, ◌≡◌}
+use Rattle.std.proofs.Common.{rules}
+use Rattle.gm_solver.proofs.Lower.{◌≡◌}
 use Rattle.gm_solver.proofs.board.Board.deliver_at.Goals.{in-0, in-1, in-2, in_default}
 use Rattle.gm_solver.proofs.board.Board.deliver_at.Goals as goal
 

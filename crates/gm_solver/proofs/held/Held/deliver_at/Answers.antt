@@ -1,4 +1,7 @@
-use Rattle.gm_solver.proofs.Lower.{◌≡◌, ℕ, ap, subst, sym, ◌∙◌, arith, pairs_in, IsPlaceOf, Delivers, Spot, Part, HeldData}
+use Rattle.gm_solver.proofs.Lower.{◌≡◌, ℕ, ap, subst, sym, ◌∙◌, arith, pairs_in, Spot, Part}
+use Rattle.gm_shard.specs.inner.Masks.{IsPlaceOf}
+use Rattle.gm_counters.specs.Delivery.{Delivers}
+use Rattle.gm_solver.specs.Boards.{HeldData}
 use Rattle.gm_locks.proofs.Gains.{gained, stays}
 use Rattle.gm_solver.proofs.AnswerLemmas.{answered}
 use Rattle.gm_solver.proofs.held.Held.deliver_at.Goals as goal

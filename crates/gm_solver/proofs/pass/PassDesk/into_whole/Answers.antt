@@ -1,4 +1,5 @@
-use Rattle.gm_solver.proofs.Lower.{◌≡◌, sym, arith, pairs_in, IsWhole, closes_reached}
+use Rattle.gm_solver.proofs.Lower.{◌≡◌, sym, arith, pairs_in, IsWhole}
+use Rattle.gm_shard.proofs.CloseLemmas.{closes_reached}
 use Rattle.gm_locks.proofs.RoundLemmas.{of_level, round_all}
 use Rattle.gm_solver.proofs.DeskLemmas.{round_whole}
 use Rattle.gm_solver.proofs.pass.PassDesk.into_whole.Given.{Over}

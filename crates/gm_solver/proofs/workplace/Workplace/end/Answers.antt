@@ -1,4 +1,7 @@
-use Rattle.gm_solver.proofs.Lower.{◌≡◌, ℕ, ◌-◌, List, sym, subst, ◌∙◌, arith, ShardState, IsWhole, NoteData, Spot, spot_of, pairs_into, AreFirst, level_into}
+use Rattle.gm_solver.proofs.Lower.{◌≡◌, ℕ, List, sym, subst, ◌∙◌, arith, ShardState, IsWhole, NoteData, Spot, spot_of, pairs_into}
+use Rattle.std.proofs.Common.{◌-◌}
+use Rattle.gm_locks.specs.Rounds.{AreFirst}
+use Rattle.gm_locks.proofs.RoundLemmas.{level_into}
 use Rattle.gm_solver.proofs.FullLemmas.{full_whole}
 use Rattle.gm_solver.proofs.workplace.Workplace.end.Goals.{then-not-is_full+in_ok-deliver_rest, else-not-is_full}
 use Rattle.gm_solver.proofs.workplace.Workplace.end.Goals as goal

@@ -1,5 +1,8 @@
-use Rattle.gm_solver.proofs.Lower.{refl, ◌≡◌, ◌≤◌, ◌+◌, ℕ, Some, suc, slice_get, length, drop, sym, subst, ◌∙◌, arith, slice_get_within, Place, TIER_SIZE}
-use Rattle.gm_solver.proofs.Lower.{NoteData, pairs_into, level_into, pairs_are_into}
+use Rattle.gm_solver.proofs.Lower.{refl, ◌≡◌, ◌≤◌, ◌+◌, ℕ, Some, slice_get, length, sym, subst, ◌∙◌, arith, Place, NoteData, pairs_into}
+use Rattle.std.proofs.Common.{suc, drop}
+use Rattle.std.proofs.lemmas.Option.{slice_get_within}
+use Rattle.gm_game.specs.declared.limits.TheConstants.{TIER_SIZE}
+use Rattle.gm_locks.proofs.RoundLemmas.{level_into, pairs_are_into}
 use Rattle.gm_backward.proofs.RoundLemmas.{into_fit, item_next, item_last}
 use Rattle.gm_solver.proofs.workplace.Workplace.walk.Goals as goal
 

@@ -1,4 +1,5 @@
-use Rattle.gm_solver.proofs.Lower.{◌≡◌, ◌≤◌, length, drop, pairs_into}
+use Rattle.gm_solver.proofs.Lower.{◌≡◌, ◌≤◌, length, pairs_into}
+use Rattle.std.proofs.Common.{drop}
 use Rattle.gm_solver.proofs.workplace.Workplace.walk.Given as goal
 
 abbrev pub invariant-loop-note : goal.invariant-loop-note

@@ -1,5 +1,5 @@
 use Rattle.gm_pieces.specs.Common.{ℕ, sym, subst, arith}
-use Rattle.gm_pieces.specs.Marking.{AreMarks, leads_here}
+use Rattle.gm_pieces.specs.inner.Marking.{AreMarks, leads_here}
 use Rattle.gm_squares.specs.FoxHounds.{fox_and_hounds}
 use Rattle.gm_squares.specs.laws.ChaseMarks.{way_marks}
 use Rattle.gm_squares.specs.laws.ChaseBack.{no_marks_back}

@@ -1,5 +1,5 @@
 use Rattle.gm_pieces.specs.Common.{sym, subst, arith}
-use Rattle.gm_pieces.specs.Marking.{AreMarks}
+use Rattle.gm_pieces.specs.inner.Marking.{AreMarks}
 use Rattle.gm_squares.specs.FoxHounds.{can_move}
 use Rattle.gm_squares.specs.laws.ChaseMarks.{way_marks}
 use Rattle.gm_squares.proofs.foxhounds.FoxRulesMarkedMoves.open_marks.Goals as goal

@@ -1,4 +1,5 @@
-use Rattle.gm_table.proofs.Lower.{◌↔◌, IsTrue, get_or, None, sym, subst, ◌∙◌, CacheData, at, RecordFits, slice_get-get_or}
+use Rattle.gm_table.proofs.Lower.{◌↔◌, get_or, None, sym, subst, ◌∙◌, CacheData, at, RecordFits, slice_get-get_or}
+use Rattle.std.proofs.Common.{IsTrue}
 use Rattle.gm_table.proofs.CheckLemmas.{fits_at}
 use Rattle.gm_table.proofs.LevelLemmas.{record_read}
 use Rattle.gm_table.proofs.blocks.Given.fits_at.Goals as goal

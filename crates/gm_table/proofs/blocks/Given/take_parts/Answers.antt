@@ -1,4 +1,4 @@
-use Rattle.gm_table.proofs.Lower.{IsFirstWrongOf}
+use Rattle.gm_table.specs.Checks.{IsFirstWrongOf}
 use Rattle.gm_table.proofs.PartLemmas.{none_known, one_known}
 use Rattle.gm_table.proofs.blocks.Given.take_parts.Goals as goal
 

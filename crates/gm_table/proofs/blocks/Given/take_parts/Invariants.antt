@@ -1,4 +1,4 @@
-use Rattle.gm_table.proofs.Lower.{AreFirstWrongOf}
+use Rattle.gm_table.specs.Checks.{AreFirstWrongOf}
 use Rattle.gm_table.proofs.blocks.Given.take_parts.Given as goal
 
 abbrev pub invariant-loop : goal.invariant-loop

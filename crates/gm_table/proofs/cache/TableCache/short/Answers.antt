@@ -1,4 +1,6 @@
-use Rattle.gm_table.proofs.Lower.{◌%◌, [], get_or, arith, Shorts, cache_of}
+use Rattle.gm_table.proofs.Lower.{◌%◌, [], get_or, arith}
+use Rattle.gm_table.specs.declared.cache.Shorts.{Shorts}
+use Rattle.gm_table.specs.inner.Caches.{cache_of}
 use Rattle.gm_table.proofs.CacheLemmas.{short_read}
 use Rattle.gm_table.proofs.cache.TableCache.short.Goals as goal
 

@@ -1,5 +1,4 @@
-use Rattle.gm_table.proofs.Lower.{◌≡◌, ℕ, Option, Some, IsSome, get_or, refl, ap, subst, ◌∙◌, ◌+◌, ◌≤◌, Bool, true, false, cond, arith, TableData, record_of}
-use Rattle.gm_table.proofs.Lower.{at, is_decided, CacheData, other_table}
+use Rattle.gm_table.proofs.Lower.{◌≡◌, ℕ, Option, Some, IsSome, get_or, refl, ap, subst, ◌∙◌, ◌+◌, ◌≤◌, Bool, true, false, cond, arith, TableData, record_of, at, is_decided, CacheData, other_table}
 use Rattle.gm_table.proofs.CacheLemmas.{sum_more}
 use Rattle.gm_table.proofs.cache.TableCache.sum_by_records.Goals as goal
 

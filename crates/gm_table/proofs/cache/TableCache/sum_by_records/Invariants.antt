@@ -1,4 +1,5 @@
-use Rattle.gm_table.proofs.Lower.{◌≡◌, ◌≤◌, take, IsSumOf}
+use Rattle.gm_table.proofs.Lower.{◌≡◌, ◌≤◌, take}
+use Rattle.gm_table.specs.inner.Caches.{IsSumOf}
 use Rattle.gm_table.proofs.cache.TableCache.sum_by_records.Given as goal
 
 abbrev pub invariant-loop-p : goal.invariant-loop-p

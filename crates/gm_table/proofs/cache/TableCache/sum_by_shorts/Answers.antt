@@ -1,4 +1,5 @@
-use Rattle.gm_table.proofs.Lower.{◌≡◌, Some, IsSome, get_or, refl, sym, subst, ◌∙◌, TableData, at, CacheData, other_table, other_record, record_of_short}
+use Rattle.gm_table.proofs.Lower.{◌≡◌, Some, IsSome, get_or, refl, sym, subst, ◌∙◌, TableData, at, CacheData, other_table, record_of_short}
+use Rattle.gm_table.specs.inner.Caches.{other_record}
 use Rattle.gm_table.proofs.CacheLemmas.{read_more}
 use Rattle.gm_table.proofs.cache.TableCache.sum_by_shorts.Goals as goal
 

@@ -1,4 +1,5 @@
-use Rattle.gm_table.proofs.Lower.{◌≡◌, map, take, AreRead, record_of_short}
+use Rattle.gm_table.proofs.Lower.{◌≡◌, map, take, record_of_short}
+use Rattle.gm_table.specs.inner.Caches.{AreRead}
 use Rattle.gm_table.proofs.cache.TableCache.sum_by_shorts.Given as goal
 
 abbrev pub invariant-loop-p : goal.invariant-loop-p

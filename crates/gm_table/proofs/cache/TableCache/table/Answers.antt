@@ -1,4 +1,5 @@
-use Rattle.gm_table.proofs.Lower.{◌≡◌, ◌%◌, option_copied, sym, subst, ◌∙◌, arith, CacheData, cache_of, other_table}
+use Rattle.gm_table.proofs.Lower.{◌≡◌, ◌%◌, option_copied, sym, subst, ◌∙◌, arith, CacheData, other_table}
+use Rattle.gm_table.specs.inner.Caches.{cache_of}
 use Rattle.gm_table.proofs.CacheLemmas.{known_table, still_cached, else_table}
 use Rattle.gm_table.proofs.cache.TableCache.table.Goals as goal
 

@@ -1,4 +1,5 @@
-use Rattle.gm_table.proofs.Lower.{◌≡◌, ℕ, ◌+◌, ◌/◌, ◌%◌, ◌<◌, sym, subst, block_in}
+use Rattle.gm_table.proofs.Lower.{◌≡◌, ℕ, ◌+◌, ◌/◌, ◌%◌, ◌<◌, sym, subst}
+use Rattle.gm_table.specs.inner.Dealing.{block_in}
 use Rattle.std.proofs.Common.{◌*◌}
 use Rattle.gm_table.proofs.Dealt.{dealt}
 use Rattle.gm_table.proofs.dealing.Dealing.place_of.Goals as goal

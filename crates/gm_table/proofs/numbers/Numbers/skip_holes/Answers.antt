@@ -1,5 +1,6 @@
 use Rattle.gm_table.specs.declared.number.TheConstants.{STEP}
-use Rattle.gm_table.proofs.Lower.{◌≡◌, ◌<◌, List, ℕ, slice_get, IfSome, map, sym, ap, ◌∙◌, subst, listed, wide}
+use Rattle.gm_table.proofs.Lower.{◌≡◌, ◌<◌, List, ℕ, slice_get, IfSome, map, sym, ap, ◌∙◌, subst, wide}
+use Rattle.gm_table.specs.Numbers.{listed}
 use Rattle.gm_table.proofs.HoleLemmas.{wide_holes}
 use Rattle.gm_table.proofs.numbers.Numbers.skip_holes.Goals as goal
 

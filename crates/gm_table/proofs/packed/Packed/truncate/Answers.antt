@@ -1,4 +1,5 @@
-use Rattle.gm_table.proofs.Lower.{map, take, ap, sym, ◌∙◌, take-map, unpacked}
+use Rattle.gm_table.proofs.Lower.{map, take, ap, sym, ◌∙◌, unpacked}
+use Rattle.std.proofs.lemmas.List.{take-map}
 use Rattle.gm_table.proofs.packed.Packed.truncate.Goals as goal
 
 pub returns : goal.returns

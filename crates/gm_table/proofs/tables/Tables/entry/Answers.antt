@@ -1,7 +1,7 @@
 use Rattle.std.proofs.Common.{Bor, arith, Option, None, Some, IfSome, IsSome, slice_get, option_copied}
 use Rattle.std.proofs.lemmas.Option.{slice_get_read}
 use Rattle.gm_table.proofs.Lower.{◌≡◌, ℕ, ◌<◌, List, refl, ap, sym, subst, ◌∙◌, length, get_or, AreTables, TableData, table_of}
-use Rattle.gm_table.specs.Tables.{IsPlaceOf}
+use Rattle.gm_table.specs.Tables.{IsFirstPlaceOf}
 use Rattle.gm_table.proofs.TableLemmas.{at_none, at_place, kept_length, kept_tables}
 use Rattle.gm_table.proofs.tables.Tables.entry.Goals as goal
 
@@ -15,7 +15,7 @@ pub returns-clause-value : goal.returns-clause-value
 returns-clause-value g c =
     let tiers = c.self.inside.tiers.items in
     let k = c.in_ok-k.k in
-    let place = subst (λ (ns : List ℕ). IsPlaceOf ns c.args.tier k) c.as_slice.ensures.value c.in_ok-k.ensures.some in
+    let place = subst (λ (ns : List ℕ). IsFirstPlaceOf ns c.args.tier k) c.as_slice.ensures.value c.in_ok-k.ensures.some in
     let here = at_place g.G.Game.rules tiers c.self.inside.entries.items c.self.invariant c.args.tier k place.inside place.here place.first in
     let ts = c.self.inside.entries.items in
     let all : c.deref.result.now ≡ ts = c.deref.ensures.value in

@@ -1,4 +1,6 @@
-use Rattle.gm_table.proofs.Lower.{ℕ, List, refl, sym, subst, ◌∙◌, arith, below_more, Contains, get_or_default_zero, IsHeld}
+use Rattle.gm_table.proofs.Lower.{ℕ, List, refl, sym, subst, ◌∙◌, arith, Contains, IsHeld}
+use Rattle.std.proofs.Common.{below_more}
+use Rattle.std.proofs.lemmas.Grind.{get_or_default_zero}
 use Rattle.gm_table.proofs.tables.Tables.has_children.Goals as goal
 
 pub loop-child-preserved : goal.loop-child-preserved

@@ -1,4 +1,6 @@
-use Rattle.gm_table.proofs.Lower.{◌≡◌, ◌↔◌, ℕ, List, rules, sym, subst, Contains, at, IsCanonical, IsAscending, StandsAt, IsHeld, run_of}
+use Rattle.gm_table.proofs.Lower.{◌≡◌, ◌↔◌, ℕ, List, rules, sym, subst, Contains, at, IsCanonical, IsAscending, IsHeld}
+use Rattle.gm_game.specs.Places.{StandsAt}
+use Rattle.gm_table.specs.Tables.{run_of}
 use Rattle.gm_table.proofs.PlaceLemmas.{run_stands, run_ascending}
 use Rattle.gm_table.proofs.tables.Tables.run.Goals as goal
 

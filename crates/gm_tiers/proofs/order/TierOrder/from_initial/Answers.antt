@@ -1,4 +1,6 @@
-use Rattle.gm_tiers.proofs.Lower.{ℕ, ap, subst, TIERS, Position, TooManyTiers, AreMoreThan}
+use Rattle.gm_tiers.proofs.Lower.{ℕ, ap, subst, TIERS, TooManyTiers}
+use Rattle.gm_game.specs.declared.position.Position.{Position}
+use Rattle.gm_tiers.specs.Limits.{AreMoreThan}
 use Rattle.std.proofs.Common.{IsErrOf}
 use Rattle.gm_tiers.proofs.order.TierOrder.from_initial.Goals as goal
 

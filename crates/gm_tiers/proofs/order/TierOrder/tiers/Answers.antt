@@ -1,4 +1,4 @@
-use Rattle.gm_tiers.proofs.Lower.{rules}
+use Rattle.std.proofs.Common.{rules}
 use Rattle.gm_tiers.proofs.OrderLemmas.{children_first}
 use Rattle.gm_tiers.proofs.order.TierOrder.tiers.Goals as goal
 

@@ -1,4 +1,5 @@
-use Rattle.gm_toys.proofs.Lower.{not, nat_eq, name_of, most_of}
+use Rattle.std.proofs.Common.{not, nat_eq}
+use Rattle.gm_toys.specs.laws.DownLaws.{name_of, most_of}
 use Rattle.gm_toys.proofs.Reading.{number_read}
 use Rattle.gm_toys.proofs.countdown.CountsDownShown.read.Goals as goal
 

@@ -1,4 +1,7 @@
-use Rattle.gm_toys.proofs.Lower.{◌≡◌, ◌↔◌, ℕ, Some, subst, Contains, decimal, moves_down}
+use Rattle.gm_toys.proofs.Lower.{◌≡◌, ◌↔◌, ℕ, Some, decimal}
+use Rattle.std.proofs.Common.{subst}
+use Rattle.std.specs.List.{Contains}
+use Rattle.gm_toys.specs.Subtraction.{moves_down}
 use Rattle.gm_toys.proofs.countdown.CountsDownShown.read_move.Goals as goal
 
 pub returns : goal.returns

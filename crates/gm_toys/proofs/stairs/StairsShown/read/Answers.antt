@@ -1,4 +1,6 @@
-use Rattle.gm_toys.proofs.Lower.{sym, refl, arith, at, same_position, stairs, stairs_legal_in, stairs_legal_from}
+use Rattle.gm_toys.proofs.Lower.{sym, refl, arith, at, same_position}
+use Rattle.gm_toys.specs.Stairs.{stairs}
+use Rattle.gm_toys.specs.laws.StairsLaws.{stairs_legal_in, stairs_legal_from}
 use Rattle.gm_toys.proofs.Reading.{position_read}
 use Rattle.gm_toys.proofs.stairs.StairsShown.read.Goals as goal
 

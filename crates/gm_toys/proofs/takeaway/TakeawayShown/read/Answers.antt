@@ -1,4 +1,5 @@
-use Rattle.gm_toys.proofs.Lower.{refl, takeaway_name}
+use Rattle.gm_toys.proofs.Lower.{refl}
+use Rattle.gm_toys.specs.Takeaway.{takeaway_name}
 use Rattle.gm_toys.proofs.Reading.{number_read}
 use Rattle.gm_toys.proofs.takeaway.TakeawayShown.read.Goals as goal
 

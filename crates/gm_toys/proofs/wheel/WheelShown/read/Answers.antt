@@ -1,4 +1,6 @@
-use Rattle.gm_toys.proofs.Lower.{sym, refl, arith, at, same_position, wheel, wheel_legal_in, wheel_legal_from}
+use Rattle.gm_toys.proofs.Lower.{sym, refl, arith, at, same_position}
+use Rattle.gm_toys.specs.Wheel.{wheel}
+use Rattle.gm_toys.specs.laws.WheelLaws.{wheel_legal_in, wheel_legal_from}
 use Rattle.gm_toys.proofs.Reading.{position_read}
 use Rattle.gm_toys.proofs.wheel.WheelShown.read.Goals as goal
 

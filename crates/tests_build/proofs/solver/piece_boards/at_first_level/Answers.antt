@@ -1,6 +1,6 @@
 use Rattle.std.proofs.Common.{subst, sym}
 use Rattle.gm_game.specs.declared.position.Place.{Place}
-use Rattle.gm_backward.specs.Tiling.{AreShardsAt}
+use Rattle.gm_backward.specs.inner.Tiling.{AreShardsAt}
 use Rattle.tests_build.proofs.solver.piece_boards.at_first_level.Goals as goal
 
 pub on_brands-requires-clause-here : goal.on_brands-requires-clause-here

@@ -1,4 +1,4 @@
-use Rattle.gm_locks.specs.Lower.{pairs_in}
+use Rattle.gm_counters.specs.State.{pairs_in}
 use Rattle.gm_locks.specs.Spots.{spot_of}
 use Rattle.tests_build.proofs.solver.piece_boards.on_brands.Given as goal
 

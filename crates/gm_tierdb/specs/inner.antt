@@ -1,0 +1,6 @@
+-- What no promise rests on: invariants of private types, and words that only proofs cite.
+pub mod Parts
+pub mod Seals
+pub mod Streams
+pub mod Turns
+pub mod Owners
