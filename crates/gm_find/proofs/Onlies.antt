@@ -7,8 +7,7 @@ use Rattle.gm_game.specs.declared.position.Value.{Value}
 use Rattle.gm_game.specs.declared.position.Value.TheVariants.{Lose, Draw, Tie}
 use Rattle.gm_game.proofs.Basic.{HasValue_once}
 use Rattle.gm_find.specs.declared.only.Aim.{Aim}
-use Rattle.gm_find.specs.declared.only.Aim.TheVariants.{Keep}
-use Rattle.gm_find.specs.Finding.{HasOnly, IsOnlyWin, IsOnlyLine, AgreesWith, HasOnlyResult}
+use Rattle.gm_find.specs.Finding.{HasOnly, IsOnlyWin, IsOnlyLine, AfterDefence, line_aim, AgreesWith, HasOnlyResult}
 
 -- c is the canonical position of the result of one of these moves that achieves the aim
 abbrev pub IsAchievedAmong : Rules → Aim → Position → List ℕ → Position → Type 0
@@ -66,14 +65,16 @@ pub is_win : (r : Rules) (p : Position) (s : Solved) (n : ℕ) → IsTrueValue r
 is_win r p s n h w = HasValue_once r p s.value Win s.remoteness n h w
 
 -- a turn before the last
-pub turn_is : (r : Rules) (d : Bool) (n : ℕ) (p : Position) → 2 < n
-    → IsOnlyWin r d n p ↔ (HasOnly r d (Keep Win) p × ((m : ℕ) → Contains (r.moves p) m → IsOnlyAfter r d (n - 2) p m))
-turn_is r d zero p l = absurd (omega arith)
-turn_is r d (suc zero) p l = absurd (omega arith)
-turn_is r d (suc (suc zero)) p l = absurd (omega arith)
-turn_is r d (suc (suc (suc n))) p l =
-    let e : suc n ≡ suc (suc (suc n)) - 2 = omega arith in
-    subst (λ (k : ℕ). IsOnlyWin r d (suc (suc (suc n))) p ↔ (HasOnly r d (Keep Win) p × ((m : ℕ) → Contains (r.moves p) m → IsOnlyAfter r d k p m))) e
+pub turn_is : (r : Rules) (d f : Bool) (n : ℕ) (p : Position) → 2 < n
+    → IsOnlyWin r d f n p ↔ (HasOnly r d (line_aim f n) p × ((m : ℕ) → Contains (r.moves p) m → IsOnlyAfter r d f n p m))
+turn_is r d f zero p l = absurd (omega arith)
+turn_is r d f (suc zero) p l = absurd (omega arith)
+turn_is r d f (suc (suc zero)) p l = absurd (omega arith)
+turn_is r d f (suc (suc (suc n))) p l =
+    let N = suc (suc (suc n)) in
+    let e : suc n ≡ N - 2 = omega arith in
+    subst (λ (k : ℕ). IsOnlyWin r d f N p ↔ (HasOnly r d (line_aim f N) p × ((m : ℕ) → Contains (r.moves p) m → Achieves r (line_aim f N) p m →
+    AfterDefence r k (IsOnlyWin r d f k) (r.play p m)))) e
     (λ h. h, λ h. h)
 
 -- a property of all moves, after one move more
@@ -90,10 +91,10 @@ pub no_win : (r : Rules) (p : Position) (s : Solved) → IsTrueValue r p s → (
 no_win r p s h e n w = (let v = (is_win r p s n h w).0 in elim e [ inl x ↦ cc | inr y ↦ elim y [ inl x ↦ cc | inr x ↦ cc ] ])
 
 -- a win of this remoteness has such a line if it has one in so many moves
-pub line_is : (r : Rules) (d : Bool) (p : Position) (s : Solved) → IsTrueValue r p s → s.value ≡ Win → IsOnlyWin r d s.remoteness p ↔ IsOnlyLine r d p
-line_is r d p s h v = (
+pub line_is : (r : Rules) (d f : Bool) (p : Position) (s : Solved) → IsTrueValue r p s → s.value ≡ Win → IsOnlyWin r d f s.remoteness p ↔ IsOnlyLine r d f p
+line_is r d f p s h v = (
   λ t. (s.remoteness, win_is r p s s.remoteness h v refl, t),
-  λ (k, w, t). subst (λ (n : ℕ). IsOnlyWin r d n p) (sym (is_win r p s k h w).1) t,
+  λ (k, w, t). subst (λ (n : ℕ). IsOnlyWin r d f n p) (sym (is_win r p s k h w).1) t,
 )
 
 -- an answer about a fact is one about another that comes to the same

@@ -1,5 +1,5 @@
 -- Positions that are sought.
-use Rattle.std.specs.Prelude.{◌≡◌, ℕ, zero, suc, List, [], ◌∷◌, map, length, Bool, true, IsTrue, Option, None, Some, ◌≤◌, ◌==◌, if◌then◌else◌, false}
+use Rattle.std.specs.Prelude.{◌≡◌, ◌-◌, ℕ, zero, suc, List, [], ◌∷◌, map, length, Bool, true, IsTrue, Option, None, Some, ◌≤◌, ◌==◌, if◌then◌else◌, false}
 use Rattle.std.specs.List.{Contains, flat_map, range_with_len}
 use Rattle.gm_game.specs.declared.position.Position.{Position}
 use Rattle.gm_game.specs.declared.position.Value.TheVariants.{Win, Lose, Draw, Tie}
@@ -86,25 +86,31 @@ HasMoves r true n p = n ≤ length (canonical_children_of r p)
 abbrev pub AfterDefence : Rules → ℕ → (Position → Type 0) → Position → Type 0
 AfterDefence r n P q = (e : ℕ) → Contains (r.moves q) e → HasValue r (r.play q e) Win n → P (r.play q e)
 
--- from p, a win in n, the winner has one move that keeps the win, and so on after it and each longest defence; at the last turn any move will do
-abbrev pub IsOnlyWin : Rules → Bool → ℕ → Position → Type 0
-IsOnlyWin r d zero p = Unit {0}
-IsOnlyWin r d (suc zero) p = Unit {0}
-IsOnlyWin r d (suc (suc zero)) p = Unit {0}
-IsOnlyWin r d (suc (suc (suc n))) p = HasOnly r d (Keep Win) p
-    × ((m : ℕ) → Contains (r.moves p) m → KeepsValue r Win p m → AfterDefence r (suc n) (IsOnlyWin r d (suc n)) (r.play p m))
+-- what counts at a turn of the winner who wins in n: a move that keeps the win, or, if only the fastest count, one that wins in n
+abbrev pub line_aim : Bool → ℕ → Aim
+line_aim false n = Keep Win
+line_aim true n = WinIn n
+
+-- from p, a win in n, the winner has one move that counts, and so on after it and each longest defence; at the last turn any move will do
+abbrev pub IsOnlyWin : Rules → Bool → Bool → ℕ → Position → Type 0
+IsOnlyWin r d f zero p = Unit {0}
+IsOnlyWin r d f (suc zero) p = Unit {0}
+IsOnlyWin r d f (suc (suc zero)) p = Unit {0}
+IsOnlyWin r d f (suc (suc (suc n))) p = HasOnly r d (line_aim f (suc (suc (suc n)))) p
+    × ((m : ℕ) → Contains (r.moves p) m → Achieves r (line_aim f (suc (suc (suc n)))) p m → AfterDefence r (suc n) (IsOnlyWin r d f (suc n)) (r.play p m))
 
 -- the move e of the loser, if the winner wins in n after it, leads to a win as said above
-abbrev pub IsOnlyDefence : Rules → Bool → ℕ → Position → ℕ → Type 0
-IsOnlyDefence r d n q e = HasValue r (r.play q e) Win n → IsOnlyWin r d n (r.play q e)
+abbrev pub IsOnlyDefence : Rules → Bool → Bool → ℕ → Position → ℕ → Type 0
+IsOnlyDefence r d f n q e = HasValue r (r.play q e) Win n → IsOnlyWin r d f n (r.play q e)
 
--- the move m of the winner, if it keeps the win, leads to a loss after each longest defence of which the winner wins in n as said above
-abbrev pub IsOnlyAfter : Rules → Bool → ℕ → Position → ℕ → Type 0
-IsOnlyAfter r d n p m = KeepsValue r Win p m → AfterDefence r n (IsOnlyWin r d n) (r.play p m)
+-- the move m of the winner, who wins in n, if it counts, leads to a loss after each longest defence of which the winner wins as said above
+abbrev pub IsOnlyAfter : Rules → Bool → Bool → ℕ → Position → ℕ → Type 0
+IsOnlyAfter r d f n p m = Achieves r (line_aim f n) p m → AfterDefence r (n - 2) (IsOnlyWin r d f (n - 2)) (r.play p m)
 
--- a win in which, against every longest defence, at each turn of the winner but the last exactly one move keeps the win
-abbrev pub IsOnlyLine : Rules → Bool → Position → Type 0
-IsOnlyLine r d p = (n : ℕ) × HasValue r p Win n × IsOnlyWin r d n p
+-- a win in which, against every longest defence, at each turn of the winner but the last exactly one move keeps the win, or, if only the fastest count, wins in the
+-- fewest moves
+abbrev pub IsOnlyLine : Rules → Bool → Bool → Position → Type 0
+IsOnlyLine r d f p = (n : ℕ) × HasValue r p Win n × IsOnlyWin r d f n p
 
 -- whether a remoteness is asked for: any is, or those of a span
 abbrev pub IsAskedFor : Option Span → ℕ → Type 0
@@ -132,7 +138,7 @@ pub record IsMatch (r : Rules) (q : Sought) (reached : Bool) (p : Position) : Ty
   pub choice : HasMoves r q.distinct q.min_moves p
   pub only : IsTrue q.only_move → HasOnly r q.distinct (Keep q.value) p
   pub fastest : IsTrue q.only_fastest → HasOnlyFastest r q.distinct p
-  pub line : IsTrue q.whole_line → IsOnlyLine r q.distinct p
+  pub line : IsTrue q.whole_line → IsOnlyLine r q.distinct q.only_fastest p
   pub reaches : IsTrue reached → IsReachedByPlay r p
 
 -- the place at which positions of this value and remoteness stand

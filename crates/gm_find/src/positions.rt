@@ -149,7 +149,7 @@ fn is_sought<G: Game>(search: &Search<'_, G>, p: Position) -> bool
     if !is_in(search.reached, p) {
         return false;
     }
-    !sought.whole_line || is_only_line(&known, solved, sought.distinct)
+    !sought.whole_line || is_only_line(&known, solved, sought.distinct, sought.only_fastest)
 }
 
 // Returns whether a position has the moves that are sought.

@@ -19,7 +19,8 @@ pub struct Sought {
     pub only_move: bool,
     /// Wins from which exactly one move wins in the fewest moves.
     pub only_fastest: bool,
-    /// Wins in which, against every longest defence, exactly one move keeps the win at each turn of the winner but the last.
+    /// Wins in which, against every longest defence, exactly one move keeps the win at each turn of the winner but the last; with `only_fastest` exactly one wins
+    /// in the fewest moves there.
     pub whole_line: bool,
     /// Whether moves whose results are the same but for symmetry count as one.
     pub distinct: bool,
