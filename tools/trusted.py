@@ -224,8 +224,9 @@ def promises():
 
 def commands():
     """The commands, each with the definition of its answer, and how the equations begin that are its own."""
-    questions = {"query": "Value", "moves": "(Moves", "why": "Why", "line": "(Line", "show": "(Show", "show --svg": "(Diagram"}
-    from_tables = {"query -` and `moves -": "(Filter", "solve": "Solve", "at": "(At", "find": "(Find", "counts": "(Counts", "longest": "(Longest",
+    questions = {"query": "(Value false)", "query --json": "(Value true)", "moves": "(Moves", "why": "(Why false)", "why --json": "(Why true)", "line": "(Line",
+                 "show": "(Show", "show --json": "Board", "show --svg": "(Diagram"}
+    from_tables = {"query -` and `moves -": "(Filter", "solve": "(Solve", "at": "(At", "find": "(Find", "counts": "(Counts", "longest": "(Longest",
                    "ask": "(Ask", "analyse": "Analyse", "play": "(Play"}
     pages = {"page": "None", "page --engine": "(Some"}
     others = {"check": "(Check", "locate": "(Locate"}

@@ -40,7 +40,7 @@ class Failed(GamesmanError):
         self.status = status
         """The exit status; if negative, the signal that ended the program."""
         self.reason = reason
-        """Why the fault came, if that is known: the command line of a bad line, a folder that is not there, further lines of the program."""
+        """Why the fault came, or what to do, as the program explains it; empty if it doesn't."""
 
     def __reduce__(self) -> Tuple[Any, ...]:
         return type(self), (self.fault, self.status, self.reason)

@@ -4,13 +4,13 @@ import csv
 import functools
 import glob
 import os
-import shlex
+import re
 import subprocess
 import sys
 import tempfile
 import threading
 import weakref
-from typing import IO, Callable, Iterable, Iterator, List, Optional, Sequence, Tuple
+from typing import IO, Callable, Dict, Iterable, Iterator, List, Optional, Sequence, Tuple
 
 from .errors import Failed, ProgramMissing, Stopped
 
@@ -46,9 +46,14 @@ def started(words: Sequence[str], errors: IO[bytes], has_input: bool) -> "subpro
     """Starts the program."""
     given = subprocess.PIPE if has_input else subprocess.DEVNULL
     try:
-        return subprocess.Popen(words, stdin=given, stdout=subprocess.PIPE, stderr=errors, bufsize=-1)
+        return subprocess.Popen(words, stdin=given, stdout=subprocess.PIPE, stderr=errors, bufsize=-1, env=environment())
     except OSError as why:
         raise missing(words[0], why) from None
+
+
+def environment() -> Dict[str, str]:
+    """Returns the environment of the program, which is to explain its faults."""
+    return {**os.environ, "GAMESMAN_EXPLAIN": "1"}
 
 
 def missing(program: str, why: OSError) -> ProgramMissing:
@@ -65,23 +70,18 @@ def widen(pipe: IO[bytes]) -> None:
             fcntl.fcntl(pipe, SET_PIPE_SIZE, ROOM)
 
 
-def fault_of(said: str, status: int, words: Sequence[str]) -> Tuple[str, int, str]:
+def fault_of(said: str, status: int) -> Tuple[str, int, str]:
     """Returns the fault of a command that failed (the first line that it wrote to standard error, or how it ended), its status, and the reason."""
     fault, _, rest = said.strip().partition("\n")
     if not fault:
         fault = f"the program was ended by signal {-status}" if status < 0 else f"the program ended with status {status}"
     fault = fault[len("gamesman: ") :] if fault.startswith("gamesman: ") else fault
-    return fault, status, rest.strip() or reason_of(fault, words)
+    return fault, status, reason_in(rest)
 
 
-def reason_of(fault: str, words: Sequence[str]) -> str:
-    """Returns why a command failed, as far as that is seen from here."""
-    if fault == "bad line":
-        return shlex.join(["gamesman", *words[1:]])
-    if fault.startswith("store failed"):
-        folder = words[3] if words[1] == "solve" else words[words.index("--folder") + 1]
-        return "" if os.path.isdir(folder) else f"there is no folder {folder!r}"
-    return ""
+def reason_in(further: str) -> str:
+    """Returns the reason that the further lines of a fault give: their first paragraph, without the word before it."""
+    return re.sub(r"^(error|tip): ", "", further.strip().partition("\n\n")[0])
 
 
 def text_of(file: IO[bytes]) -> str:
@@ -101,7 +101,7 @@ def run(words: Sequence[str]) -> str:
             process.wait()
             raise
         if process.returncode:
-            raise Failed(*fault_of(text_of(errors), process.returncode, words))
+            raise Failed(*fault_of(text_of(errors), process.returncode))
     return text.decode("utf-8")
 
 
@@ -109,23 +109,25 @@ def run_with_progress(words: Sequence[str], heard: Callable[[str], None]) -> str
     """Runs a command to its end, hands each line of its standard error to `heard`, and returns what it writes to its output."""
     with tempfile.TemporaryFile() as output:
         try:
-            process = subprocess.Popen(words, stdin=subprocess.DEVNULL, stdout=output, stderr=subprocess.PIPE)
+            process = subprocess.Popen(words, stdin=subprocess.DEVNULL, stdout=output, stderr=subprocess.PIPE, env=environment())
         except OSError as why:
             raise missing(words[0], why) from None
         assert process.stderr is not None
-        last = ""
+        said = ""
         try:
             with process.stderr:
                 for line in process.stderr:
-                    last = line.decode("utf-8", "replace").rstrip("\n")
-                    heard(last)
+                    text = line.decode("utf-8", "replace")
+                    if said or text.startswith("gamesman: "):
+                        said += text
+                    heard(text.rstrip("\n"))
             process.wait()
         except BaseException:
             process.kill()
             process.wait()
             raise
         if process.returncode:
-            raise Failed(*fault_of(last if last.startswith("gamesman: ") else "", process.returncode, words))
+            raise Failed(*fault_of(said, process.returncode))
         return text_of(output)
 
 
@@ -248,7 +250,7 @@ class Asker:
         except subprocess.TimeoutExpired:
             self._process.kill()
             status = self._process.wait()
-        self._stopped = Stopped(*fault_of(text_of(self._errors), status, self._words))
+        self._stopped = Stopped(*fault_of(text_of(self._errors), status))
         self.close()
         return self._stopped
 

@@ -158,12 +158,12 @@ class Reasons(WithRoom):
         absent = os.path.join(self.room, "none")
         with Game("tictactoe", program=GAMESMAN) as game, Game("tictactoe", absent, GAMESMAN) as lost:
             for call, wanted in (
-                (lambda: game.find("lose", only_move=True), "bad line: gamesman find tictactoe --value lose --only-move --json"),
-                (lambda: game.run("show", "a b", "c"), "bad line: gamesman show tictactoe 'a b' c"),
-                (lambda: lost.start, f"store failed at tier 9: there is no folder {absent!r}"),
-                (lambda: lost.position("........."), f"store failed at tier 9: there is no folder {absent!r}"),
-                (lambda: lost.solve(), f"store failed at tier 9: there is no folder {absent!r}"),
-                (lambda: lost.solve(progress=lambda _: None), f"store failed at tier 9: there is no folder {absent!r}"),
+                (lambda: game.find("lose", only_move=True), "bad line: '--only-move' goes with '--value win' and '--value tie' alone"),
+                (lambda: game.run("show", "a b", "c"), "bad line: unexpected argument 'c' found"),
+                (lambda: lost.start, f"store failed at tier 9: there is no folder {absent!r}: make it first"),
+                (lambda: lost.position("........."), f"store failed at tier 9: there is no folder {absent!r}: make it first"),
+                (lambda: lost.solve(), f"store failed at tier 9: there is no folder {absent!r}: make it first"),
+                (lambda: lost.solve(progress=lambda _: None), f"store failed at tier 9: there is no folder {absent!r}: make it first"),
             ):
                 with self.assertRaises(Failed) as caught:
                     call()
@@ -179,7 +179,7 @@ class Reasons(WithRoom):
             Game("tictactoe", program=absent)
 
     def test_further_lines_of_a_fault_are_its_reason(self) -> None:
-        program = self.program('[ "$1" = list ] && echo wheel && exit; printf "gamesman: bad line\\nfirst\\nsecond\\n" >&2; exit 2')
+        program = self.program('[ "$1" = list ] && echo wheel && exit; printf "gamesman: bad line\\nerror: first\\nsecond\\n\\nUsage\\n" >&2; exit 2')
         with Game("wheel", program=program) as game, self.assertRaises(Failed) as caught:
             game.run("show")
         why = caught.exception

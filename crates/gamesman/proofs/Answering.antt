@@ -1,5 +1,5 @@
 -- The answers to commands that are answered from tables: what they need is not there, or their tables are not built, or a text is put.
-use Rattle.gamesman.proofs.Lower.{◌≡◌, ℕ, true, List, [], Option, None, Some, Result, Ok, Err, refl, sym, ap, subst, inl, inr, Position, Rules, Fault, NoSuchPosition, GameSpec, IsUnbuilt, IsMemoryFault, IsPut, IsTextFor, IsEngineFault, IsUnsearched, PositionSearch, text_asked, first_of, max}
+use Rattle.gamesman.proofs.Lower.{◌≡◌, ℕ, Bool, true, List, [], Option, None, Some, Result, Ok, Err, refl, sym, ap, subst, inl, inr, Position, Rules, Fault, NoSuchPosition, GameSpec, IsUnbuilt, IsMemoryFault, IsPut, IsTextFor, IsEngineFault, IsUnsearched, PositionSearch, text_asked, first_of, max}
 use Rattle.std.proofs.Common.{IfOk, IfErr, ◌⊎◌}
 use Rattle.std.specs.Borrow.{Bor}
 use Rattle.gm_play.specs.PlayTexts.{IsReadAs}
@@ -105,12 +105,10 @@ page_engineless (Some engine) g text limit p fault o read is = record {
   unread = λ none. absurd (none p read);
 }
 
-pub place_refused : (r : Rules) (shown : Position → List ℕ) (tier index : ℕ) (fault : Fault) (o : Option (List ℕ)) → (IsUnknown r tier fault ⊎ IsNoPlace r tier index fault)
-    → IsTold (IsAtText r shown tier index) (IsUnplaced r tier index) o o (Err fault)
-place_refused r shown tier index fault o (inl is) =
-    unknown_told (IsAtText r shown tier index) o (IsUnplaced r tier index) fault (inl (inl is)) r tier is
-place_refused r shown tier index fault o (inr is) =
-    no_place_told (IsAtText r shown tier index) o (IsUnplaced r tier index) fault (inl (inr is)) r tier index is
+pub place_refused : (IsText : List ℕ → Type 0) (r : Rules) (tier index : ℕ) (fault : Fault) (o : Option (List ℕ))
+    → (IsUnknown r tier fault ⊎ IsNoPlace r tier index fault) → IsTold IsText (IsUnplaced r tier index) o o (Err fault)
+place_refused IsText r tier index fault o (inl is) = unknown_told IsText o (IsUnplaced r tier index) fault (inl (inl is)) r tier is
+place_refused IsText r tier index fault o (inr is) = no_place_told IsText o (IsUnplaced r tier index) fault (inl (inr is)) r tier index is
 
 -- ---- the tables are not built
 module _ (g : GameSpec) (needs : Needs) (fault : Fault) (o : Option (List ℕ)) (is : IsUnbuilt g.rules needs.tier fault) where
@@ -131,7 +129,7 @@ module _ (g : GameSpec) (needs : Needs) (fault : Fault) (o : Option (List ℕ)) 
 
   pub unbuilt_answered : (command : TableCommand) (input : Option (List ℕ)) → IsNeeded g command needs → IsAnsweredFromTables g command input o o (Err fault)
   unfolding IsAnsweredFromTables
-  unbuilt_answered Solve input same = whole (IsReport g.rules) same
+  unbuilt_answered (Solve json) input same = whole (IsReport g.rules json) same
   unbuilt_answered (Explore position question) input this =
       let text = text_asked g position in
       answered_told g.rules g.shown g.move_shown text (IsTextFor g question text) needs.position (asked_read g position needs this) o o (Err fault)
@@ -141,12 +139,12 @@ module _ (g : GameSpec) (needs : Needs) (fault : Fault) (o : Option (List ℕ)) 
       let text = text_asked g request.position in
       paged_told request.engine g text (max request.limit 1) needs.position (asked_read g request.position needs this) o o (Err fault)
       (about request.position (IsPageOf request.engine g text (max request.limit 1)) this)
-  unbuilt_answered (At tier index) input (at, reached, same) =
+  unbuilt_answered (At tier index json) input (at, reached, same) =
       let why = here tier same in
-      unbuilt_told (IsAtText g.rules g.shown tier index) o (IsUnplaced g.rules tier index) fault (inr why) g.rules tier why
+      unbuilt_told (IsAtText g.rules g.shown g.move_shown tier index json) o (IsUnplaced g.rules tier index) fault (inr why) g.rules tier why
   unbuilt_answered (Find search) input same = find_unsearched _ g search o fault (inr (here (first_of g.rules search.tier) same))
   unbuilt_answered (Counts request) input same = whole (IsCountsOf g.rules request) same
-  unbuilt_answered (Longest reached limit) input same = whole (IsLongestOf g.rules g.shown g.move_shown reached limit) same
+  unbuilt_answered (Longest reached limit json) input same = whole (IsLongestOf g.rules g.shown g.move_shown reached limit json) same
   unbuilt_answered (Ask request) input same = inl (inr (here g.rules.initial.tier same), kept o)
   unbuilt_answered Analyse input same = whole (IsAnalysisText g.rules) same
   unbuilt_answered (Play request) input (from, legal, same) =
@@ -156,16 +154,16 @@ module _ (g : GameSpec) (needs : Needs) (fault : Fault) (o : Option (List ℕ)) 
 -- a command about no position, at no place and for no search needs all tables of the game
 pub whole_needed : (g : GameSpec) (needs : Needs) (command : TableCommand) → needs.tier ≡ g.rules.initial.tier
     → ((position : Option (Bor (List ℕ))) (question : Question) → command ≡ Explore position question → ⊥) → ((request : PlayRequest) → command ≡ Play request → ⊥)
-    → ((request : PageRequest) → command ≡ Page request → ⊥) → ((tier index : ℕ) → command ≡ At tier index → ⊥)
+    → ((request : PageRequest) → command ≡ Page request → ⊥) → ((tier index : ℕ) (json : Bool) → command ≡ At tier index json → ⊥)
     → ((search : PositionSearch) → command ≡ Find search → ⊥) → IsNeeded g command needs
-whole_needed g needs Solve same e p w a f = same
+whole_needed g needs (Solve json) same e p w a f = same
 whole_needed g needs (Explore position question) same e p w a f = absurd (e position question refl)
 whole_needed g needs (Filter question) same e p w a f = same
 whole_needed g needs (Page request) same e p w a f = absurd (w request refl)
-whole_needed g needs (At tier index) same e p w a f = absurd (a tier index refl)
+whole_needed g needs (At tier index json) same e p w a f = absurd (a tier index json refl)
 whole_needed g needs (Find search) same e p w a f = absurd (f search refl)
 whole_needed g needs (Counts request) same e p w a f = same
-whole_needed g needs (Longest reached limit) same e p w a f = same
+whole_needed g needs (Longest reached limit json) same e p w a f = same
 whole_needed g needs (Ask request) same e p w a f = same
 whole_needed g needs Analyse same e p w a f = same
 whole_needed g needs (Play request) same e p w a f = absurd (p request refl)

@@ -7,7 +7,7 @@ use Rattle.std.proofs.Common.{drop-cons, IsTrue}
 use Rattle.gm_table.specs.Tables.{AreTables, Inserts, AreHeld}
 use Rattle.gm_build.proofs.StoreLemmas.{holds_too}
 use Rattle.gamesman.specs.declared.finding.Finding.{Finding}
-use Rattle.gamesman.specs.Checking.{finding_line, right_with, status_with, IsFinding, IsFoundAfter, IsTableFor, AreLines, IsFileUnread, IsTierCut, IsCheckCut, IsCheckOf, finding_for, table_found}
+use Rattle.gamesman.specs.Checking.{tier_line, right_with, status_with, IsFinding, IsFoundAfter, IsTableFor, AreLines, IsFileUnread, IsTierCut, IsCheckCut, IsCheckOf, finding_for, table_found}
 use Rattle.gm_tierdb.specs.StoreTexts.{AreSame, StoreView, store_view, Texts}
 use Rattle.gm_build.specs.Inspections.{IsInspectedIn}
 use Rattle.gm_build.specs.declared.inspect.Inspected.{Inspected}
@@ -36,11 +36,11 @@ pub finding_before : (r : Rules) (entries : List TableData) (b : Bool) (start no
 finding_before r entries b start now tier finding same (inl none) = inl none
 finding_before r entries b start now tier finding same (inr (held, (read, is, found))) = inr (held, (read, (λ reads. is reads ∙ same reads tier), found))
 
-pub cut_before : (r : Rules) (entries : List TableData) (b : Bool) (start now : Texts) (tier : ℕ) (before after : Option (List ℕ)) (fault : Fault)
-    → (IsTrue b → AreSame start now) → IsTierCut r entries (store_view b now) tier before after fault
-    → IsTierCut r entries (store_view b start) tier before after fault
-cut_before r entries b start now tier before after fault same (inl unread) = inl unread
-cut_before r entries b start now tier before after fault same (inr (finding, is, rest)) =
+pub cut_before : (r : Rules) (entries : List TableData) (json b : Bool) (start now : Texts) (tier : ℕ) (before after : Option (List ℕ)) (fault : Fault)
+    → (IsTrue b → AreSame start now) → IsTierCut r entries (store_view b now) json tier before after fault
+    → IsTierCut r entries (store_view b start) json tier before after fault
+cut_before r entries json b start now tier before after fault same (inl unread) = inl unread
+cut_before r entries json b start now tier before after fault same (inr (finding, is, rest)) =
     inr (finding, finding_before r entries b start now tier finding same is, rest)
 
 -- no tier is right before the first
@@ -71,99 +71,99 @@ held_with old new tier (NoFile why) table right is inserts held = absurd (cc)
 held_with old new tier (NoTable why) table right is inserts held = absurd (cc)
 
 -- the lines of these tiers are written, and those of further tiers continue from here
-abbrev pub Continues : Rules → StoreView → List ℕ → List ℕ → List ℕ → ℕ → Type 0
-Continues r store done out right status = (tiers rest : List ℕ) (ends : ℕ) → AreLines r store right status tiers rest ends → AreLines r store [] 0 (done ++ tiers)
+abbrev pub Continues : Rules → StoreView → Bool → List ℕ → List ℕ → List ℕ → ℕ → Type 0
+Continues r store json done out right status = (tiers rest : List ℕ) (ends : ℕ) → AreLines r store json right status tiers rest ends → AreLines r store json [] 0 (done ++ tiers)
     (out ++ rest) ends
 
-continues_next : (r : Rules) (store : StoreView) (done out right : List ℕ) (status tier : ℕ) (finding : Finding) → IsFoundAfter r store right tier finding
-    → Continues r store done out right status
-    → Continues r store (done ++ tier ∷ []) (out ++ finding_line tier finding) (right_with tier finding right) (status_with status finding)
-continues_next r store done out right status tier finding found so_far tiers rest ends are =
-    let line = finding_line tier finding in
+continues_next : (r : Rules) (store : StoreView) (json : Bool) (done out right : List ℕ) (status tier : ℕ) (finding : Finding) → IsFoundAfter r store right tier finding
+    → Continues r store json done out right status
+    → Continues r store json (done ++ tier ∷ []) (out ++ tier_line json tier finding) (right_with tier finding right) (status_with status finding)
+continues_next r store json done out right status tier finding found so_far tiers rest ends are =
+    let line = tier_line json tier finding in
     let h = so_far (tier ∷ tiers) (line ++ rest) ends (finding, rest, found, are, refl) in
-    subst (λ (ts : List ℕ). AreLines r store [] 0 ts ((out ++ line) ++ rest) ends) (sym (append_assoc done (tier ∷ []) tiers))
-    (subst (λ (o : List ℕ). AreLines r store [] 0 (done ++ tier ∷ tiers) o ends) (sym (append_assoc out line rest)) h)
+    subst (λ (ts : List ℕ). AreLines r store json [] 0 ts ((out ++ line) ++ rest) ends) (sym (append_assoc done (tier ∷ []) tiers))
+    (subst (λ (o : List ℕ). AreLines r store json [] 0 (done ++ tier ∷ tiers) o ends) (sym (append_assoc out line rest)) h)
 
 -- all lines of these tiers
-continues_none : (r : Rules) (store : StoreView) (done out right : List ℕ) (status : ℕ) → Continues r store done out right status
-    → AreLines r store [] 0 done out status
-continues_none r store done out right status so_far =
-    subst (λ (ts : List ℕ). AreLines r store [] 0 ts out status) (append-nil done)
-    (subst (λ (o : List ℕ). AreLines r store [] 0 (done ++ []) o status) (append-nil out) (so_far [] [] status (refl, refl)))
+continues_none : (r : Rules) (store : StoreView) (json : Bool) (done out right : List ℕ) (status : ℕ) → Continues r store json done out right status
+    → AreLines r store json [] 0 done out status
+continues_none r store json done out right status so_far =
+    subst (λ (ts : List ℕ). AreLines r store json [] 0 ts out status) (append-nil done)
+    (subst (λ (o : List ℕ). AreLines r store json [] 0 (done ++ []) o status) (append-nil out) (so_far [] [] status (refl, refl)))
 
 -- the lines of these tiers are written, and the tables of those that are right are held
-pub record IsToldTo (r : Rules) (store : StoreView) (done : List ℕ) (before after : Option (List ℕ)) (entries : List TableData) (status : ℕ) : Type 0 where
+pub record IsToldTo (r : Rules) (store : StoreView) (json : Bool) (done : List ℕ) (before after : Option (List ℕ)) (entries : List TableData) (status : ℕ) : Type 0 where
   pub out : List ℕ
   pub right : List ℕ
   pub written : Appends before after out
   pub held : HoldsExactly entries right
-  pub continues : Continues r store done out right status
+  pub continues : Continues r store json done out right status
 
 memory_unread : (left : List ℕ) (fault : Fault) → IsMemoryFault fault → IsFileUnread left fault
 memory_unread [] fault is = is
 memory_unread (tier ∷ tiers) fault is = inl is
 
-module _ (r : Rules) (store : StoreView) (entries : List TableData) (done : List ℕ) (tier status : ℕ) (a b c : Option (List ℕ)) (are : AreTables r entries)
-    (so_far : IsToldTo r store done a b entries status) where
+module _ (r : Rules) (store : StoreView) (json : Bool) (entries : List TableData) (done : List ℕ) (tier status : ℕ) (a b c : Option (List ℕ)) (are : AreTables r entries)
+    (so_far : IsToldTo r store json done a b entries status) where
   found_after : (finding : Finding) → IsFinding r entries store tier finding → IsFoundAfter r store so_far.right tier finding
   found_after finding is = (entries, are, so_far.held, is)
 
   -- one more line
-  pub told_next : (new : List TableData) (finding : Finding) → IsFinding r entries store tier finding → Appends b c (finding_line tier finding)
-      → ((right : List ℕ) → HoldsExactly entries right → HoldsExactly new (right_with tier finding right)) → IsToldTo r store (done ++ tier ∷ []) a c new
+  pub told_next : (new : List TableData) (finding : Finding) → IsFinding r entries store tier finding → Appends b c (tier_line json tier finding)
+      → ((right : List ℕ) → HoldsExactly entries right → HoldsExactly new (right_with tier finding right)) → IsToldTo r store json (done ++ tier ∷ []) a c new
       (status_with status finding)
   told_next new finding is line held = record {
-    out = so_far.out ++ finding_line tier finding;
+    out = so_far.out ++ tier_line json tier finding;
     right = right_with tier finding so_far.right;
-    written = Appends-trans a b c so_far.out (finding_line tier finding) so_far.written line;
+    written = Appends-trans a b c so_far.out (tier_line json tier finding) so_far.written line;
     held = held so_far.right so_far.held;
-    continues = continues_next r store done so_far.out so_far.right status tier finding (found_after finding is) so_far.continues;
+    continues = continues_next r store json done so_far.out so_far.right status tier finding (found_after finding is) so_far.continues;
   }
 
-  lines_next : (finding : Finding) → IsFinding r entries store tier finding → AreLines r store [] 0 (done ++ tier ∷ []) (so_far.out ++ finding_line tier finding)
+  lines_next : (finding : Finding) → IsFinding r entries store tier finding → AreLines r store json [] 0 (done ++ tier ∷ []) (so_far.out ++ tier_line json tier finding)
       (status_with status finding)
   lines_next finding is =
-      continues_none r store (done ++ tier ∷ []) (so_far.out ++ finding_line tier finding) (right_with tier finding so_far.right) (status_with status finding)
-      (continues_next r store done so_far.out so_far.right status tier finding (found_after finding is) so_far.continues)
+      continues_none r store json (done ++ tier ∷ []) (so_far.out ++ tier_line json tier finding) (right_with tier finding so_far.right) (status_with status finding)
+      (continues_next r store json done so_far.out so_far.right status tier finding (found_after finding is) so_far.continues)
 
   -- the check ends at a tier
-  pub cut_at : (tiers left : List ℕ) (fault : Fault) → tiers ≡ done ++ tier ∷ left → IsTierCut r entries store tier b c fault → IsCheckCut r store tiers a c fault
+  pub cut_at : (tiers left : List ℕ) (fault : Fault) → tiers ≡ done ++ tier ∷ left → IsTierCut r entries store json tier b c fault → IsCheckCut r store json tiers a c fault
   cut_at tiers left fault split (inl (unread, keeps)) = record {
     done = done;
     left = tier ∷ left;
     split = split;
     out = so_far.out;
     status = status;
-    lines = continues_none r store done so_far.out so_far.right status so_far.continues;
+    lines = continues_none r store json done so_far.out so_far.right status so_far.continues;
     written = inr (unread, Appends-kept a b c so_far.out so_far.written keeps);
   }
   cut_at tiers left fault split (inr (finding, is, inl (failed, part))) = record {
     done = done ++ tier ∷ [];
     left = left;
     split = split ∙ sym (append_assoc done (tier ∷ []) left);
-    out = so_far.out ++ finding_line tier finding;
+    out = so_far.out ++ tier_line json tier finding;
     status = status_with status finding;
     lines = lines_next finding is;
-    written = inl (failed, part_after a b c so_far.out (finding_line tier finding) so_far.written part);
+    written = inl (failed, part_after a b c so_far.out (tier_line json tier finding) so_far.written part);
   }
   cut_at tiers left fault split (inr (finding, is, inr (memory, line))) = record {
     done = done ++ tier ∷ [];
     left = left;
     split = split ∙ sym (append_assoc done (tier ∷ []) left);
-    out = so_far.out ++ finding_line tier finding;
+    out = so_far.out ++ tier_line json tier finding;
     status = status_with status finding;
     lines = lines_next finding is;
-    written = inr (memory_unread left fault memory, Appends-trans a b c so_far.out (finding_line tier finding) so_far.written line);
+    written = inr (memory_unread left fault memory, Appends-trans a b c so_far.out (tier_line json tier finding) so_far.written line);
   }
 
 -- all lines are written
-pub told_all : (r : Rules) (store : StoreView) (tiers : List ℕ) (a b : Option (List ℕ)) (entries : List TableData) (status : ℕ)
-    → IsToldTo r store tiers a b entries status → IsCheckOf r store tiers a b (Ok status)
-told_all r store tiers a b entries status so_far = (so_far.out, continues_none r store tiers so_far.out so_far.right status so_far.continues, so_far.written)
+pub told_all : (r : Rules) (store : StoreView) (json : Bool) (tiers : List ℕ) (a b : Option (List ℕ)) (entries : List TableData) (status : ℕ)
+    → IsToldTo r store json tiers a b entries status → IsCheckOf r store json tiers a b (Ok status)
+told_all r store json tiers a b entries status so_far = (so_far.out, continues_none r store json tiers so_far.out so_far.right status so_far.continues, so_far.written)
 
 -- no line is written
-pub told_none : (r : Rules) (store : StoreView) (a : Option (List ℕ)) (entries : List TableData) → HoldsExactly entries [] → IsToldTo r store [] a a entries 0
-told_none r store a entries held = record {
+pub told_none : (r : Rules) (store : StoreView) (json : Bool) (a : Option (List ℕ)) (entries : List TableData) → HoldsExactly entries [] → IsToldTo r store json [] a a entries 0
+told_none r store json a entries held = record {
   out = [];
   right = [];
   written = Appends-nil a;

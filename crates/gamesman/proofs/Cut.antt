@@ -4,8 +4,7 @@ use Rattle.std.proofs.Common.{IfSome, IfErr}
 use Rattle.std.specs.Borrow.{Bor}
 use Rattle.gm_play.specs.PlayTexts.{IsReadAs}
 use Rattle.gamesman.specs.Outputs.{IsOutputFault}
-use Rattle.gm_play.specs.PlaceTexts.{IsPlaceText}
-use Rattle.gamesman.specs.Answers.{IsAnsweredBy, IsUnlocatedFor, IsLocatedBy}
+use Rattle.gamesman.specs.Answers.{IsAnsweredBy, IsLocatedText, IsUnlocatedFor, IsLocatedBy}
 use Rattle.std.specs.Result.{IsErrAnd}
 use Rattle.gm_build.specs.declared.build_error.BuildError.{BuildError}
 use Rattle.gm_build.specs.Outcomes.{IsBuildError}
@@ -121,13 +120,13 @@ module _ (r : Rules) (shown : Position → List ℕ) (move_shown : Position → 
     unread = λ none. absurd (none p read);
   }
 
-module _ (r : Rules) (shown : Position → List ℕ) (text : List ℕ) where
+module _ (r : Rules) (shown : Position → List ℕ) (text : List ℕ) (json : Bool) where
   -- the write of a position's tier and index failed
-  pub unlocated_answer : (fault : Fault) (before after : Option (List ℕ)) (out : List ℕ) → IsOutputFault fault → IsPlaceText r shown text out → AppendsPart
+  pub unlocated_answer : (fault : Fault) (before after : Option (List ℕ)) (out : List ℕ) → IsOutputFault fault → IsLocatedText r shown text json out → AppendsPart
       before after out
-      → IsLocatedBy r shown text before after (Err fault)
+      → IsLocatedBy r shown text json before after (Err fault)
   unlocated_answer fault before after out failed is part = record {
-    written = cut_off (IsPlaceText r shown text) before after fault out failed is part;
+    written = cut_off (IsLocatedText r shown text json) before after fault out failed is part;
     refused = each_output (IsUnlocatedFor r shown text) tt tt fault failed;
     unread = λ none. absurd (none is.0.position is.1.legal is.1.reads);
   }

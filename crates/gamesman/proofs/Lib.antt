@@ -10,4 +10,5 @@ pub mod Filtering
 pub mod Lined
 pub mod Paged
 pub mod Said
+pub mod Entries
 pub mod Lower

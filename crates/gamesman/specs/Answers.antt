@@ -1,5 +1,5 @@
 -- The answer of each command.
-use Rattle.std.specs.Prelude.{◌≡◌, ℕ, max, List, [], Option, None, Some, Result, Ok, Err, IfErr}
+use Rattle.std.specs.Prelude.{◌≡◌, ℕ, Bool, true, false, max, List, [], Option, None, Some, Result, Ok, Err, IfErr}
 use Rattle.std.specs.Borrow.{Bor}
 use Rattle.std.specs.Io.KnownBytes.{Keeps}
 use Rattle.std.specs.Option.{option_map}
@@ -7,8 +7,11 @@ use Rattle.gm_tierdb.specs.StoreTexts.{unknown_texts}
 use Rattle.gm_game.specs.declared.position.Position.{Position}
 use Rattle.gm_game.specs.Rules.{Rules}
 use Rattle.gm_play.specs.PlayTexts.{IsNoPosition}
-use Rattle.gm_play.specs.PlaceTexts.{IsPlaceText}
-use Rattle.gm_play.specs.Places.{IsUnlocated}
+use Rattle.gm_json.specs.Words.{line_of}
+use Rattle.gm_json.specs.Located.{located_tree}
+use Rattle.gm_play.specs.PlaceTexts.{place_row}
+use Rattle.gm_play.specs.Places.{IsLocated, IsUnlocated}
+use Rattle.gm_play.specs.declared.places.Located.{Located}
 use Rattle.gm_command.specs.Names.{game_of_name}
 use Rattle.gm_command.specs.declared.requests.Question.{Question}
 use Rattle.gm_command.specs.declared.requests.PageRequest.{PageRequest}
@@ -33,8 +36,8 @@ use Rattle.gamesman.specs.Solving.{IsSolvedBy}
 use Rattle.gamesman.specs.Checking.{IsCheckedBy}
 use Rattle.gamesman.specs.Analysing.{IsAnalysedBy}
 use Rattle.gamesman.specs.Plays.{IsPlayed}
-use Rattle.gamesman.specs.Listing.{listed_names}
-use Rattle.gamesman.specs.Told.{IsPut, IsTold}
+use Rattle.gamesman.specs.Listing.{IsListed}
+use Rattle.gamesman.specs.Told.{IsTold}
 use Rattle.gamesman.specs.Engines.{IsEnginePaged, IsEveryGame}
 
 module _ (r : Rules) (shown : Position → List ℕ) (move_shown : Position → ℕ → List ℕ) (position : List ℕ) where
@@ -63,6 +66,15 @@ IsPagedWith (Some engine) g position limit before after result = IsEnginePaged g
 abbrev pub IsPagedBy : GameSpec → PageRequest → Option (List ℕ) → Option (List ℕ) → Result ℕ Fault → Type 0
 IsPagedBy g asked before after result = IsPagedWith asked.engine g (text_asked g asked.position) (max asked.limit 1) before after result
 
+-- a place as a line of JSON, or as a row
+abbrev pub located_text : (Position → List ℕ) → Bool → Located → List ℕ
+located_text shown true l = line_of (located_tree shown l)
+located_text shown false l = place_row shown l
+
+-- the text that locates the position with this text
+abbrev pub IsLocatedText : Rules → (Position → List ℕ) → List ℕ → Bool → List ℕ → Type 0
+IsLocatedText r shown text json out = (l : Located) × IsLocated r shown text l × (out ≡ located_text shown json l)
+
 -- the reason why a position is not located: no position has this text, or a write failed
 abbrev pub IsUnlocatedFor : Rules → (Position → List ℕ) → List ℕ → Fault → Type 0
 IsUnlocatedFor r shown text NoSuchPosition = IsUnlocated r shown text
@@ -72,23 +84,24 @@ IsUnlocatedFor r shown text OutputClosed = Unit {0}
 IsUnlocatedFor r shown text _ = ⊥
 
 -- the tier and index of the position with this text are written; if no position has the text, that is the fault
-pub record IsLocatedBy (r : Rules) (shown : Position → List ℕ) (text : List ℕ) (before after : Option (List ℕ)) (result : Result ℕ Fault) : Type 0 where
-  pub written : IsWritten (IsPlaceText r shown text) before after result
+pub record IsLocatedBy (r : Rules) (shown : Position → List ℕ) (text : List ℕ) (json : Bool) (before after : Option (List ℕ)) (result : Result ℕ Fault) : Type 0 where
+  pub written : IsWritten (IsLocatedText r shown text json) before after result
   pub refused : IfErr result (IsUnlocatedFor r shown text)
   pub unread : IsUnlocated r shown text → result ≡ Err NoSuchPosition
 
 -- a command is answered from tables of a game, from the rest of the input, the output before and the output after
 unfoldable pub IsAnsweredFromTables : GameSpec → TableCommand → Option (List ℕ) → Option (List ℕ) → Option (List ℕ) → Result ℕ Fault → Type 0
-IsAnsweredFromTables g Solve input before after result = IsSolvedBy g.rules before after result
+IsAnsweredFromTables g (Solve json) input before after result = IsSolvedBy g.rules json before after result
 IsAnsweredFromTables g (Explore position question) input before after result = IsExplored g position question before after result
 IsAnsweredFromTables g (Filter question) input before after result = IsFiltered g question input before after result
 IsAnsweredFromTables g (Page request) input before after result = IsPagedBy g request before after result
-IsAnsweredFromTables g (At tier index) input before after result = IsPlaced g.rules g.shown tier index before after result
+IsAnsweredFromTables g (At tier index json) input before after result =
+    IsPlaced g.rules g.shown g.move_shown tier index json before after result
 IsAnsweredFromTables g (Find search) input before after result = AreFoundBy g search (IsUnsearched g.rules search.tier) before after result
 IsAnsweredFromTables g (Counts request) input before after result =
     IsTold (IsCountsOf g.rules request) (IsUnsearched g.rules None) before after result
-IsAnsweredFromTables g (Longest reached limit) input before after result =
-    IsTold (IsLongestOf g.rules g.shown g.move_shown reached limit) (IsUnsearched g.rules None) before after result
+IsAnsweredFromTables g (Longest reached limit json) input before after result =
+    IsTold (IsLongestOf g.rules g.shown g.move_shown reached limit json) (IsUnsearched g.rules None) before after result
 IsAnsweredFromTables g (Ask request) input before after result =
     IsAskedBy g.rules g.shown g.move_shown request (IsUnsearched g.rules None) input before after result
 IsAnsweredFromTables g Analyse input before after result = IsAnalysedBy g.rules before after result
@@ -97,8 +110,8 @@ IsAnsweredFromTables g (Play request) input before after result = IsPlayed g.rul
 -- a command about a game is answered
 unfoldable pub IsAnswered : GameSpec → GameCommand → Option (List ℕ) → Option (List ℕ) → Option (List ℕ) → Result ℕ Fault → Type 0
 IsAnswered g (FromTables command) input before after result = IsAnsweredFromTables g command input before after result
-IsAnswered g (Locate position) input before after result = IsLocatedBy g.rules g.shown position.now before after result
-IsAnswered g (Check folder) input before after result = IsCheckedBy g.rules unknown_texts before after result
+IsAnswered g (Locate position json) input before after result = IsLocatedBy g.rules g.shown position.now json before after result
+IsAnswered g (Check folder json) input before after result = IsCheckedBy g.rules unknown_texts json before after result
 IsAnswered g _ input before after result = Unit {0}
 
 -- a command about a game is answered; if there is no such game, that is the fault
@@ -108,7 +121,7 @@ IsAnsweredFor (Some g) command input before after result = IsAnswered g command 
 
 -- a request is answered
 abbrev pub IsDone : Request → Option (List ℕ) → Option (List ℕ) → Option (List ℕ) → Result ℕ Fault → Type 0
-IsDone (Names all) input before after result = IsPut (listed_names all) before after result
+IsDone (Names all json) input before after result = IsListed all json before after result
 IsDone (Game request) input before after result =
     IsAnsweredFor (option_map spec_of (game_of_name request.game.now)) request.command input before after result
 IsDone (AllGames engine) input before after result = IsEveryGame before after result

@@ -1,13 +1,15 @@
 -- The output of `check` on the files of a game.
-use Rattle.std.specs.Prelude.{◌≡◌, ℕ, ◌⊎◌, List, [], ◌∷◌, ◌++◌, codes, Option, None, Some, IsTrue, Result, Ok, Err}
+use Rattle.std.specs.Prelude.{◌≡◌, ℕ, ◌⊎◌, Bool, true, false, List, [], ◌∷◌, ◌++◌, codes, Option, None, Some, IsTrue, Result, Ok, Err}
 use Rattle.std.specs.Result.{IsErrAnd}
 use Rattle.std.specs.Fmt.{decimal}
 use Rattle.std.specs.Io.KnownBytes.{Keeps, Appends}
+use Rattle.serde_json.specs.Data.{Data, object, member, no_members}
 use Rattle.gm_game.specs.Rules.{Rules}
 use Rattle.gm_table.specs.Tables.{TableData, AreTables, AreHeld}
 use Rattle.gm_tiers.specs.Orders.{IsTierOrder}
 use Rattle.gm_tierdb.specs.declared.file_error.FileError.{FileError}
 use Rattle.gm_tierdb.specs.Refusals.{Refuses}
+use Rattle.gm_json.specs.Words.{whole, text, line_of}
 use Rattle.gm_build.specs.TrueTexts.{IsTrueText}
 use Rattle.gm_build.specs.Inspections.{IsUntrueText}
 use Rattle.gm_build.specs.declared.build_error.BuildError.TheVariants.{StoreFailed}
@@ -52,6 +54,15 @@ finding_words (NoTable NoRoom) = codes "bad: wrong size"
 -- the line for a tier
 abbrev pub finding_line : ℕ → Finding → List ℕ
 finding_line tier finding = ((codes "tier " ++ decimal tier) ++ codes " ") ++ finding_words finding ++ codes "\n"
+
+-- the same as a JSON tree; the members in alphabetical order
+abbrev pub finding_tree : ℕ → Finding → Data
+finding_tree tier finding = object (member (codes "finding") (text (finding_words finding)) (member (codes "tier") (whole tier) no_members))
+
+-- the line for a tier, of JSON or of words
+abbrev pub tier_line : Bool → ℕ → Finding → List ℕ
+tier_line true tier finding = line_of (finding_tree tier finding)
+tier_line false tier finding = finding_line tier finding
 
 module _ (r : Rules) (entries : List TableData) (store : StoreView) (tier : ℕ) where
   -- the finding on these bytes, over the tables of the child tiers
@@ -120,20 +131,20 @@ abbrev pub IsFoundAfter : Rules → StoreView → List ℕ → ℕ → Finding �
 IsFoundAfter r store right tier finding = (entries : List TableData) × AreTables r entries × HoldsExactly entries right × IsFinding r entries store tier finding
 
 -- the lines of some tiers, one after another, and the status after them; given are the right tiers and the status before them
-abbrev pub AreLines : Rules → StoreView → List ℕ → ℕ → List ℕ → List ℕ → ℕ → Type 0
-AreLines r store right status [] out ends = (out ≡ []) × (ends ≡ status)
-AreLines r store right status (tier ∷ tiers) out ends = (finding : Finding) × (rest : List ℕ) × IsFoundAfter r store right tier finding
-    × AreLines r store (right_with tier finding right) (status_with status finding) tiers rest ends × (out ≡ finding_line tier finding ++ rest)
+abbrev pub AreLines : Rules → StoreView → Bool → List ℕ → ℕ → List ℕ → List ℕ → ℕ → Type 0
+AreLines r store json right status [] out ends = (out ≡ []) × (ends ≡ status)
+AreLines r store json right status (tier ∷ tiers) out ends = (finding : Finding) × (rest : List ℕ) × IsFoundAfter r store right tier finding
+    × AreLines r store json (right_with tier finding right) (status_with status finding) tiers rest ends × (out ≡ tier_line json tier finding ++ rest)
 
 -- a tier's file is not read to its end: memory is refused, or the read failed
 abbrev pub IsUnreadAt : ℕ → Fault → Type 0
 IsUnreadAt tier fault = IsMemoryFault fault ⊎ (fault ≡ NotBuilt (StoreFailed tier))
 
 -- the line of a tier is not written to its end, or memory is refused after it
-abbrev pub IsTierCut : Rules → List TableData → StoreView → ℕ → Option (List ℕ) → Option (List ℕ) → Fault → Type 0
-IsTierCut r entries store tier before after fault = (IsUnreadAt tier fault × Keeps before after)
-    ⊎ ((finding : Finding) × IsFinding r entries store tier finding × ((IsOutputFault fault × AppendsPart before after (finding_line tier finding))
-    ⊎ (IsMemoryFault fault × Appends before after (finding_line tier finding))))
+abbrev pub IsTierCut : Rules → List TableData → StoreView → Bool → ℕ → Option (List ℕ) → Option (List ℕ) → Fault → Type 0
+IsTierCut r entries store json tier before after fault = (IsUnreadAt tier fault × Keeps before after)
+    ⊎ ((finding : Finding) × IsFinding r entries store tier finding × ((IsOutputFault fault × AppendsPart before after (tier_line json tier finding))
+    ⊎ (IsMemoryFault fault × Appends before after (tier_line json tier finding))))
 
 -- the reason why a check ends before the remaining tiers: memory is refused, or the next tier's file can't be read
 abbrev pub IsFileUnread : List ℕ → Fault → Type 0
@@ -141,25 +152,25 @@ IsFileUnread [] fault = IsMemoryFault fault
 IsFileUnread (tier ∷ tiers) fault = IsUnreadAt tier fault
 
 -- a check ended early: the lines of the tiers before are written, or a first part of them if a write failed
-pub record IsCheckCut (r : Rules) (store : StoreView) (tiers : List ℕ) (before after : Option (List ℕ)) (fault : Fault) : Type 0 where
+pub record IsCheckCut (r : Rules) (store : StoreView) (json : Bool) (tiers : List ℕ) (before after : Option (List ℕ)) (fault : Fault) : Type 0 where
   pub done : List ℕ
   pub left : List ℕ
   pub split : tiers ≡ done ++ left
   pub out : List ℕ
   pub status : ℕ
-  pub lines : AreLines r store [] 0 done out status
+  pub lines : AreLines r store json [] 0 done out status
   pub written : (IsOutputFault fault × AppendsPart before after out) ⊎ (IsFileUnread left fault × Appends before after out)
 
 -- these tiers are checked in their order: a line for each is written, and the status shows whether all are right
-abbrev pub IsCheckOf : Rules → StoreView → List ℕ → Option (List ℕ) → Option (List ℕ) → Result ℕ Fault → Type 0
-IsCheckOf r store tiers before after (Ok status) = (out : List ℕ) × AreLines r store [] 0 tiers out status × Appends before after out
-IsCheckOf r store tiers before after (Err fault) = IsCheckCut r store tiers before after fault
+abbrev pub IsCheckOf : Rules → StoreView → Bool → List ℕ → Option (List ℕ) → Option (List ℕ) → Result ℕ Fault → Type 0
+IsCheckOf r store json tiers before after (Ok status) = (out : List ℕ) × AreLines r store json [] 0 tiers out status × Appends before after out
+IsCheckOf r store json tiers before after (Err fault) = IsCheckCut r store json tiers before after fault
 
 -- the order of the game's tiers can't be made, and nothing is written
 abbrev pub IsUnchecked : Rules → Option (List ℕ) → Option (List ℕ) → Result ℕ Fault → Type 0
 IsUnchecked r before after result = IsErrAnd result (IsUnbuilt r r.initial.tier) × Keeps before after
 
 -- the texts of a game are checked, in the order of its tiers
-abbrev pub IsCheckedBy : Rules → StoreView → Option (List ℕ) → Option (List ℕ) → Result ℕ Fault → Type 0
-IsCheckedBy r store before after result =
-    IsUnchecked r before after result ⊎ ((tiers : List ℕ) × IsTierOrder r tiers × IsCheckOf r store tiers before after result)
+abbrev pub IsCheckedBy : Rules → StoreView → Bool → Option (List ℕ) → Option (List ℕ) → Result ℕ Fault → Type 0
+IsCheckedBy r store json before after result =
+    IsUnchecked r before after result ⊎ ((tiers : List ℕ) × IsTierOrder r tiers × IsCheckOf r store json tiers before after result)

@@ -1,9 +1,16 @@
 -- The run of a line of words.
-use Rattle.std.specs.Prelude.{◌≡◌, ◌⊎◌, ℕ, ◌≤◌, List, Option, Some, codes}
+use Rattle.std.specs.Prelude.{◌≡◌, ◌⊎◌, ℕ, ◌≤◌, List, [], ◌∷◌, Option, Some, codes, if◌then◌else◌}
+use Rattle.std.specs.Str.{bytes_eq}
 use Rattle.gm_command.specs.Contents.{content_of}
 use Rattle.gm_command.specs.Readings.{AsksForHelp, IsBadLine, Say}
 use Rattle.gm_command.specs.declared.requests.Request.{Request}
 use Rattle.gamesman.specs.Answers.{IsRun}
+
+-- the words of a line without `--explain`, which may be before the command
+abbrev pub command_words : List (List ℕ) → List (List ℕ)
+command_words [] = []
+command_words (name ∷ []) = name ∷ []
+command_words (name ∷ word ∷ words) = if bytes_eq word (codes "--explain") then name ∷ words else name ∷ word ∷ words
 
 -- what is written to standard error for a bad line
 abbrev pub bad_line : List ℕ

@@ -1,16 +1,35 @@
 -- The texts about a position: the answers to questions about it.
-use Rattle.std.specs.Prelude.{ℕ, Bool, true, false, List}
+use Rattle.std.specs.Prelude.{ℕ, Bool, true, false, List, []}
 use Rattle.gm_game.specs.declared.position.Position.{Position}
 use Rattle.gm_game.specs.Rules.{Rules}
-use Rattle.gm_play.specs.PlayTexts.{IsAnswerText, AreMoveRows, IsLineText}
+use Rattle.gm_play.specs.PlayTexts.{IsAnswerText, AreMoveRows, IsLineText, IsReadAs}
+use Rattle.gm_play.specs.PlaceTexts.{IsPositionText}
 use Rattle.gm_play.specs.Why.{IsWhyText}
+use Rattle.gm_draw.specs.Pictures.{drawn}
+use Rattle.gm_json.specs.Answers.{IsPositionJson, value_asked}
+use Rattle.gm_json.specs.Boards.{IsBoardJson}
 use Rattle.gm_json.specs.Lines.{IsLineJson}
 use Rattle.gm_json.specs.Moves.{IsMovesJson}
+use Rattle.gm_json.specs.Whys.{IsWhyJson}
 use Rattle.gm_page.specs.ShowTexts.{IsShowText, IsDiagram}
 use Rattle.gm_command.specs.declared.requests.Question.{Question}
-use Rattle.gm_command.specs.declared.requests.Question.TheVariants.{Value, Moves, Why, Line, Show, Diagram}
+use Rattle.gm_command.specs.declared.requests.Question.TheVariants.{Value, Moves, Why, Line, Show, Board, Diagram}
 use Rattle.gamesman.specs.Games.{GameSpec}
 use Rattle.gamesman.specs.Outputs.{IsTextLine}
+
+-- the line of JSON with the true value of the position with this text; on request, also with its canonical position
+abbrev pub IsValueLine : Rules → (Position → List ℕ) → (Position → ℕ → List ℕ) → Bool → List ℕ → List ℕ → Type 0
+IsValueLine r shown move_shown canonical position = IsTextLine (IsPositionJson r shown move_shown (value_asked canonical) [] position)
+
+-- what `at` writes of a position: a line of JSON, or a row
+abbrev pub IsPlacedText : Rules → (Position → List ℕ) → (Position → ℕ → List ℕ) → Position → Bool → List ℕ → Type 0
+IsPlacedText r shown move_shown p true out = IsValueLine r shown move_shown true (shown p) out
+IsPlacedText r shown move_shown p false out = IsPositionText r shown p out
+
+-- the line of JSON with the board and the true value of the position with this text
+abbrev pub IsBoardLine : GameSpec → List ℕ → List ℕ → Type 0
+IsBoardLine g position out = (p : Position) × IsReadAs g.rules g.shown g.move_shown position p
+    × IsTextLine (IsBoardJson g.rules g.shown g.move_shown p (drawn g.picture g.shown p) (g.picture.mover p)) out
 
 module _ (r : Rules) (shown : Position → List ℕ) (move_shown : Position → ℕ → List ℕ) (position : List ℕ) where
   -- the line that `query` writes: the text of the true value of the position with this text
@@ -24,10 +43,13 @@ module _ (r : Rules) (shown : Position → List ℕ) (move_shown : Position → 
 
 -- the answer to a question about the position with this text
 abbrev pub IsTextFor : GameSpec → Question → List ℕ → List ℕ → Type 0
-IsTextFor g Value position out = IsQueryLine g.rules g.shown g.move_shown position out
+IsTextFor g (Value true) position out = IsValueLine g.rules g.shown g.move_shown false position out
+IsTextFor g (Value false) position out = IsQueryLine g.rules g.shown g.move_shown position out
 IsTextFor g (Moves distinct json) position out = IsMovesText g.rules g.shown g.move_shown position distinct json out
-IsTextFor g Why position out = IsWhyText g.rules g.shown g.move_shown position out
+IsTextFor g (Why true) position out = IsWhyJson g.rules g.shown g.move_shown position out
+IsTextFor g (Why false) position out = IsWhyText g.rules g.shown g.move_shown position out
 IsTextFor g (Line limit true) position out = IsLineJson g.rules g.shown g.move_shown position limit out
 IsTextFor g (Line limit false) position out = IsLineText g.rules g.shown g.move_shown position limit out
 IsTextFor g (Show explained) position out = IsShowText g.rules g.shown g.move_shown g.picture explained position out
+IsTextFor g Board position out = IsBoardLine g position out
 IsTextFor g (Diagram valued) position out = IsDiagram g.rules g.shown g.move_shown g.picture valued position out

@@ -8,7 +8,7 @@ ghost use Rattle.gm_build.specs.Work.{HoldsExactly};
 ghost use Rattle.gm_build.specs.Outcomes.{IsReadError};
 ghost use Rattle.gm_tiers.specs.Orders.{IsTierOrder};
 ghost use Rattle.gamesman.specs.Refusals.{IsUnbuilt};
-ghost use Rattle.gamesman.specs.Checking.{finding_for, table_found, finding_line, IsFinding, IsTableFor, right_with, IsUnreadAt, IsTierCut, IsCheckOf, IsCheckedBy};
+ghost use Rattle.gamesman.specs.Checking.{finding_for, table_found, tier_line, IsFinding, IsTableFor, right_with, IsUnreadAt, IsTierCut, IsCheckOf, IsCheckedBy};
 
 use crate::fault::Fault;
 use crate::finding::Finding;
@@ -105,6 +105,7 @@ fn hold<G: Game>(
 fn check_tier<G: Game + Send + Sync, R: Host, S: Store, O: Write, E: Write + Send>(
     rt: &R,
     tier: u64,
+    json: bool,
     store: &mut S,
     tables: &mut Tables<G>,
     output: &mut O,
@@ -114,9 +115,9 @@ fn check_tier<G: Game + Send + Sync, R: Host, S: Store, O: Write, E: Write + Sen
     requires few { S.failed store.old < u64.MAX }
     ensures tables { AreTables G.rules tables.old }
     ensures found { IfOk result (IsFinding G.rules tables.old (store_view S.READS (S.texts store.old)) tier) }
-    ensures told { IfOk result (λ f. Appends (O.contents output.old) (O.contents output.new) (finding_line tier f)) }
+    ensures told { IfOk result (λ f. Appends (O.contents output.old) (O.contents output.new) (tier_line json tier f)) }
     ensures held { IfOk result (λ f. (right : List ℕ) → HoldsExactly tables.old right → HoldsExactly tables.new (right_with tier f right)) }
-    ensures cut { IfErr result (IsTierCut G.rules tables.old (store_view S.READS (S.texts store.old)) tier
+    ensures cut { IfErr result (IsTierCut G.rules tables.old (store_view S.READS (S.texts store.old)) json tier
         (O.contents output.old) (O.contents output.new)) }
     ensures same { IsTrue S.READS → AreSame (S.texts store.old) (S.texts store.new) }
     ensures count { OnOk result (S.failed store.new ≡ S.failed store.old) }
@@ -124,7 +125,8 @@ fn check_tier<G: Game + Send + Sync, R: Host, S: Store, O: Write, E: Write + Sen
     let found = find(rt, rt.alloc(), tier, tables, store);
     teller.clear();
     let (finding, table) = found?;
-    put(output, finding.line(tier).as_slice())?;
+    let line = finding.line_in(rt.alloc(), tier, json)?;
+    put(output, line.as_slice())?;
     hold(tier, finding, table, tables)?;
     Ok(finding)
 }
@@ -133,6 +135,7 @@ fn check_tier<G: Game + Send + Sync, R: Host, S: Store, O: Write, E: Write + Sen
 fn check_tiers<G: Game + Send + Sync, R: Host, S: Store, O: Write, E: Write + Send>(
     rt: &R,
     tiers: &[u64],
+    json: bool,
     store: &mut S,
     tables: &mut Tables<G>,
     output: &mut O,
@@ -141,13 +144,13 @@ fn check_tiers<G: Game + Send + Sync, R: Host, S: Store, O: Write, E: Write + Se
     requires small { (tier : ℕ) → Contains tiers.now tier → G.rules.tier_size tier ≤ TIER_SIZE }
     requires none { HoldsExactly tables.old [] }
     requires few { S.failed store.old < u64.MAX }
-    ensures { IsCheckOf G.rules (store_view S.READS (S.texts store.old)) tiers.now (O.contents output.old) (O.contents output.new) result }
+    ensures { IsCheckOf G.rules (store_view S.READS (S.texts store.old)) json tiers.now (O.contents output.old) (O.contents output.new) result }
 {
     let mut status = DONE;
     teller.begin(rt, tiers.len());
     for tier in tiers {
         teller.read(rt, *tier);
-        let finding = check_tier(rt, *tier, store, tables, output, teller)?;
+        let finding = check_tier(rt, *tier, json, store, tables, output, teller)?;
         status = finding.status(status);
     }
     Ok(status)
@@ -161,23 +164,24 @@ fn order_of<G: Game>(alloc: Global) -> Result<TierOrder<G>, Fault>
     Ok(TierOrder::from_initial(alloc)?)
 }
 
-/// Prints for each tier the finding on its text in a store, in the order of tiers. The status is 0 if all texts are right, and
+/// Prints for each tier the finding on its text in a store, in the order of tiers, as a line of JSON or of words. The status is 0 if all texts are right, and
 /// otherwise 1.
 pub fn check<G: Game + Send + Sync, R: Host, S: Store, O: Write, E: Write + Send>(
     rt: &R,
+    json: bool,
     store: &mut S,
     output: &mut O,
     errors: &mut E,
     telling: Telling,
 ) -> Result<u8, Fault>
     requires few { S.failed store.old < u64.MAX }
-    ensures { IsCheckedBy G.rules (store_view S.READS (S.texts store.old)) (O.contents output.old) (O.contents output.new) result }
+    ensures { IsCheckedBy G.rules (store_view S.READS (S.texts store.old)) json (O.contents output.old) (O.contents output.new) result }
 {
     let alloc = rt.alloc();
     let order = order_of::<G>(alloc)?;
     let mut tables: Tables<G> = Tables::new(alloc);
     let teller = Teller::new::<G>(alloc, rt, errors, telling, order.tiers())?;
-    let checked = check_tiers(rt, order.tiers(), store, &mut tables, output, &teller);
+    let checked = check_tiers(rt, order.tiers(), json, store, &mut tables, output, &teller);
     drop((order, tables, teller));
     checked
 }
@@ -186,16 +190,17 @@ pub fn check<G: Game + Send + Sync, R: Host, S: Store, O: Write, E: Write + Send
 pub fn check_folder<G: Game + Send + Sync, R: Host, O: Write, E: Write + Send>(
     rt: &R,
     folder: &str,
+    json: bool,
     output: &mut O,
     errors: &mut E,
     telling: Telling,
 ) -> Result<u8, Fault>
-    ensures { IsCheckedBy G.rules unknown_texts (O.contents output.old) (O.contents output.new) result }
+    ensures { IsCheckedBy G.rules unknown_texts json (O.contents output.old) (O.contents output.new) result }
 {
     let alloc = rt.alloc();
     let path = String::from_str(alloc, folder)?;
     let mut store = FolderStore::new(alloc, path);
-    let checked = check::<G, R, FolderStore, O, E>(rt, &mut store, output, errors, telling);
+    let checked = check::<G, R, FolderStore, O, E>(rt, json, &mut store, output, errors, telling);
     drop(store);
     checked
 }

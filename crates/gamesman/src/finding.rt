@@ -1,15 +1,20 @@
 //! The finding on a tier's file, and its line.
-ghost use Rattle.std.specs.Prelude.{◌≡◌, ◌+◌, ◌≤◌, ◌++◌};
+ghost use Rattle.std.specs.Prelude.{◌≡◌, ◌+◌, ◌≤◌, ◌++◌, IfOk};
+ghost use Rattle.serde_json.specs.View.{view};
+ghost use Rattle.gm_json.specs.Words.{line_of};
 ghost use Rattle.arrayvec.specs.ArrayVec.{array_vec_len};
-ghost use Rattle.gamesman.specs.Checking.{file_words, finding_words, finding_line, status_with};
+ghost use Rattle.gamesman.specs.Checking.{file_words, finding_words, finding_line, finding_tree, tier_line, status_with};
 
 use crate::run::REFUSED;
 use arrayvec::ArrayVec;
 use gm_game::limits::LINE;
 use gm_game::shown::Line;
 use gm_game::text::{push_decimal, push_text};
+use gm_json::words::{push_line, put_text};
 use gm_table::checker::CheckError;
 use gm_tierdb::file_error::FileError;
+use serde_json::{Map, Value as Json, put};
+use std::alloc::{AllocError, Global};
 
 // A bound on the bytes of a tier's line.
 const ROOM: usize = 2 * LINE + 2;
@@ -30,8 +35,47 @@ pub enum Finding {
 }
 
 impl Finding {
-    /// Returns the line for a tier with this finding.
-    pub fn line(self, tier: u64) -> ArrayVec<u8, ROOM>
+    /// Returns the line for a tier with this finding, of JSON or of words.
+    pub fn line_in(self, alloc: Global, tier: u64, json: bool) -> Result<Vec<u8>, AllocError>
+        ensures { IfOk result (λ v. v.items ≡ tier_line json tier self) }
+    {
+        if json {
+            self.json(alloc, tier)
+        } else {
+            self.row(alloc, tier)
+        }
+    }
+
+    // Returns the line of JSON.
+    fn json(self, alloc: Global, tier: u64) -> Result<Vec<u8>, AllocError>
+        ensures { IfOk result (λ v. v.items ≡ line_of (finding_tree tier self)) }
+    {
+        let tree = self.tree(alloc, tier)?;
+        let mut line = Vec::new(alloc);
+        push_line(alloc, &mut line, tree)?;
+        Ok(line)
+    }
+
+    // Returns the line of words.
+    fn row(self, alloc: Global, tier: u64) -> Result<Vec<u8>, AllocError>
+        ensures { IfOk result (λ v. v.items ≡ finding_line tier self) }
+    {
+        let mut line = Vec::new(alloc);
+        line.extend_from_slice(self.line(tier).as_slice())?;
+        Ok(line)
+    }
+
+    // Returns the finding on a tier as a tree.
+    fn tree(self, alloc: Global, tier: u64) -> Result<Json, AllocError>
+        ensures { IfOk result (λ v. view v ≡ finding_tree tier self) }
+    {
+        let mut members = Map::new(alloc);
+        put_text(alloc, &mut members, "finding", self.words().as_slice())?;
+        put(&mut members, alloc, "tier", Json::from(tier))?;
+        Ok(Json::Object(members))
+    }
+
+    fn line(self, tier: u64) -> ArrayVec<u8, ROOM>
         ensures { result.items ≡ finding_line tier self }
     {
         let mut head = ArrayVec::new();

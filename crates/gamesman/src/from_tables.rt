@@ -7,7 +7,7 @@ ghost use Rattle.gamesman.specs.inner.Needed.{IsNeeded};
 ghost use Rattle.gamesman.specs.Answers.{IsAnsweredFromTables};
 
 use crate::analyse::analysis_lines;
-use crate::explore::text_for;
+use crate::explore::{placed_text, text_for};
 use crate::fault::Fault;
 use crate::filter::answer_input;
 use crate::found::write_found;
@@ -16,7 +16,7 @@ use crate::needs::{Needs, needs_of};
 use crate::output::put_text;
 use crate::play::play;
 use crate::search::{counts_of, longest_of, serve};
-use crate::solve::report_text;
+use crate::solve::report_for;
 use crate::tables::BuildOptions;
 use gm_build::build::Built;
 use gm_command::requests::TableCommand;
@@ -24,7 +24,6 @@ use gm_draw::pictured::Pictured;
 use gm_game::position::Position;
 use gm_page::page::page_text;
 use gm_play::known::Known;
-use gm_play::place_texts::position_text;
 use std::alloc::Global;
 use std::io::{Read, Write};
 
@@ -70,7 +69,7 @@ fn write_answer<G: Pictured, I: Read, O: Write>(
         command.entry (I.remaining input.old) (O.contents output.old) (O.contents output.new) result }
 {
     match command {
-        TableCommand::Solve => put_text(output, report_text(alloc, built.work)),
+        TableCommand::Solve { json } => put_text(output, report_for(alloc, built.work, json)),
         TableCommand::Explore { question, .. } => {
             let known = known_at(built, needs.position);
             put_text(output, text_for(alloc, &known, question))
@@ -84,15 +83,17 @@ fn write_answer<G: Pictured, I: Read, O: Write>(
                 page_text(alloc, &known, limit, needs.engine.as_slice()),
             )
         }
-        TableCommand::At { .. } => {
+        TableCommand::At { json, .. } => {
             let known = known_at(built, needs.position);
-            put_text(output, position_text(alloc, &known))
+            put_text(output, placed_text(alloc, &known, json))
         }
         TableCommand::Find(search) => write_found(alloc, built, search, output),
         TableCommand::Counts(asked) => put_text(output, counts_of(alloc, built, asked)),
-        TableCommand::Longest { reached, limit } => {
-            put_text(output, longest_of(alloc, built, reached, limit))
-        }
+        TableCommand::Longest {
+            reached,
+            limit,
+            json,
+        } => put_text(output, longest_of(alloc, built, reached, limit, json)),
         TableCommand::Ask(asked) => serve(alloc, built, asked, input, output),
         TableCommand::Analyse => put_text(output, analysis_lines(alloc, built)),
         TableCommand::Play(asked) => {

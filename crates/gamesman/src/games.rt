@@ -34,10 +34,13 @@ fn answer<G: Pictured + Send + Sync, R: Host, I: Read, O: Write, E: Write + Send
         GameCommand::FromTables(command) => {
             answer_from_tables::<G, R, I, O, E>(rt, command, options, input, output, errors)
         }
-        GameCommand::Locate { position } => locate::<G, O>(rt.alloc(), position, output),
-        GameCommand::Check { folder } => check_folder::<G, R, O, E>(
+        GameCommand::Locate { position, json } => {
+            locate::<G, O>(rt.alloc(), position, json, output)
+        }
+        GameCommand::Check { folder, json } => check_folder::<G, R, O, E>(
             rt,
             folder,
+            json,
             output,
             errors,
             options.progress,

@@ -4,7 +4,7 @@
 
 ghost use Rattle.std.specs.Prelude.{◌≡◌, map, IfOk, IfErr, string_bytes};
 ghost use Rattle.std.specs.Vec.Iter.{into_iter_items};
-ghost use Rattle.gamesman.specs.LineRuns.{IsOutputOf};
+ghost use Rattle.gamesman.specs.LineRuns.{command_words, IsOutputOf};
 
 mod analyse;
 mod check;
@@ -18,8 +18,10 @@ mod found;
 mod from_tables;
 mod games;
 mod host;
+mod listing;
 mod live;
 mod located;
+mod longest;
 mod naming;
 mod needs;
 mod output;
@@ -75,14 +77,25 @@ fn words_lent<'a>(alloc: Global, owned: &'a [String]) -> Result<Vec<&'a str>, Al
     Ok(words)
 }
 
+// Removes `--explain` if it is before the command, and returns whether it was there.
+fn take_explain(words: &mut Vec<&str>) -> bool
+    ensures { map (λ t. t.now) words.new.items ≡ command_words (map (λ t. t.now) words.old.items) }
+{
+    if words.len() < 2 || words[1] != "--explain" {
+        return false;
+    }
+    words.remove(1);
+    true
+}
+
 // Returns whether the environment asks for explanations: it has the variable GAMESMAN_EXPLAIN with the value 1.
 fn asks_for_reasons<R: Env>(rt: &R) -> bool {
     let mut value = [0; 2];
     matches!(rt.var("GAMESMAN_EXPLAIN", &mut value), Ok(1)) && value[0] == b'1'
 }
 
-// Runs the line of these words, unless memory runs out before it is read. A bad line is also explained at a terminal, or if the
-// environment asks for explanations.
+// Runs the line of these words, unless memory runs out before it is read. A bad line is also explained at a terminal, with
+// `--explain` before the command, or if the environment asks for explanations.
 fn run_args<R: Host, I: Read, O: Write, E: Write + IsTerminal + Send>(
     rt: &R,
     args: Args,
@@ -90,15 +103,16 @@ fn run_args<R: Host, I: Read, O: Write, E: Write + IsTerminal + Send>(
     output: &mut O,
     errors: &mut E,
 ) -> Result<u8, AllocError>
-    ensures run { IfOk result (IsOutputOf (map string_bytes (into_iter_items args)) (I.remaining input.old) (O.contents output.old) (O.contents output.new)) }
+    ensures run { IfOk result (IsOutputOf (command_words (map string_bytes (into_iter_items args))) (I.remaining input.old) (O.contents output.old) (O.contents output.new)) }
     ensures kept { IfErr result (λ _. O.contents output.new ≡ O.contents output.old) }
 {
     let owned = words_owned(rt.alloc(), args)?;
-    let words = words_lent(rt.alloc(), owned.as_slice())?;
+    let mut words = words_lent(rt.alloc(), owned.as_slice())?;
+    let requested = take_explain(&mut words);
     let terminal = errors.is_terminal();
     let manner = Manner {
         terminal,
-        explained: terminal || asks_for_reasons(rt),
+        explained: requested || terminal || asks_for_reasons(rt),
     };
     let status = run_words(rt, words.as_slice(), manner, input, output, errors);
     if status == BAD_LINE && manner.explained {
@@ -115,7 +129,7 @@ fn run_line<R: Host, I: Read, O: Write, E: Write + IsTerminal + Send>(
     output: &mut O,
     errors: &mut E,
 ) -> u8
-    ensures { IsOutputOf (map string_bytes (into_iter_items args)) (I.remaining input.old) (O.contents output.old) (O.contents output.new) result }
+    ensures { IsOutputOf (command_words (map string_bytes (into_iter_items args))) (I.remaining input.old) (O.contents output.old) (O.contents output.new) result }
 {
     match run_args(rt, args, input, output, errors) {
         Ok(status) => status,

@@ -61,7 +61,7 @@ pub fn needs_of<G: Pictured, R: Files + AllocGlobal>(
             needs.engine = engine_of(rt, request.engine)?;
             Ok(needs)
         }
-        TableCommand::At { tier, index } => needs_in::<G>(rt.alloc(), tier, index),
+        TableCommand::At { tier, index, .. } => needs_in::<G>(rt.alloc(), tier, index),
         TableCommand::Find(search) => needs_of_tier::<G>(rt.alloc(), search.tier),
         _ => needs_of_tier::<G>(rt.alloc(), None),
     }

@@ -2,7 +2,7 @@
 ghost use Rattle.std.specs.Prelude.{◌≡◌, map, IfOk, IfSome};
 ghost use Rattle.gm_play.specs.Sessions.{AppendsPart};
 ghost use Rattle.gamesman.specs.Told.{IsPut};
-ghost use Rattle.gamesman.specs.Listing.{listed_names};
+ghost use Rattle.gamesman.specs.Listing.{listed_names, IsListed};
 ghost use Rattle.gamesman.specs.Answers.{IsDone, IsRun};
 ghost use Rattle.gamesman.specs.LineRuns.{IsLineRun, bad_line};
 ghost use Rattle.gamesman.specs.Reasons.{line_for};
@@ -11,7 +11,8 @@ use crate::engine::page_of_games;
 use crate::fault::Fault;
 use crate::games::answer_for;
 use crate::host::Host;
-use crate::output::{put, put_all};
+use crate::listing::games_json;
+use crate::output::{put, put_all, put_text};
 use crate::reasons::advise;
 use crate::tables::BuildOptions;
 use arrayvec::ArrayString;
@@ -54,6 +55,17 @@ fn list<O: Write>(all: bool, output: &mut O) -> Result<u8, Fault>
     Ok(DONE)
 }
 
+// Lists the games by their names, or in JSON.
+fn write_list<O: Write>(alloc: Global, all: bool, json: bool, output: &mut O) -> Result<u8, Fault>
+    ensures { IsListed all json (O.contents output.old) (O.contents output.new) result }
+{
+    if json {
+        put_text(output, games_json(alloc, all))
+    } else {
+        list(all, output)
+    }
+}
+
 // Writes a text about the program, with one call.
 fn write_manual<O: Write>(alloc: Global, manual: Manual, output: &mut O) -> Result<u8, Fault> {
     let text = manual_text(alloc, manual)?;
@@ -80,7 +92,7 @@ fn answer<R: Host, I: Read, O: Write, E: Write + Send>(
     ensures { IsDone request.entry (I.remaining input.old) (O.contents output.old) (O.contents output.new) result }
 {
     match request {
-        Request::List { all } => list(all, output),
+        Request::List { all, json } => write_list(rt.alloc(), all, json, output),
         Request::Game(request) => match game_named(request.game) {
             Some(game) => {
                 let options = BuildOptions::of(request, manner.terminal);

@@ -5,16 +5,15 @@ ghost use Rattle.gm_tiers.specs.Orders.{IsTierOrder};
 ghost use Rattle.gm_build.specs.Work.{HoldsExactly};
 ghost use Rattle.gm_play.specs.Sessions.{AppendsPart};
 ghost use Rattle.gm_analyse.specs.Bars.{IsCountsText};
-ghost use Rattle.gm_analyse.specs.Longest.{IsLongestText};
 ghost use Rattle.gamesman.specs.Outputs.{IsOutputFault};
 ghost use Rattle.gamesman.specs.Asks.{ready_text, IsAskedBy};
-ghost use Rattle.gamesman.specs.Searches.{IsUnsearched};
+ghost use Rattle.gamesman.specs.Searches.{IsLongestIn, IsUnsearched};
 
 use crate::fault::Fault;
+use crate::longest::longest_in;
 use crate::output::put;
 use crate::run::DONE;
 use gm_analyse::bars::counts_text;
-use gm_analyse::longest_rows::longest_text;
 use gm_build::build::Built;
 use gm_command::requests::{AskRequest, CountsRequest};
 use gm_find::reached::Reached;
@@ -86,23 +85,24 @@ pub fn counts_of<G: Shown>(
     text
 }
 
-/// Returns the rows of the longest wins and the longest losses.
+/// Returns the longest wins and the longest losses, as lines of JSON or as rows.
 pub fn longest_of<G: Shown>(
     alloc: Global,
     built: &Built<G>,
     reached: bool,
     limit: usize,
+    json: bool,
 ) -> Result<Vec<u8>, AllocError>
     requires order { IsTierOrder G.Game.rules built.now.order }
     requires held { HoldsExactly built.now.tables built.now.order }
-    ensures { IfOk result (λ v. IsLongestText G.Game.rules G.shown G.move_shown reached limit built.now.order v.items) }
+    ensures { IfOk result (λ v. IsLongestIn G.Game.rules G.shown G.move_shown reached limit built.now.order json v.items) }
 {
     let reached = reached_from_start(alloc, reached)?;
     let known = KnownTiers {
         tables: &built.tables,
         tiers: built.order.tiers(),
     };
-    let text = longest_text(alloc, &known, reached.as_ref(), limit);
+    let text = longest_in(alloc, &known, reached.as_ref(), limit, json);
     drop(reached);
     text
 }

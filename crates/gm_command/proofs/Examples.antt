@@ -7,7 +7,7 @@ use Rattle.gm_find.specs.declared.sought.Choice.TheVariants.{First}
 use Rattle.gm_game.specs.declared.position.Value.TheVariants.{Win}
 use Rattle.gm_play.specs.declared.sides.Side.TheVariants.{Computer}
 use Rattle.gm_command.specs.declared.requests.LineForm.TheVariants.{Rows}
-use Rattle.gm_command.specs.declared.requests.Question.TheVariants.{Value}
+use Rattle.gm_command.specs.declared.requests.Question.TheVariants.{Value, Board}
 use Rattle.gm_command.specs.declared.requests.Report.TheVariants.{Lines as Listed}
 use Rattle.gm_command.specs.declared.requests.Telling.{Telling}
 use Rattle.gm_command.specs.declared.requests.Telling.TheVariants.{Terminal, Quiet}
@@ -33,17 +33,17 @@ plan = record { workers = 4; shards = 4; piece = 64; fastest = true }
 abbrev about : List ℕ → CommandContent → Option (List ℕ × Bool) → PlanNumbers → Telling → Option Content
 about game command kept plan progress = Some (about_game (record { game = game; command = command; kept = kept; plan = plan; progress = progress }))
 
-in_memory : reads (codes "query" ∷ codes "countdown" ∷ codes "10" ∷ []) ≡ about (codes "countdown") (exploring (Some (codes "10")) Value) None plan Terminal
+in_memory : reads (codes "query" ∷ codes "countdown" ∷ codes "10" ∷ []) ≡ about (codes "countdown") (exploring (Some (codes "10")) (Value false)) None plan Terminal
 unfolding clap_on_literals command_lines
 in_memory = refl
 
 in_a_folder : reads (codes "query" ∷ codes "countdown" ∷ codes "10" ∷ codes "--folder" ∷ codes "F" ∷ codes "--quiet" ∷ [])
-    ≡ about (codes "countdown") (exploring (Some (codes "10")) Value) (Some (codes "F", false)) plan Quiet
+    ≡ about (codes "countdown") (exploring (Some (codes "10")) (Value false)) (Some (codes "F", false)) plan Quiet
 unfolding clap_on_literals command_lines
 in_a_folder = refl
 
 only_read : reads (codes "query" ∷ codes "--read-only" ∷ codes "countdown" ∷ codes "--folder=F" ∷ codes "10" ∷ [])
-    ≡ about (codes "countdown") (exploring (Some (codes "10")) Value) (Some (codes "F", true)) plan Terminal
+    ≡ about (codes "countdown") (exploring (Some (codes "10")) (Value false)) (Some (codes "F", true)) plan Terminal
 unfolding clap_on_literals command_lines
 only_read = refl
 
@@ -51,12 +51,25 @@ only_read_without_a_folder : reads (codes "query" ∷ codes "countdown" ∷ code
 unfolding clap_on_literals command_lines
 only_read_without_a_folder = refl
 
-each_of_the_input : reads (codes "query" ∷ codes "countdown" ∷ codes "-" ∷ []) ≡ about (codes "countdown") (filtering Value) None plan Terminal
+each_of_the_input : reads (codes "query" ∷ codes "countdown" ∷ codes "-" ∷ []) ≡ about (codes "countdown") (filtering (Value false)) None plan Terminal
 unfolding clap_on_literals command_lines
 each_of_the_input = refl
 
+in_json : reads (codes "query" ∷ codes "countdown" ∷ codes "10" ∷ codes "--json" ∷ []) ≡ about (codes "countdown") (exploring (Some (codes "10")) (Value true))
+    None plan Terminal
+unfolding clap_on_literals command_lines
+in_json = refl
+
+board_in_json : reads (codes "show" ∷ codes "countdown" ∷ codes "--json" ∷ []) ≡ about (codes "countdown") (exploring None Board) None plan Terminal
+unfolding clap_on_literals command_lines
+board_in_json = refl
+
+diagram_in_json : reads (codes "show" ∷ codes "countdown" ∷ codes "--json" ∷ codes "--svg" ∷ []) ≡ None
+unfolding clap_on_literals command_lines
+diagram_in_json = refl
+
 by_eight : reads (codes "solve" ∷ codes "dao" ∷ codes "F" ∷ codes "--workers" ∷ codes "8" ∷ codes "--shards" ∷ codes "2" ∷ [])
-    ≡ about (codes "dao") solving (Some (codes "F", false)) (record { workers = 8; shards = 2; piece = 64; fastest = true }) Terminal
+    ≡ about (codes "dao") (solving false) (Some (codes "F", false)) (record { workers = 8; shards = 2; piece = 64; fastest = true }) Terminal
 unfolding clap_on_literals command_lines
 by_eight = refl
 
@@ -64,7 +77,7 @@ number_with_a_zero : reads (codes "solve" ∷ codes "dao" ∷ codes "F" ∷ code
 unfolding clap_on_literals command_lines
 number_with_a_zero = refl
 
-check_only_reads : reads (codes "check" ∷ codes "dao" ∷ codes "F" ∷ []) ≡ about (codes "dao") (checking (codes "F")) (Some (codes "F", true)) plan Terminal
+check_only_reads : reads (codes "check" ∷ codes "dao" ∷ codes "F" ∷ []) ≡ about (codes "dao") (checking (codes "F") false) (Some (codes "F", true)) plan Terminal
 unfolding clap_on_literals command_lines
 check_only_reads = refl
 

@@ -20,18 +20,18 @@ use Rattle.gm_command.specs.declared.requests.Request.TheVariants as request
 
 -- what a command about a game says
 pub data CommandContent : Type 0 where
-  solving : CommandContent
+  solving : Bool → CommandContent
   exploring : Option (List ℕ) → Question → CommandContent
   filtering : Question → CommandContent
   paging : Option (List ℕ) → ℕ → Option (List ℕ) → CommandContent
-  placed : ℕ → ℕ → CommandContent
-  locating : List ℕ → CommandContent
+  placed : ℕ → ℕ → Bool → CommandContent
+  locating : List ℕ → Bool → CommandContent
   finding : PositionSearch → CommandContent
   counting : CountsRequest → CommandContent
-  seeking_longest : Bool → ℕ → CommandContent
+  seeking_longest : Bool → ℕ → Bool → CommandContent
   answering : AskRequest → CommandContent
   analysing : CommandContent
-  checking : List ℕ → CommandContent
+  checking : List ℕ → Bool → CommandContent
   playing : Option (List ℕ) → Side → Bool → CommandContent
   naming : CommandContent
 
@@ -53,7 +53,7 @@ pub record GameContent : Type 0 where
 
 -- what a request says
 pub data Content : Type 0 where
-  list_of_games : Bool → Content
+  list_of_games : Bool → Bool → Content
   about_game : GameContent → Content
   page_of_games : List ℕ → Content
   about_program : Manual → Content
@@ -68,29 +68,29 @@ abbrev pub plan_of : Plan → PlanNumbers
 plan_of plan = record { workers = plan.workers; shards = plan.shards; piece = plan.piece; fastest = plan.fastest }
 
 abbrev pub table_content : TableCommand → CommandContent
-table_content table.Solve = solving
+table_content (table.Solve json) = solving json
 table_content (table.Explore position question) = exploring (option_map (λ t. t.now) position) question
 table_content (table.Filter question) = filtering question
 table_content (table.Page page) = paging (option_map (λ t. t.now) page.position) page.limit (option_map (λ t. t.now) page.engine)
-table_content (table.At tier index) = placed tier index
+table_content (table.At tier index json) = placed tier index json
 table_content (table.Find search) = finding search
 table_content (table.Counts request) = counting request
-table_content (table.Longest reached limit) = seeking_longest reached limit
+table_content (table.Longest reached limit json) = seeking_longest reached limit json
 table_content (table.Ask request) = answering request
 table_content table.Analyse = analysing
 table_content (table.Play play) = playing (option_map (λ t. t.now) play.position) play.first play.drawn
 
 abbrev pub command_content : GameCommand → CommandContent
 command_content (command.FromTables asked) = table_content asked
-command_content (command.Locate position) = locating position.now
-command_content (command.Check folder) = checking folder.now
+command_content (command.Locate position json) = locating position.now json
+command_content (command.Check folder json) = checking folder.now json
 command_content command.Naming = naming
 
 abbrev pub game_content : GameRequest → GameContent
 game_content r = record { game = r.game.now; command = command_content r.command; kept = kept_at r.tables; plan = plan_of r.plan; progress = r.progress }
 
 abbrev pub content_of : Request → Content
-content_of (request.List all) = list_of_games all
+content_of (request.List all json) = list_of_games all json
 content_of (request.Game game) = about_game (game_content game)
 content_of (request.AllGames engine) = page_of_games engine.now
 content_of (request.Manual manual) = about_program manual

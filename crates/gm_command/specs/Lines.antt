@@ -81,28 +81,28 @@ abbrev pub distinct : Word
 distinct = word (codes "distinct") flag
 
 abbrev pub list_line : Line
-list_line = line ListOfGames (codes "list") (word (codes "all") flag ∷ [])
+list_line = line ListOfGames (codes "list") (word (codes "all") flag ∷ json ∷ [])
 
 abbrev pub solve_line : Line
 solve_line = game_command_line game_command.Solve (codes "solve") (game ∷ word (codes "FOLDER") place ∷ word (codes "workers") (number (pos 1) (pos 16) (Some (codes "4")))
     ∷ word (codes "shards") (number (pos 1) (pos 4) (Some (codes "4"))) ∷ word (codes "piece") (number (pos 1) (pos 4096) (Some (codes "64")))
-    ∷ word (codes "progress") flag ∷ quiet ∷ [])
+    ∷ word (codes "progress") flag ∷ quiet ∷ json ∷ [])
 
 abbrev pub query_line : Line
-query_line = game_command_line game_command.Query (codes "query") (game ∷ position ∷ folder ∷ read_only ∷ quiet ∷ [])
+query_line = game_command_line game_command.Query (codes "query") (game ∷ position ∷ json ∷ folder ∷ read_only ∷ quiet ∷ [])
 
 abbrev pub moves_line : Line
 moves_line = game_command_line game_command.Moves (codes "moves") (game ∷ start ∷ distinct ∷ json ∷ folder ∷ read_only ∷ quiet ∷ [])
 
 abbrev pub why_line : Line
-why_line = game_command_line game_command.Why (codes "why") (game ∷ start ∷ folder ∷ read_only ∷ quiet ∷ [])
+why_line = game_command_line game_command.Why (codes "why") (game ∷ start ∷ json ∷ folder ∷ read_only ∷ quiet ∷ [])
 
 abbrev pub line_line : Line
 line_line = game_command_line game_command.Line (codes "line") (game ∷ start ∷ any_number (codes "limit") 1 ∷ json ∷ folder ∷ read_only ∷ quiet ∷ [])
 
 abbrev pub show_line : Line
-show_line = game_command_line game_command.Show (codes "show") (game ∷ start ∷ word (codes "svg") flag ∷ word (codes "no-value") flag ∷ folder ∷ read_only ∷
-    quiet ∷ [])
+show_line = game_command_line game_command.Show (codes "show") (game ∷ start ∷ word (codes "svg") flag ∷ word (codes "no-value") flag ∷ json
+    ∷ folder ∷ read_only ∷ quiet ∷ [])
 
 abbrev pub page_line : Line
 page_line = game_command_line game_command.Page (codes "page") (word (codes "GAME") (place_unless (codes "all")) ∷ start
@@ -110,10 +110,11 @@ page_line = game_command_line game_command.Page (codes "page") (word (codes "GAM
     ∷ folder ∷ read_only ∷ quiet ∷ [])
 
 abbrev pub at_line : Line
-at_line = game_command_line game_command.At (codes "at") (game ∷ word (codes "TIER") place ∷ word (codes "INDEX") place ∷ folder ∷ read_only ∷ quiet ∷ [])
+at_line = game_command_line game_command.At (codes "at") (game ∷ word (codes "TIER") place ∷ word (codes "INDEX") place ∷ json ∷ folder ∷ read_only
+    ∷ quiet ∷ [])
 
 abbrev pub locate_line : Line
-locate_line = game_command_line game_command.Locate (codes "locate") (game ∷ position ∷ [])
+locate_line = game_command_line game_command.Locate (codes "locate") (game ∷ position ∷ json ∷ [])
 
 abbrev pub find_line : Line
 find_line = game_command_line game_command.Find (codes "find") (game ∷ word (codes "value") (text true) ∷ word (codes "remoteness") (text false) ∷ word (codes "tier") tier
@@ -126,7 +127,8 @@ counts_line = game_command_line game_command.Counts (codes "counts") (game ∷ w
     ∷ folder ∷ read_only ∷ quiet ∷ [])
 
 abbrev pub longest_line : Line
-longest_line = game_command_line game_command.Longest (codes "longest") (game ∷ reached ∷ any_number (codes "limit") 1 ∷ folder ∷ read_only ∷ quiet ∷ [])
+longest_line = game_command_line game_command.Longest (codes "longest") (game ∷ reached ∷ any_number (codes "limit") 1 ∷ json ∷ folder ∷ read_only
+    ∷ quiet ∷ [])
 
 abbrev pub ask_line : Line
 ask_line = game_command_line game_command.Ask (codes "ask") (game ∷ word (codes "values") flag ∷ distinct ∷ word (codes "with") (text false) ∷ word
@@ -137,7 +139,7 @@ abbrev pub analyse_line : Line
 analyse_line = record (game_command_line game_command.Analyse (codes "analyse") (game ∷ folder ∷ read_only ∷ quiet ∷ [])) { alias = Some (codes "analyze") }
 
 abbrev pub check_line : Line
-check_line = game_command_line game_command.Check (codes "check") (game ∷ word (codes "FOLDER") place ∷ quiet ∷ [])
+check_line = game_command_line game_command.Check (codes "check") (game ∷ word (codes "FOLDER") place ∷ json ∷ quiet ∷ [])
 
 abbrev pub play_line : Line
 play_line = game_command_line game_command.Play (codes "play") (game ∷ folder ∷ read_only ∷ quiet ∷ word (codes "second") flag ∷ word (codes "from")

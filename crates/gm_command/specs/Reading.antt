@@ -14,7 +14,7 @@ use Rattle.gm_command.specs.declared.manual.Manual.{Manual}
 use Rattle.gm_command.specs.declared.manual.Manual.TheVariants.{Bash, Zsh, Fish, Man as ManualPage}
 use Rattle.gm_command.specs.declared.requests.CountsRequest.{CountsRequest}
 use Rattle.gm_command.specs.declared.requests.Question.{Question}
-use Rattle.gm_command.specs.declared.requests.Question.TheVariants.{Value, Moves, Why, Line as BestLine, Show, Diagram}
+use Rattle.gm_command.specs.declared.requests.Question.TheVariants.{Value, Moves, Why, Line as BestLine, Show, Board, Diagram}
 use Rattle.gm_command.specs.declared.requests.Telling.{Telling}
 use Rattle.gm_command.specs.declared.requests.Telling.TheVariants.{Terminal, Lines, Quiet}
 use Rattle.gm_command.specs.declared.words.CommandName.{CommandName}
@@ -75,6 +75,10 @@ module _ (rows : List Row) where
   abbrev pub progress_in : Telling
   progress_in = if has rows (codes "quiet") then Quiet else (if has rows (codes "progress") then Lines else Terminal)
 
+  -- the answer is to be lines of JSON
+  abbrev pub json_in : Bool
+  json_in = has rows (codes "json")
+
   -- a question about the position that is given, or with `-` about each position of the input
   abbrev pub asking_each : Question → CommandContent
   asking_each question = if is_dash (text_in rows (codes "POSITION")) then filtering question else exploring (text_in rows (codes "POSITION")) question
@@ -87,17 +91,19 @@ module _ (rows : List Row) where
   abbrev pub playing_in : CommandContent
   playing_in = playing (text_in rows (codes "from")) (if has rows (codes "second") then Computer else You) (has rows (codes "show"))
 
-  -- how a board is shown: as a diagram with `--svg`, without its value with `--no-value`; otherwise with the notation explained if no position is given
+  -- how a board is shown: as a diagram with `--svg`, without its value with `--no-value`; in JSON; otherwise with the notation explained if no position is
+  -- given
   abbrev pub drawing_in : Option Question
   drawing_in = if has rows (codes "svg") then Some (Diagram (not (has rows (codes "no-value"))))
-      else (if has rows (codes "no-value") then None else Some (Show (not (is_some (text_in rows (codes "POSITION"))))))
+      else (if has rows (codes "no-value") then None
+      else (if json_in then Some Board else Some (Show (not (is_some (text_in rows (codes "POSITION")))))))
 
   -- a page of so many positions, with the engine if there is one
   abbrev pub paging_in : ℕ → CommandContent
   paging_in limit = paging (text_in rows (codes "POSITION")) limit (text_in rows (codes "engine"))
 
   abbrev pub place_given : Option CommandContent
-  place_given = option_and_then (λ t. option_map (λ i. placed t i) (option_and_then written (text_in rows (codes "INDEX"))))
+  place_given = option_and_then (λ t. option_map (λ i. placed t i json_in) (option_and_then written (text_in rows (codes "INDEX"))))
       (option_and_then written (text_in rows (codes "TIER")))
 
   -- the limit that is given, or none
@@ -105,7 +111,7 @@ module _ (rows : List Row) where
   limit_in = number_or rows (codes "limit") no_limit
 
   abbrev pub counts_form_in : Form
-  counts_form_in = if has rows (codes "csv") then Csv else (if has rows (codes "json") then Json else Bars)
+  counts_form_in = if has rows (codes "csv") then Csv else (if json_in then Json else Bars)
 
   -- what is counted, and how the counts are written
   abbrev pub counts_in : CountsRequest
@@ -118,21 +124,21 @@ module _ (rows : List Row) where
 
   -- what a command about a game says
   abbrev pub command_in : GameCommandName → Option CommandContent
-  command_in command.Solve = Some solving
-  command_in command.Query = Some (asking_each Value)
-  command_in command.Moves = Some (asking_each (Moves (has rows (codes "distinct")) (has rows (codes "json"))))
-  command_in command.Why = Some (asking Why)
-  command_in command.Line = Some (asking (BestLine limit_in (has rows (codes "json"))))
+  command_in command.Solve = Some (solving json_in)
+  command_in command.Query = Some (asking_each (Value json_in))
+  command_in command.Moves = Some (asking_each (Moves (has rows (codes "distinct")) json_in))
+  command_in command.Why = Some (asking (Why json_in))
+  command_in command.Line = Some (asking (BestLine limit_in json_in))
   command_in command.Show = option_map asking drawing_in
   command_in command.Page = option_map paging_in (option_number rows (codes "limit"))
   command_in command.At = place_given
-  command_in command.Locate = option_map (λ t. locating t) (text_in rows (codes "POSITION"))
+  command_in command.Locate = option_map (λ t. locating t json_in) (text_in rows (codes "POSITION"))
   command_in command.Find = option_map (λ s. finding s) (search_in rows)
   command_in command.Counts = Some (counting counts_in)
-  command_in command.Longest = Some (seeking_longest (has rows (codes "reached")) limit_in)
+  command_in command.Longest = Some (seeking_longest (has rows (codes "reached")) limit_in json_in)
   command_in command.Ask = option_map (λ a. answering a) (ask_in rows)
   command_in command.Analyse = Some analysing
-  command_in command.Check = option_map (λ t. checking t) (text_in rows (codes "FOLDER"))
+  command_in command.Check = option_map (λ t. checking t json_in) (text_in rows (codes "FOLDER"))
   command_in command.Play = Some playing_in
 
   -- a request about a game: its name, the command, the folder, the plan and the report of progress
@@ -143,7 +149,7 @@ module _ (rows : List Row) where
 
   -- the request of a command. `--all`, which is a word of `page` too, makes the page of all games
   abbrev pub request_in : CommandName → Option Content
-  request_in ListOfGames = Some (list_of_games (has rows (codes "all")))
+  request_in ListOfGames = Some (list_of_games (has rows (codes "all")) json_in)
   request_in (Game command) = if has rows (codes "all") then option_map (λ e. page_of_games e) (text_in rows (codes "engine"))
       else option_map (λ g. about_game g) (game_in command)
   request_in Completions = option_map (λ m. about_program m) (option_and_then manual_named (text_in rows (codes "SHELL")))

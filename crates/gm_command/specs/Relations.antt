@@ -23,9 +23,10 @@ barred_for name =
     else (if bytes_eq name (codes "csv") then codes "json" ∷ []
     else (if bytes_eq name (codes "page") then codes "json" ∷ codes "show" ∷ []
     else (if bytes_eq name (codes "show") then codes "json" ∷ []
+    else (if bytes_eq name (codes "svg") then codes "json" ∷ []
     else (if bytes_eq name (codes "quiet") then codes "progress" ∷ []
     else (if bytes_eq name (codes "values") then codes "distinct" ∷ []
-    else []))))))
+    else [])))))))
 
 -- one of the names is this one
 abbrev pub is_among : List (List ℕ) → List ℕ → Bool

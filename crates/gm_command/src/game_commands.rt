@@ -20,12 +20,14 @@ fn show_of(inner: &ArgMatches<'_>) -> Option<Question>
     let valued = !has(inner, "no-value");
     if has(inner, "svg") {
         Some(Question::Diagram { valued })
-    } else if valued {
+    } else if !valued {
+        None
+    } else if has(inner, "json") {
+        Some(Question::Board)
+    } else {
         Some(Question::Show {
             explained: text_in(inner, "POSITION").is_none(),
         })
-    } else {
-        None
     }
 }
 
@@ -81,7 +83,11 @@ pub(crate) fn place_of<'a>(inner: &ArgMatches<'a>) -> Result<GameCommand<'a>, &'
             "an index is a number from 0 to 18446744073709551615, without a sign and without zeros before it",
         );
     };
-    Ok(GameCommand::FromTables(TableCommand::At { tier, index }))
+    Ok(GameCommand::FromTables(TableCommand::At {
+        tier,
+        index,
+        json: has(inner, "json"),
+    }))
 }
 
 // Reads a line of `play`.
@@ -107,22 +113,23 @@ pub(crate) fn command_of<'a>(
 ) -> Option<GameCommand<'a>>
     ensures { option_map command_content result ≡ command_in (rows_in inner.now) command }
 {
+    let json = has(inner, "json");
     match command {
-        GameCommandName::Solve => Some(GameCommand::FromTables(TableCommand::Solve)),
-        GameCommandName::Query => Some(explore_each(inner, Question::Value)),
+        GameCommandName::Solve => Some(GameCommand::FromTables(TableCommand::Solve { json })),
+        GameCommandName::Query => Some(explore_each(inner, Question::Value { json })),
         GameCommandName::Moves => Some(explore_each(
             inner,
             Question::Moves {
                 distinct: has(inner, "distinct"),
-                json: has(inner, "json"),
+                json,
             },
         )),
-        GameCommandName::Why => Some(explore(inner, Question::Why)),
+        GameCommandName::Why => Some(explore(inner, Question::Why { json })),
         GameCommandName::Line => Some(explore(
             inner,
             Question::Line {
                 limit: limit_of(inner),
-                json: has(inner, "json"),
+                json,
             },
         )),
         GameCommandName::Show => Some(explore(inner, show_of(inner)?)),
@@ -130,6 +137,7 @@ pub(crate) fn command_of<'a>(
         GameCommandName::At => place_of(inner).ok(),
         GameCommandName::Locate => Some(GameCommand::Locate {
             position: text_in(inner, "POSITION")?,
+            json,
         }),
         GameCommandName::Find => Some(GameCommand::FromTables(TableCommand::Find(search_of(
             inner,
@@ -140,11 +148,13 @@ pub(crate) fn command_of<'a>(
         GameCommandName::Longest => Some(GameCommand::FromTables(TableCommand::Longest {
             reached: has(inner, "reached"),
             limit: limit_of(inner),
+            json,
         })),
         GameCommandName::Ask => Some(GameCommand::FromTables(TableCommand::Ask(ask_of(inner)?))),
         GameCommandName::Analyse => Some(GameCommand::FromTables(TableCommand::Analyse)),
         GameCommandName::Check => Some(GameCommand::Check {
             folder: text_in(inner, "FOLDER")?,
+            json,
         }),
         GameCommandName::Play => Some(play_of(inner)),
     }

@@ -14,7 +14,7 @@ static LIST: CommandSpec = CommandSpec {
     alias: None,
     about: "Lists the games",
     examples: "Examples:\n  gamesman list\n  gamesman list --all | grep tactix",
-    words: &[word!("all": Flag, "List the later games too")],
+    words: &[word!("all": Flag, "List the later games too"), JSON],
 };
 
 static SOLVE: CommandSpec = CommandSpec {
@@ -31,6 +31,7 @@ static SOLVE: CommandSpec = CommandSpec {
         word!("piece": Number("N", 1..=4096, PIECE_WORD), "Number of positions a worker takes at a time, 1 to 4096"),
         word!("progress": Flag, "Report progress on standard error, a few times a second"),
         QUIET,
+        JSON,
     ],
 };
 
@@ -43,6 +44,7 @@ static QUERY: CommandSpec = CommandSpec {
     words: &[
         GAME,
         word!("POSITION": Word, "The position, as `10` in countdown, `x...o....` in tictactoe or `dd.d......h d` in hare"),
+        JSON,
         FOLDER,
         READ_ONLY,
         QUIET,
@@ -72,7 +74,7 @@ static WHY: CommandSpec = CommandSpec {
     alias: None,
     about: "Lists the moves of a position, best first, with what each is worth, the best answer to it and the position after that",
     examples: "Examples:\n  gamesman why countdown 9\n  gamesman why tictactoe ox.o.....",
-    words: &[GAME, START, FOLDER, READ_ONLY, QUIET],
+    words: &[GAME, START, JSON, FOLDER, READ_ONLY, QUIET],
 };
 
 static LINE: CommandSpec = CommandSpec {
@@ -103,6 +105,7 @@ static SHOW: CommandSpec = CommandSpec {
         START,
         word!("svg": Flag, "Draw a diagram for print, as an SVG document"),
         word!("no-value": Flag, "Leave the value out of the diagram, as for a puzzle"),
+        JSON,
         FOLDER,
         READ_ONLY,
         QUIET,
@@ -137,6 +140,7 @@ static AT: CommandSpec = CommandSpec {
         GAME,
         word!("TIER": Word, "The number of the tier"),
         word!("INDEX": Word, "The index in the tier, 0 or more, as in its file"),
+        JSON,
         FOLDER,
         READ_ONLY,
         QUIET,
@@ -149,7 +153,7 @@ static LOCATE: CommandSpec = CommandSpec {
     alias: None,
     about: "Prints the tier and index of a position, whether it is canonical, and the index and text of its canonical position",
     examples: "Examples:\n  gamesman locate countdown 10\n  gamesman locate tictactoe xo.......",
-    words: &[GAME, word!("POSITION": Word, "The position")],
+    words: &[GAME, word!("POSITION": Word, "The position"), JSON],
 };
 
 static FIND: CommandSpec = CommandSpec {
@@ -210,6 +214,7 @@ static LONGEST: CommandSpec = CommandSpec {
         GAME,
         REACHED,
         word!("limit": Number("limit", 1..=MOST), "List at most this many wins and this many losses, 1 or more"),
+        JSON,
         FOLDER,
         READ_ONLY,
         QUIET,
@@ -252,6 +257,7 @@ static CHECK: CommandSpec = CommandSpec {
     words: &[
         GAME,
         word!("FOLDER": Word, "The folder of the tables"),
+        JSON,
         QUIET,
     ],
 };

@@ -117,6 +117,7 @@ fn command_request_of<'a>(command: CommandName, inner: &ArgMatches<'a>) -> Optio
     match command {
         CommandName::List => Some(Request::List {
             all: has(inner, "all"),
+            json: has(inner, "json"),
         }),
         CommandName::Game(_) if has(inner, "all") => Some(Request::AllGames {
             engine: text_in(inner, "engine")?,

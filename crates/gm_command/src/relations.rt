@@ -40,6 +40,7 @@ pub(crate) fn barred_by(name: &str) -> &'static [&'static str]
         "csv" => &["json"],
         "page" => &["json", "show"],
         "show" => &["json"],
+        "svg" => &["json"],
         "quiet" => &["progress"],
         "values" => &["distinct"],
         _ => &[],

@@ -23,15 +23,17 @@ pub enum TableLocation<'a> {
 #[derive(Clone, Copy, Debug, PartialEq, Eq)]
 pub enum Question {
     /// The value, in a line.
-    Value,
+    Value { json: bool },
     /// The value of each move. With `distinct`, only the first of several moves that lead to one canonical position.
     Moves { distinct: bool, json: bool },
     /// The value of each move, the best answer to it, and the position after that.
-    Why,
+    Why { json: bool },
     /// Best play of both sides, of at most this many moves.
     Line { limit: usize, json: bool },
     /// The board and the value; on request, also how cells, positions and moves are written.
     Show { explained: bool },
+    /// The board and the value, in JSON.
+    Board,
     /// The board as a diagram for print; on request, with the value under it.
     Diagram { valued: bool },
 }
@@ -126,7 +128,9 @@ pub struct PlayRequest<'a> {
 #[derive(Clone, Copy)]
 pub enum TableCommand<'a> {
     /// Solves the game into its folder.
-    Solve,
+    Solve {
+        json: bool,
+    },
     /// A question about a position, or about the start if none is given: `query`, `moves`, `why`, `line` and `show`.
     Explore {
         position: Option<&'a str>,
@@ -141,6 +145,7 @@ pub enum TableCommand<'a> {
     At {
         tier: u64,
         index: u64,
+        json: bool,
     },
     Find(PositionSearch),
     /// The number of positions of each value and remoteness.
@@ -149,6 +154,7 @@ pub enum TableCommand<'a> {
     Longest {
         reached: bool,
         limit: usize,
+        json: bool,
     },
     /// An answer to each position of the input.
     Ask(AskRequest),
@@ -162,8 +168,8 @@ pub enum TableCommand<'a> {
 pub enum GameCommand<'a> {
     FromTables(TableCommand<'a>),
     /// The tier and index of a position.
-    Locate { position: &'a str },
-    Check { folder: &'a str },
+    Locate { position: &'a str, json: bool },
+    Check { folder: &'a str, json: bool },
     /// How its positions and moves are written, for a person at a terminal. No line of words makes only this request.
     Naming,
 }
@@ -186,7 +192,7 @@ pub struct GameRequest<'a> {
 #[derive(Clone, Copy)]
 pub enum Request<'a> {
     /// The names of the games; on request, also those that were added later.
-    List { all: bool },
+    List { all: bool, json: bool },
     Game(GameRequest<'a>),
     /// The page of all games, with the engine in this file.
     AllGames { engine: &'a str },

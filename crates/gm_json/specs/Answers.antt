@@ -1,5 +1,5 @@
 -- The answer to a line that should be the text of a position.
-use Rattle.std.specs.Prelude.{◌≡◌, ℕ, ◌⊎◌, true, false, List, take, codes, if◌then◌else◌}
+use Rattle.std.specs.Prelude.{◌≡◌, ℕ, ◌⊎◌, Bool, true, false, List, take, codes, if◌then◌else◌}
 use Rattle.serde_json.specs.Data.{Data, string, object, Members, member, no_members}
 use Rattle.serde_json.specs.Written.{compact_text}
 use Rattle.gm_game.specs.declared.position.Position.{Position}
@@ -30,6 +30,14 @@ unread_tree n read =
 
 abbrev pub error_tree : ℕ → List ℕ → Data
 error_tree n line = unread_tree n (take read_bytes line)
+
+-- the value of a position without its moves; on request, also its canonical position
+abbrev pub value_asked : Bool → Asked
+value_asked canonical = record {
+  values = true;
+  distinct = false;
+  «with» = record { canonical = canonical; parents = false; symmetric = false; best = false };
+}
 
 module _ (r : Rules) (shown : Position → List ℕ) (move_shown : Position → ℕ → List ℕ) (asked : Asked) where
   -- what is reported of a position: its moves unless its value alone is asked for, its value and its remoteness, and then more

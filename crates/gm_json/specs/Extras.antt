@@ -25,12 +25,15 @@ abbrev pub AddsMember : Bool → List ℕ → Data → List ℕ → List ℕ →
 AddsMember asked k d old new = (more : Members) → new ++ members_text true more ≡ old ++ members_text true (member_if asked k d more)
 
 module _ (shown : Position → List ℕ) where
-  -- a canonical position, with its place; the members in alphabetical order
+  -- a position with its place, and then more
+  abbrev pub place_members : Position → Members → Members
+  place_members p more =
+      member (codes "index") (whole p.index)
+      (member (codes "position") (text (shown p))
+      (member (codes "tier") (whole p.tier) more))
+
   abbrev pub canonical_tree : Position → Data
-  canonical_tree c =
-      object (member (codes "index") (whole c.index)
-      (member (codes "position") (text (shown c))
-      (member (codes "tier") (whole c.tier) no_members)))
+  canonical_tree c = object (place_members c no_members)
 
   abbrev pub position_texts : List Position → Data
   position_texts ps = array (items_of (map (λ p. text (shown p)) ps))

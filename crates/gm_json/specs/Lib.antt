@@ -5,5 +5,8 @@ pub mod Founds
 pub mod Extras
 pub mod Places
 pub mod Answers
+pub mod Located
+pub mod Boards
+pub mod Whys
 pub mod Asking
 pub mod inner

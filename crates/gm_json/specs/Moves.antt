@@ -14,15 +14,19 @@ use Rattle.gm_play.specs.PlayTexts.{value_word, IsReadAs}
 use Rattle.gm_json.specs.Words.{whole, text}
 
 module _ (r : Rules) (shown : Position → List ℕ) (move_shown : Position → ℕ → List ℕ) where
-  -- a move, what it is worth to the side that makes it, its result, and the value and remoteness of that; last the remoteness counted from before the move
-  abbrev pub move_tree : Position → MoveValue → Data
-  move_tree p x =
-      object (member (codes "move") (text (move_shown p x.number))
+  -- a move, what it is worth to the side that makes it, its result, and the value and remoteness of that; last the remoteness counted from before the move, and
+  -- then more
+  abbrev pub move_members : Position → MoveValue → Members → Members
+  move_members p x more =
+      member (codes "move") (text (move_shown p x.number))
       (member (codes "moveValue") (string (value_word x.worth.value))
       (member (codes "position") (text (shown x.position))
       (member (codes "positionValue") (string (value_word x.result.value))
       (member (codes "remoteness") (whole x.result.remoteness)
-      (member (codes "moveRemoteness") (whole x.worth.remoteness) no_members))))))
+      (member (codes "moveRemoteness") (whole x.worth.remoteness) more)))))
+
+  abbrev pub move_tree : Position → MoveValue → Data
+  move_tree p x = object (move_members p x no_members)
 
   abbrev pub move_trees : Position → List MoveValue → Data
   move_trees p xs = array (items_of (map (move_tree p) xs))

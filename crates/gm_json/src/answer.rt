@@ -59,8 +59,8 @@ pub fn ask_line<G: Shown>(
     }
 }
 
-// Returns the answers about a position.
-fn position_json<G: Shown>(
+/// Returns a position as one line of compact JSON, without its end, as `ask_line` answers its text.
+pub fn position_json<G: Shown>(
     alloc: Global,
     known: &Known<'_, G>,
     tiers: &[u64],

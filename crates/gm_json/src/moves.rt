@@ -5,7 +5,7 @@ ghost use Rattle.serde_json.specs.Data.{Members};
 ghost use Rattle.serde_json.specs.Written.{compact_text, members_text};
 ghost use Rattle.gm_play.specs.PlayTexts.{IsMoveOf};
 ghost use Rattle.gm_json.specs.inner.Parts.{member_text};
-ghost use Rattle.gm_json.specs.Moves.{move_tree, move_trees, position_members, IsMovesJson};
+ghost use Rattle.gm_json.specs.Moves.{move_members, move_tree, move_trees, position_members, IsMovesJson};
 
 use crate::parts::{
     push_bytes, push_comma, push_key, push_number_member, push_text_member, push_value_member,
@@ -87,6 +87,22 @@ fn push_move<G: Shown>(
     ensures { OnOk result (out.new.items ≡ out.old.items ++ compact_text (move_tree G.Game.rules G.shown G.move_shown p x)) }
 {
     push_bytes(out, b"{")?;
+    push_move_members::<G>(alloc, out, p, x)?;
+    push_bytes(out, b"}")
+}
+
+/// Appends the members that have a move, its worth and its result, which are the first.
+pub(crate) fn push_move_members<G: Shown>(
+    alloc: Global,
+    out: &mut Vec<u8>,
+    p: Position,
+    x: MoveValue,
+) -> Result<(), AllocError>
+    requires legal { G.Game.rules.is_legal p ≡ true }
+    requires each { IsMoveOf G.Game.rules p x }
+    ensures { OnOk result ((more : Members) → out.new.items ++ members_text true more ≡ out.old.items ++ members_text false
+        (move_members G.Game.rules G.shown G.move_shown p x more)) }
+{
     push_text_member(
         alloc,
         out,
@@ -98,6 +114,5 @@ fn push_move<G: Shown>(
     push_text_member(alloc, out, true, "position", G::show(x.position).as_slice())?;
     push_value_member(out, true, "positionValue", x.result.value)?;
     push_number_member(out, true, "remoteness", u64::from(x.result.remoteness))?;
-    push_number_member(out, true, "moveRemoteness", u64::from(x.worth.remoteness))?;
-    push_bytes(out, b"}")
+    push_number_member(out, true, "moveRemoteness", u64::from(x.worth.remoteness))
 }

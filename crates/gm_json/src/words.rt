@@ -16,8 +16,8 @@ pub(crate) fn text_value(alloc: Global, text: &[u8]) -> Result<Json, AllocError>
     Ok(Json::String(String::from_utf8_lossy(alloc, text)?))
 }
 
-/// Puts a text under a key of an object.
-pub(crate) fn put_text(
+/// Puts a text under a key of an object. Bytes that aren't UTF-8 are replaced.
+pub fn put_text(
     alloc: Global,
     members: &mut Map<String, Json>,
     key: &str,
@@ -46,7 +46,7 @@ pub(crate) fn put_word(
 }
 
 /// Appends a tree as a line of compact JSON.
-pub(crate) fn push_line(alloc: Global, lines: &mut Vec<u8>, tree: Json) -> Result<(), AllocError>
+pub fn push_line(alloc: Global, lines: &mut Vec<u8>, tree: Json) -> Result<(), AllocError>
     requires { has_float (view tree) ≡ false }
     ensures { OnOk result (lines.new.items ≡ lines.old.items ++ line_of (view tree)) }
 {

@@ -42,7 +42,7 @@ IsEngineFaultOf (Some engine) fault = IsEngineFault fault
 abbrev pub IsNeeded : GameSpec → TableCommand → Needs → Type 0
 IsNeeded g (Explore position question) needs = IsAbout g position needs
 IsNeeded g (Page request) needs = IsAbout g request.position needs × AreDigitsOf request.engine needs.engine.items
-IsNeeded g (At tier index) needs = IsAtPlace g.rules tier index needs
+IsNeeded g (At tier index json) needs = IsAtPlace g.rules tier index needs
 IsNeeded g (Find search) needs = needs.tier ≡ first_of g.rules search.tier
 IsNeeded g (Play request) needs = IsAbout g request.position needs
 IsNeeded g _ needs = needs.tier ≡ g.rules.initial.tier

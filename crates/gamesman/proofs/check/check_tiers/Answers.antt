@@ -5,7 +5,7 @@ use Rattle.gamesman.proofs.check.check_tiers.Goals as goal
 
 pub loop-tier-init : goal.loop-tier-init
 loop-tier-init g c = record {
-  told = told_none g.G.Game.rules (store_view g.S.Store.READS (g.S.Store.texts c.args.store.now)) (g.O.Write.contents c.args.output.now) c.args.tables.now
+  told = told_none g.G.Game.rules (store_view g.S.Store.READS (g.S.Store.texts c.args.store.now)) c.args.json (g.O.Write.contents c.args.output.now) c.args.tables.now
       c.requires.none;
   same = λ reads t. refl;
   count = refl;
@@ -31,9 +31,9 @@ loop-tier-preserved g c =
     let i = c.loop-tier.invariant in
     let found = finding_before r c.loop-tier.tables b texts (g.S.Store.texts c.loop-tier.store) (get_or tiers k 0) c.in_ok-finding.finding i.same e.found in
     record {
-      told = subst (λ (ts : List ℕ). IsToldTo r (store_view b texts) ts start new c.check_tier.new.tables c.status-status.result)
+      told = subst (λ (ts : List ℕ). IsToldTo r (store_view b texts) c.args.json ts start new c.check_tier.new.tables c.status-status.result)
           (sym (take_more tiers k 0 c.loop-tier-test.true))
-          (rw c.status-status.ensures (told_next r (store_view b texts) c.loop-tier.tables (take k tiers) (get_or tiers k 0) c.loop-tier.status start old new
+          (rw c.status-status.ensures (told_next r (store_view b texts) c.args.json c.loop-tier.tables (take k tiers) (get_or tiers k 0) c.loop-tier.status start old new
           c.check_tier.ensures.tables i.told c.check_tier.new.tables c.in_ok-finding.finding found e.told e.held));
       same = λ reads t. c.check_tier.ensures.same reads t ∙ i.same reads t;
       count = e.count ∙ i.count;
@@ -51,9 +51,9 @@ returns-in_err-finding g c =
     let b = g.S.Store.READS in
     let texts = g.S.Store.texts c.args.store.now in
     let i = c.loop-tier.invariant in
-    let cut = cut_before r c.loop-tier.tables b texts (g.S.Store.texts c.loop-tier.store) (get_or tiers k 0) old new c.in_err-finding.field-0.0 i.same
+    let cut = cut_before r c.loop-tier.tables c.args.json b texts (g.S.Store.texts c.loop-tier.store) (get_or tiers k 0) old new c.in_err-finding.field-0.0 i.same
     c.in_err-finding.ensures.cut in
-    rw (q.1, q.2) (cut_at r (store_view b texts) c.loop-tier.tables (take k tiers) (get_or tiers k 0) c.loop-tier.status start old new
+    rw (q.1, q.2) (cut_at r (store_view b texts) c.args.json c.loop-tier.tables (take k tiers) (get_or tiers k 0) c.loop-tier.status start old new
     c.check_tier.ensures.tables i.told tiers (drop (suc k) tiers) c.in_err-finding.field-0.0 (split_at tiers k c.loop-tier-test.true) cut)
 
 pub returns : goal.returns
@@ -63,6 +63,6 @@ returns g c =
     let start = g.O.Write.contents c.args.output.now in
     let end = g.O.Write.contents c.loop-tier.output in
     let store = store_view g.S.Store.READS (g.S.Store.texts c.args.store.now) in
-    told_all r store tiers start end c.loop-tier.tables c.loop-tier.status
-    (subst (λ (ts : List ℕ). IsToldTo r store ts start end c.loop-tier.tables c.loop-tier.status) (take_all c.loop-tier.tier-index tiers c.loop-tier-test.false)
+    told_all r store c.args.json tiers start end c.loop-tier.tables c.loop-tier.status
+    (subst (λ (ts : List ℕ). IsToldTo r store c.args.json ts start end c.loop-tier.tables c.loop-tier.status) (take_all c.loop-tier.tier-index tiers c.loop-tier-test.false)
     c.loop-tier.invariant.told)

@@ -2,7 +2,7 @@ use Rattle.gamesman.proofs.Lower.{None, ℕ, List, inr, subst, ap, ◌∙◌, If
 use Rattle.gamesman.specs.Searches.{IsUnplaced, IsAtText, IsCountsOf, IsLongestOf}
 use Rattle.gm_page.specs.Pages.{IsPage}
 use Rattle.gamesman.specs.Solving.{IsReport}
-use Rattle.gm_play.specs.PlaceTexts.{IsPositionText}
+use Rattle.gamesman.specs.Texts.{IsPlacedText}
 use Rattle.gamesman.specs.Analysing.{IsAnalysisText}
 use Rattle.gamesman.specs.Answers.{IsAnsweredFromTables}
 use Rattle.gamesman.specs.Plays.{IsSitting}
@@ -16,8 +16,8 @@ returns-in-Solve g c =
     let built = c.args.built.now in
     let same = rw c.in-Solve.is at c.requires.needed in
     let order = subst (λ (t : ℕ). IsOrderFrom r t built.order) same c.requires.order in
-    rw c.in-Solve.is (text_told c.report_text.result (λ v. v.items) (λ e. OutOfMemory e) (IsReport r) (IsUnsearched r None) _ _ c.put_text.result (λ e. tt) (λ e. inr tt)
-    (IfOk-weaker c.report_text.result _ _ (λ v is. record { tiers = built.order; order = order; work = built.work; some_work = c.requires.work; text = is }) c.report_text.ensures) c.put_text.ensures.put c.put_text.ensures.refused)
+    rw c.in-Solve.is (text_told c.report_for.result (λ v. v.items) (λ e. OutOfMemory e) (IsReport r c.in-Solve.json) (IsUnsearched r None) _ _ c.put_text.result (λ e. tt) (λ e. inr tt)
+    (IfOk-weaker c.report_for.result _ _ (λ v is. record { tiers = built.order; order = order; work = built.work; some_work = c.requires.work; text = is }) c.report_for.ensures) c.put_text.ensures.put c.put_text.ensures.refused)
 
 pub returns-in-Explore : goal.returns-in-Explore
 unfolding IsAnsweredFromTables
@@ -54,7 +54,7 @@ returns-in-Longest g c =
     let built = c.args.built.now in
     let same = rw c.in-Longest.is at c.requires.needed in
     let order = subst (λ (t : ℕ). IsOrderFrom r t built.order) same c.requires.order in
-    rw c.in-Longest.is (text_told c.longest_of.result (λ v. v.items) (λ e. OutOfMemory e) (IsLongestOf r g.G.Shown.shown g.G.Shown.move_shown c.in-Longest.reached c.in-Longest.limit) (IsUnsearched r None) _ _ c.put_text-in-Longest.result (λ e. tt) (λ e. inr tt)
+    rw c.in-Longest.is (text_told c.longest_of.result (λ v. v.items) (λ e. OutOfMemory e) (IsLongestOf r g.G.Shown.shown g.G.Shown.move_shown c.in-Longest.reached c.in-Longest.limit c.in-Longest.json) (IsUnsearched r None) _ _ c.put_text-in-Longest.result (λ e. tt) (λ e. inr tt)
     (IfOk-weaker c.longest_of.result _ _ (λ v is. (built.order, order, is)) c.longest_of.ensures) c.put_text-in-Longest.ensures.put c.put_text-in-Longest.ensures.refused)
 
 pub returns-in-Analyse : goal.returns-in-Analyse
@@ -97,14 +97,16 @@ unfolding IsAnsweredFromTables
 returns-in-At g c =
     let r = g.G.Game.rules in
     let shown = g.G.Shown.shown in
+    let move_shown = g.G.Shown.move_shown in
     let needs = c.args.needs.now in
     let tier = c.in-At.tier in
     let index = c.in-At.index in
+    let json = c.in-At.json in
     let (at, reached, same) = rw c.in-At.is at c.requires.needed in
-    rw c.in-At.is (text_told c.position_text.result (λ v. v.items) (λ e. OutOfMemory e) (IsAtText r shown tier index) (IsUnplaced r tier index) _ _
+    rw c.in-At.is (text_told c.placed_text.result (λ v. v.items) (λ e. OutOfMemory e) (IsAtText r shown move_shown tier index json) (IsUnplaced r tier index) _ _
     c.put_text-in-At.result (λ e. tt) (λ e. inr tt)
-    (IfOk-weaker c.position_text.result _ _
-    (λ v is. (needs.position, at, reached, subst (λ (p : Position). IsPositionText r shown p v.items) c.known_at-known-in-At.ensures is)) c.position_text.ensures)
+    (IfOk-weaker c.placed_text.result _ _
+    (λ v is. (needs.position, at, reached, subst (λ (p : Position). IsPlacedText r shown move_shown p json v.items) c.known_at-known-in-At.ensures is)) c.placed_text.ensures)
     c.put_text-in-At.ensures.put c.put_text-in-At.ensures.refused)
 
 pub returns-in-Filter : goal.returns-in-Filter

@@ -1,11 +1,11 @@
 use Rattle.gamesman.proofs.Lower.{ℕ, List, refl, subst, ◌∙◌, err_from_is_err_and}
-use Rattle.gm_play.specs.PlaceTexts.{IsPlaceText}
+use Rattle.gamesman.specs.Answers.{IsLocatedText}
 use Rattle.gm_play.specs.Places.{IsLocated}
 use Rattle.gamesman.proofs.Cut.{kept, unlocated_answer}
 use Rattle.gamesman.proofs.located.locate.Goals as goal
 
-pub returns-in_err-row : goal.returns-in_err-row
-returns-in_err-row g c =
+pub returns-in_err-text : goal.returns-in_err-text
+returns-in_err-text g c =
     let l = c.in-Some.located in
     let at : IsLocated g.G.Game.rules g.G.Shown.shown c.args.position.now l = subst (λ (t : List ℕ). IsLocated g.G.Game.rules g.G.Shown.shown t l)
     c.as_bytes.ensures.value c.in-Some.ensures.located in
@@ -20,10 +20,10 @@ returns-in_err-put g c =
     let row = c.as_slice.result.now in
     let l = c.in-Some.located in
     let at : IsLocated r shown text l = subst (λ (t : List ℕ). IsLocated r shown t l) c.as_bytes.ensures.value c.in-Some.ensures.located in
-    let is : IsPlaceText r shown text row = (l, at, c.as_slice.ensures.value ∙ c.in_ok-row.ensures) in
+    let is : IsLocatedText r shown text c.args.json row = (l, at, c.as_slice.ensures.value ∙ c.in_ok-text.ensures) in
     let e = c.in_err-put in
     let q = err_from_is_err_and c.from_residual-in_err-put.result c.from_residual-in_err-put.ensures.1 in
-    rw (q.1, q.2) (unlocated_answer r shown text e.field-0.0 _ _ row e.ensures.fault is e.ensures.err)
+    rw (q.1, q.2) (unlocated_answer r shown text c.args.json e.field-0.0 _ _ row e.ensures.fault is e.ensures.err)
 
 pub returns : goal.returns
 returns g c =
@@ -33,5 +33,5 @@ returns g c =
     let row = c.as_slice.result.now in
     let l = c.in-Some.located in
     let at : IsLocated r shown text l = subst (λ (t : List ℕ). IsLocated r shown t l) c.as_bytes.ensures.value c.in-Some.ensures.located in
-    let is : IsPlaceText r shown text row = (l, at, c.as_slice.ensures.value ∙ c.in_ok-row.ensures) in
+    let is : IsLocatedText r shown text c.args.json row = (l, at, c.as_slice.ensures.value ∙ c.in_ok-text.ensures) in
     record { written = (refl, (row, is, c.in_ok-put.ensures.ok)); refused = tt; unread = λ none. absurd (none l.position at.legal at.reads) }

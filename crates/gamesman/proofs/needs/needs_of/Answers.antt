@@ -1,5 +1,6 @@
 use Rattle.std.proofs.lemmas.Result.{IfErr-weaker}
 use Rattle.gamesman.proofs.Lower.{Err, ap, inl, game_spec, IsTextFor, text_asked, max}
+use Rattle.gamesman.specs.Searches.{IsAtText}
 use Rattle.gamesman.specs.Answers.{IsAnsweredFromTables}
 use Rattle.gamesman.proofs.Answering.{explore_refused, page_refused, page_engineless, place_refused, asked_read}
 use Rattle.gamesman.proofs.Telling.{find_unsearched}
@@ -44,7 +45,8 @@ pub returns-in-At-clause-refused : goal.returns-in-At-clause-refused
 unfolding IsAnsweredFromTables
 returns-in-At-clause-refused g c input output =
     rw c.in-At.is (IfErr-weaker c.needs_in.result _ _
-    (λ fault why. place_refused g.G.Game.rules g.G.Shown.shown c.in-At.tier c.in-At.index fault output why) c.needs_in.ensures.refused)
+    (λ fault why. place_refused (IsAtText g.G.Game.rules g.G.Shown.shown g.G.Shown.move_shown c.in-At.tier c.in-At.index _) g.G.Game.rules c.in-At.tier
+    c.in-At.index fault output why) c.needs_in.ensures.refused)
 
 pub returns-in-Find-clause-refused : goal.returns-in-Find-clause-refused
 unfolding IsAnsweredFromTables
