@@ -29,7 +29,6 @@ SHARED = (
     ("gamesman.specs.Refusals", "IsUnbuilt"),
     ("gm_pieces.specs.MoveGames", "move_rules"),
     ("gm_pieces.specs.Small", "small_rules"),
-    ("gm_ways.specs.Ways", "way_rules"),
     ("gm_patterns.specs.PatternGames", "pattern_rules"),
 )
 
@@ -39,7 +38,6 @@ BESIDE = {
     "gm_numbers.specs.NumbersPictures": "the pictures of games that the program doesn't have",
     "gm_patterns.specs.PatternTables": "tests that a new game has to pass",
     "gm_pieces.specs.SmallTables": "tests that a new game has to pass",
-    "gm_ways.specs.WayTables": "tests that a new game has to pass",
     "gm_solver.specs.Boards": "what callers with workers of their own see",
     "gm_testing.specs.ByHand": "the words of tests",
 }
@@ -340,7 +338,7 @@ def item(number, title, found):
         if (keys < set(found.definitions) or keys == set(found.definitions) and other < number) and len(keys & left) > 9:
             left -= keys
             parts.append(str(other))
-    parts = [f"all of {', '.join(parts)}"] if parts else []
+    parts = [f"list{'s' if len(parts) > 1 else ''} {', '.join(parts)}"] if parts else []
     for path, keys in by_file(found, left).items():
         places = [(key[1], found.definitions[key][0][0], found.definitions[key][-1][0]) for key in keys]
         parts.append(f"{short(path)} " + ", ".join(f"`{name}` {first}" + (f"-{last}" if last > first else "") for name, first, last in places))

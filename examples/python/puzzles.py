@@ -47,7 +47,10 @@ def book(games: List[str], number: int, seed: int) -> Iterator[str]:
     solutions: List[str] = []
     for name in games:
         with Game(name) as game:
-            for puzzle in puzzles(game, number, seed):
+            found = puzzles(game, number, seed)
+            if len(found) < number:
+                print(f"puzzles.py: {name} has {len(found)} such puzzles, not {number}", file=sys.stderr)
+            for puzzle in found:
                 figures.append(figure(len(figures) + 1, puzzle))
                 solutions.append(solution(len(figures), puzzle))
     yield HEAD

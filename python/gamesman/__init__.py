@@ -14,7 +14,7 @@ from .game import Found, Game, games
 from .notebook import Page
 from .position import Position, Reply
 
-__version__ = "1.1.0"
+__version__ = "1.2.0"
 
 __all__ = [
     "BadFile",

@@ -14,9 +14,9 @@ from .notebook import Page
 from .position import Position
 from .process import Asker, program_of, run, run_with_progress
 
-# What can be the text of a position: visible ASCII characters and spaces, but no line that names a place. For any other text the program is asked a line that
-# is none.
-PLAIN = re.compile(r"(?!@\d+ \d+\Z)[ -~]{0,1024}")
+# What can be the text of a position: visible ASCII characters and spaces, but no line that names a place, and none that may be an object. For any other text the
+# program is asked a line that is none.
+PLAIN = re.compile(r"(?!@\d+ \d+\Z|\{)[ -~]{0,1024}")
 NOT_PLAIN = b"\xff"
 
 
@@ -158,6 +158,8 @@ class Game:
         whole_line: bool = False,
         distinct: bool = False,
         min_moves: Optional[int] = None,
+        min_tries: Optional[int] = None,
+        sort: Optional[str] = None,
         reached: bool = False,
         limit: Optional[int] = None,
         random: Optional[int] = None,
@@ -166,11 +168,11 @@ class Game:
         """Returns the canonical positions of a value, tier by tier in the order of solving, by index within a tier. They are gone through once.
 
         The options are those of `gamesman find`: `remoteness` is a number or a pair, as `(5, 9)`; `only_move`, `only_fastest` and `whole_line` are for puzzles;
-        `random` chooses so many, the same for the same `seed`."""
+        `random` chooses so many, the same for the same `seed`; `sort` is `index`, `long` or `hard`."""
         if value not in VALUES.values():
             raise ValueError(f"a value is win, tie, draw or lose, and not {value!r}")
-        flags = words_of(only_move=only_move, only_fastest=only_fastest, whole_line=whole_line, distinct=distinct, reached=reached)
-        numbers = words_of(remoteness=remoteness, tier=tier, min_moves=min_moves, limit=limit, random=random, seed=seed)
+        flags = words_of(only_move=only_move, only_fastest=only_fastest, whole_line=whole_line, distinct=distinct, reached=reached, tries=sort == "hard")
+        numbers = words_of(remoteness=remoteness, tier=tier, min_moves=min_moves, min_tries=min_tries, sort=sort, limit=limit, random=random, seed=seed)
         return Found(self, ["--value", value, *flags, *numbers])
 
     def longest(self, limit: Optional[int] = None, reached: bool = False) -> Iterator[Position]:

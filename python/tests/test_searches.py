@@ -38,6 +38,8 @@ class Searches(WithRoom):
             ({"only_fastest": True, "distinct": True}, ["--only-fastest", "--distinct"]),
             ({"whole_line": True, "reached": True}, ["--whole-line", "--reached"]),
             ({"min_moves": 5, "limit": 7}, ["--min-moves", "5", "--limit", "7"]),
+            ({"min_tries": 1, "sort": "long"}, ["--min-tries", "1", "--sort", "long"]),
+            ({"sort": "hard", "limit": 9}, ["--tries", "--sort", "hard", "--limit", "9"]),
             ({"random": 9, "seed": 0}, ["--random", "9", "--seed", "0"]),
         ):
             with self.subTest(words=words), Game("tictactoe", program=GAMESMAN) as game:

@@ -9,8 +9,6 @@ from lib.paths import ROOT
 
 # Names that may be defined twice, each with the reason; at most ten.
 ALLOWED = {
-    "from_point": "gm_morris has the same as an abbreviation, so that its proofs need not unfold it",
-    "to_point": "gm_morris has the same as an abbreviation, so that its proofs need not unfold it",
     "is_same": "gm_play and gm_page have the same test of equal positions in the words of their own lemmas",
 }
 

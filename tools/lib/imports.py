@@ -9,7 +9,7 @@ from glob import glob
 from lib.paths import ROOT
 
 # The crates of games that have a façade in specs/; the number of files from which on a façade of proofs may hand on a name.
-GAMES = {"gm_dao", "gm_toys", "gm_ways"}
+GAMES = {"gm_dao", "gm_toys"}
 FEWEST = 3
 
 USE = re.compile(r"\buse (Rattle\.[^\s{};]+)\.\{([^}]*)\}")

@@ -56,6 +56,7 @@ def family(game: str) -> str:
 TABLES = (
     ("LEGAL", "legal", "how many legal positions it has"),
     ("WORTHS", "worth", "what its start is worth"),
+    ("FAMILIES", "family", "its kind"),
     ("ADDS", "adds", "how many men each move adds"),
     ("TURNS", "turn", "how the board is turned for the second player"),
     ("ROWS", "rows", "the rows that end it, by their shapes or their points"),
@@ -65,9 +66,16 @@ TABLES = (
 def table(name: str, member: str) -> str:
     """A table of the script: the games of which games.json has this member, with what it is."""
     told = {game: told.get(member) or (told.get("lines") if member == "rows" else None) for game, told in TOLD.items()}
-    entries = ", ".join(f'"{game}": {json.dumps(it)}' for game, it in told.items() if it)
-    lines = textwrap.fill(entries, 150, initial_indent="  ", subsequent_indent="  ", break_long_words=False, break_on_hyphens=False)
-    return f"const {name} = {{\n{lines}\n}};\n"
+    # (a line ends only between entries)
+    lines = ["  "]
+    for game, it in told.items():
+        if it:
+            entry = f'"{game}": {json.dumps(it)}, '
+            if len(lines[-1]) + len(entry) > 152:
+                lines.append("  ")
+            lines[-1] += entry
+    text = "\n".join(line.rstrip() for line in lines).removesuffix(",")
+    return f"const {name} = {{\n{text}\n}};\n"
 
 
 def words_of_games() -> str:
@@ -133,11 +141,11 @@ def write_modules() -> None:
 def bad_scripts() -> Iterator[str]:
     """The scripts that node can't read, where it is."""
     if shutil.which("node"):
-        for file in sorted(os.listdir(FOLDER)):
-            if file.endswith(".js"):
-                ran = subprocess.run(["node", "--check", os.path.join(FOLDER, file)], capture_output=True, text=True, check=False)
+        for file in [*sorted(os.listdir(FOLDER)), GAMES]:
+            if file.endswith(".js") or file == GAMES:
+                ran = subprocess.run(["node", "--check", "-"], input=text_of(file), capture_output=True, text=True, check=False)
                 if ran.returncode:
-                    yield f"tools/web/viewer/{file}: {ran.stderr.strip().splitlines()[-1]}"
+                    yield f"tools/web/viewer: {file}: {ran.stderr.strip().splitlines()[-1]}"
 
 
 def lacking() -> Iterator[str]:

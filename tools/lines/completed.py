@@ -12,6 +12,9 @@ from lines.helps import commands, helped, section
 
 SHELLS = ["bash", "zsh", "fish"]
 
+# The option that comes before a command.
+EXPLAIN = "--explain"
+
 
 def completions(folder):
     """The file with the completions of bash, in a folder."""
@@ -39,9 +42,12 @@ def options(text):
 def cases():
     """Lines of words with what has to be offered for the last one."""
     names, games = commands(), told("list", "--all").split()
-    yield ["gamesman", ""], names
-    for start in ("q", "c", "com", "list", "no"):
-        yield ["gamesman", start], [name for name in names if name.startswith(start)]
+    yield ["gamesman", ""], [*names, EXPLAIN]
+    for start in ("q", "c", "com", "list", "no", "--", "--e"):
+        yield ["gamesman", start], [name for name in [*names, EXPLAIN] if name.startswith(start)]
+    yield ["gamesman", EXPLAIN, ""], names
+    yield ["gamesman", EXPLAIN, "que"], ["query"]
+    yield ["gamesman", EXPLAIN, "query", "tactix-3"], ["tactix-3", "tactix-3-misere"]
     for name in names:
         text = helped(name)
         places, flags = section(text, "Arguments"), options(text)

@@ -8,6 +8,7 @@ from math import comb
 
 from lib.files import files_of
 from lib.paths import GAMESMAN, TOOLS
+from lines.agreement import wrong_entry
 
 HERE = os.path.dirname(os.path.abspath(__file__))
 SOURCE = os.path.join(TOOLS, "solver/tactix.c")
@@ -50,7 +51,7 @@ def digests_of_tactix_of_five(room):
     ran = room.run([GAMESMAN, "solve", "tactix-5", folder], seconds=SECONDS)
     if (ran.status, ran.out, ran.err) != (0, b"solved 26 reused 0 migrated 0 deliveries %d by hand 0\n" % DELIVERIES, b""):
         return str(ran)
-    return differs(folder, right) or two_tiers_anew(room, folder, right)
+    return differs(folder, right) or wrong_entry("tactix-5", "--folder", folder, "--read-only") or two_tiers_anew(room, folder, right)
 
 
 def digests_of_misere_tactix_of_five(room):
@@ -59,7 +60,7 @@ def digests_of_misere_tactix_of_five(room):
     ran = room.run([GAMESMAN, "solve", "tactix-5-misere", folder], seconds=SECONDS)
     if ran.status or ran.err or not re.fullmatch(rb"solved 26 reused 0 migrated 0 deliveries [0-9]+ by hand 0\n", ran.out):
         return str(ran)
-    return differs(folder, solved_digests(room, "tactix-5-misere", "misere"))
+    return differs(folder, solved_digests(room, "tactix-5-misere", "misere")) or wrong_entry("tactix-5-misere", "--folder", folder, "--read-only")
 
 
 def differs(folder, right):

@@ -174,7 +174,7 @@ def wrong_book():
     right = [(str(k), str(n)) for k, n in enumerate((3, 3, 5, 5, 7), 1)]
     # Of each win the first move leaves a multiple of three, and the answers are long ones, of one.
     long_enough = [len(first + rest.replace(" ", "")) for _, first, rest in solutions] == [3, 3, 5, 5, 7]
-    if (status, err, found) != (0, "", right) or not long_enough or out.count("<svg ") != 5:
+    if (status, err, found) != (0, "puzzles.py: countdown has 5 such puzzles, not 99\n", right) or not long_enough or out.count("<svg ") != 5:
         return f"puzzles.py: {status}, {err!r}, {found}, {solutions}"
     return None
 

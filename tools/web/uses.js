@@ -215,6 +215,17 @@
   parts["a puzzle to its end"] = () => puzzled("dao", "win in 5");
   parts["a puzzle of Tic-Tac-Toe to its end"] = () => puzzled("tictactoe", "");
   parts["a puzzle of chess to its end"] = () => puzzled("krk", "win in 5");
+  parts["a puzzle with tries"] = async () => {
+    await opened("#dao");
+    $("least").value = "5";
+    $("puzzle").click();
+    await soon("a puzzle", () => said().startsWith("A puzzle: "));
+    const soonOver = m => ["lose", "tie"].includes(word(m.worth)) && number(m.worth) <= 4;
+    const tries = moves.filter(m => m.worth !== moves[0].worth && !soonOver(m)).length;
+    want("five tries at least", tries >= 5);
+    want("what is told of them", said().endsWith(`It has ${tries} tries.`));
+    $("least").value = "0";
+  };
   async function typed(text) {
     const before = line;
     if ($("why")) $("why").textContent = "";
@@ -282,7 +293,7 @@
     await lead();
     await go(line.length - 1);
     const marked = board.places.flatMap(({ g }, k) => g.getAttribute("aria-label").includes("ended the game") ? [kindAt(k)] : []);
-    want("the king that is mated", marked, [3]);
+    want("the king that is mated", marked, [game.men.indexOf("k")]);
   };
   return Object.fromEntries(Object.entries(parts).map(([name, part]) => [name, async () => {
     wrong = [];

@@ -1,15 +1,33 @@
--- The trees of lines have no float.
-use Rattle.gamesman.proofs.Lower.{◌≡◌, ℕ, List, false, refl, GameSpec}
-use Rattle.serde_json.specs.Data.{Data}
+-- The trees of lines have no float; the tables of entries.
+use Rattle.gamesman.proofs.Lower.{◌≡◌, ℕ, List, Option, None, Some, false, refl, GameSpec}
+use Rattle.std.specs.Prelude.{codes}
+use Rattle.serde_json.specs.Data.{Data, object, member, no_members}
 use Rattle.serde_json.specs.Written.{has_float}
 use Rattle.gm_build.specs.declared.work.Work.{Work}
+use Rattle.gm_json.specs.Words.{text, whole}
+use Rattle.gm_play.specs.PlayTexts.{value_word}
 use Rattle.gamesman.specs.declared.finding.Finding.{Finding}
 use Rattle.gamesman.specs.Checking.{finding_tree}
-use Rattle.gamesman.specs.Listing.{entry_tree}
+use Rattle.gamesman.specs.Listing.{AreTheGames, EntryData, entry_tree, whole_or_null}
 use Rattle.gamesman.specs.Solving.{work_tree}
 
-pub entry_no_float : (d : Data) (name : List ℕ) (g : GameSpec) → d ≡ entry_tree name g → has_float d ≡ false
-entry_no_float d name g e = rw e refl
+entry_parts : (remoteness : Option ℕ) (family name start title value : List ℕ) (legal : ℕ) → has_float
+    (object (member (codes "family") (text family)
+    (member (codes "legal") (whole legal)
+    (member (codes "name") (text name)
+    (member (codes "remoteness") (whole_or_null remoteness)
+    (member (codes "start") (text start)
+    (member (codes "title") (text title)
+    (member (codes "value") (text value) no_members)))))))) ≡ false
+entry_parts None family name start title value legal = refl
+entry_parts (Some n) family name start title value legal = refl
+
+pub entry_no_float : (d : Data) (e : EntryData) (g : GameSpec) → d ≡ entry_tree e g → has_float d ≡ false
+entry_no_float d e g is = rw is (entry_parts e.remoteness e.family e.name (g.shown g.rules.initial) g.picture.title (value_word e.value) e.legal)
+
+-- the tables of entries have the games of the tables of names
+pub are_the_games : AreTheGames
+are_the_games = (refl, refl)
 
 pub work_no_float : (d : Data) (w : Work) → d ≡ work_tree w → has_float d ≡ false
 work_no_float d w e = rw e refl

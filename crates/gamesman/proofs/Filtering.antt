@@ -1,6 +1,8 @@
 -- The answers to the lines of an input, before its end.
 use Rattle.gamesman.proofs.Lower.{◌≡◌, ℕ, ◌+◌, ◌≤◌, ◌<◌, true, false, List, [], ◌∷◌, ◌++◌, length, take, Option, Result, Ok, refl, sym, ap, subst, ◌∙◌, append_assoc, append-nil, arith, Appends, Keeps, Appends-trans, Appends-kept, Position, Rules, TableData, HoldsExactly, Fault, NoSuchGame, NoSuchPosition, NoSuchPositionInLine, NoSuchTier, NoSuchIndex, NotLegal, NotCanonical, OutOfMemory, NotBuilt, AnotherGames, InputFailed, OutputFailed, OutputClosed, TooMuchInput, EngineNotRead, NotAnEngine, IsOfNone}
 use Rattle.std.specs.Prelude.{◌==◌, if◌then◌else◌, min, ◌↔◌, None, Some}
+use Rattle.std.specs.Prelude.{Bool}
+use Rattle.std.proofs.lemmas.Bool.{eqb-true}
 use Rattle.std.proofs.lemmas.List.{length-take, length-append}
 use Rattle.std.proofs.KnownBytes.{Appends-nil, Consumes-trans, Consumes-nil, Keeps-refl, prepend_known-nil}
 use Rattle.gm_tiers.specs.Orders.{IsTierOrder}
@@ -14,6 +16,10 @@ use Rattle.gm_table.specs.Tables.{IsHeld}
 use Rattle.gm_tiers.specs.Reach.{IsReached}
 use Rattle.std.specs.Io.Buffered.{reader_remaining, reader_capacity, reader_buffer, reader_inner}
 use Rattle.gm_json.proofs.Splitting.{lines_more, lines_next, lines_end, lines_none, none_kept, kept_push, kept_full}
+
+-- a list that is empty has no length
+pub none_of : (n : ℕ) (empty : Bool) → empty ≡ (n == 0) → empty ≡ true → n ≡ 0
+none_of n empty e h = eqb-true n 0 (sym e ∙ h)
 
 module _ (IsText : List ℕ → List ℕ → Type 0) where
   -- the texts of some lines and of one more

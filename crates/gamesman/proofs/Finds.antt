@@ -4,7 +4,7 @@ use Rattle.std.proofs.Common.{zero, ◌-◌, ◌⊎◌, map, ap₂, length-appen
 use Rattle.std.proofs.lemmas.Grind.{flat_map-append}
 use Rattle.gm_game.proofs.Lists.{contains_none, contains_cases}
 use Rattle.gm_play.specs.Reached.{AreAllHeld}
-use Rattle.gm_find.specs.Founds.{AreFound, found_position}
+use Rattle.gm_find.specs.Founds.{AreFound, HasTriesAsked, found_position}
 use Rattle.gm_command.specs.declared.requests.LineForm.{LineForm}
 use Rattle.gm_command.specs.declared.requests.Report.{Report}
 use Rattle.gm_command.specs.declared.requests.Report.TheVariants.{Lines}
@@ -54,7 +54,7 @@ none_first P (suc n) xs e = absurd (omega arith)
 
 module _ (r : Rules) (q : Sought) (reached : Bool) (limit : ℕ) where
   found_none : AreFound r q reached limit [] []
-  found_none = record { positions = refl; each = λ k d inside. absurd (omega arith) }
+  found_none = record { positions = refl; each = λ k d inside. absurd (omega arith); counted = λ k d inside. absurd (omega arith) }
 
   -- the positions of some tiers and of one more
   found_more : (tiers : List ℕ) (tier : ℕ) (xs ys : List Found) → AreFound r q reached limit tiers xs → AreFound r q reached (limit - length xs) (tier ∷ []) ys
@@ -69,6 +69,7 @@ module _ (r : Rules) (q : Sought) (reached : Bool) (limit : ℕ) where
         positions = subst (λ (ps : List Position). IsFirst P limit ps (map found_position (xs ++ ys)))
             (sym (flat_map-append (positions_in r) tiers (tier ∷ []))) named;
         each = All-append (IsFound r) xs ys h.each k.each;
+        counted = All-append (HasTriesAsked q.tries) xs ys h.counted k.counted;
       }
 
   -- the limit is reached before the last tier
@@ -85,6 +86,7 @@ module _ (r : Rules) (q : Sought) (reached : Bool) (limit : ℕ) where
         positions = subst (λ (zs : List Position). IsFirst P limit zs ps) all (subst
             (λ (zs : List Position). IsFirst P limit (all_positions r (take k tiers) ++ later) zs) (append-nil ps) both);
         each = h.each;
+        counted = h.counted;
       }
 
 -- ---- tier by tier

@@ -121,7 +121,7 @@ IsAnsweredFor (Some g) command input before after result = IsAnswered g command 
 
 -- a request is answered
 abbrev pub IsDone : Request → Option (List ℕ) → Option (List ℕ) → Option (List ℕ) → Result ℕ Fault → Type 0
-IsDone (Names all json) input before after result = IsListed all json before after result
+IsDone (Names all form) input before after result = IsListed all form before after result
 IsDone (Game request) input before after result =
     IsAnsweredFor (option_map spec_of (game_of_name request.game.now)) request.command input before after result
 IsDone (AllGames engine) input before after result = IsEveryGame before after result

@@ -1,7 +1,7 @@
 -- The games by their names: each with its rules, its texts and its drawings.
 use Rattle.std.specs.Prelude.{true, false}
 use Rattle.gm_command.specs.declared.names.GameName.{GameName}
-use Rattle.gm_command.specs.declared.names.GameName.TheVariants.{Countdown, Wheel, TacTix1, TacTix2, TacTix3, TacTix4, TacTix5, TacTix1Misere, TacTix2Misere, TacTix3Misere, TacTix4Misere, TacTix5Misere, TicTacToe, ThreeMens, Achi, MuTorere, Dao, Hare, PongHauKi, Shisima, Takeaway, Tapatan, Dodgem, Krk, Kqk, FoxHounds, TicTacToeMisere, Notakto, Hex3, Hexapawn, Picaria, Toads, Domineering4, Kayles}
+use Rattle.gm_command.specs.declared.names.GameName.TheVariants.{Countdown, Wheel, TacTix1, TacTix2, TacTix3, TacTix4, TacTix5, TacTix1Misere, TacTix2Misere, TacTix3Misere, TacTix4Misere, TacTix5Misere, TicTacToe, ThreeMens, Achi, MuTorere, Dao, Hare, PongHauKi, Shisima, Takeaway, Tapatan, Dodgem, Krk, Kqk, FoxHounds, TicTacToeMisere, Notakto, Hex3, Hexapawn, Picaria, Toads, Domineering4, Kayles, Kpk}
 pub use Rattle.gm_draw.specs.GameSpecs.{GameSpec, game_spec}
 pub use Rattle.gm_dao.specs.DaoPicture.{dao_spec}
 pub use Rattle.gm_dodgem.specs.DodgemPicture.{dodgem_spec}
@@ -11,8 +11,9 @@ pub use Rattle.gm_morris.specs.NinePicture.{nine_spec}
 pub use Rattle.gm_mutorere.specs.RingPicture.{mutorere_spec}
 pub use Rattle.gm_placing.specs.PlacingPictures.{tictactoe_misere_spec, notakto_spec, hex_three_spec}
 pub use Rattle.gm_pong.specs.PongPicture.{pong_spec}
-pub use Rattle.gm_sliding.specs.SlidingPictures.{hexapawn_spec, picaria_spec, toads_spec}
-pub use Rattle.gm_squares.specs.Pictures.{chess_spec, foxhounds_spec}
+pub use Rattle.gm_sliding.specs.SlidingPictures.{hexapawn_spec, picaria_spec}
+pub use Rattle.gm_sliding.specs.ToadsPicture.{toads_spec}
+pub use Rattle.gm_squares.specs.Pictures.{chess_spec, kpk_spec, foxhounds_spec}
 pub use Rattle.gm_tactix.specs.TactixPicture.{tactix_spec}
 pub use Rattle.gm_toys.specs.Pictures.{countdown_spec, takeaway_spec, wheel_spec}
 pub use Rattle.gm_ways.specs.WayPictures.{shisima_spec, tapatan_spec}
@@ -53,3 +54,4 @@ spec_of Picaria = picaria_spec
 spec_of Toads = toads_spec
 spec_of Domineering4 = domineering_four_spec
 spec_of Kayles = kayles_spec
+spec_of Kpk = kpk_spec

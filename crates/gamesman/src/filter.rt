@@ -16,15 +16,13 @@ use arrayvec::ArrayVec;
 use gm_build::build::Built;
 use gm_command::requests::Question;
 use gm_draw::pictured::Pictured;
-use gm_game::limits::LINE;
 use gm_play::closed::Closed;
 use gm_play::streams::without_return;
 use std::alloc::{AllocError, Global};
 use std::io::{BufReader, Read, Write};
 
-// The number of bytes of a line that are kept: the longest text of a position, a carriage return, and one byte that shows that the
-// line is longer.
-const KEPT: usize = LINE + 2;
+// The number of bytes of a line that are kept, as `ask` keeps them.
+const KEPT: usize = 65_538;
 
 /// Answers each position of the input, one in each line, before it reads more than the input has available. The first line that is
 /// not the text of a position ends the command.

@@ -35,7 +35,7 @@ use std::alloc::{AllocError, Global};
 use std::io::Write;
 
 /// Writes the positions that a search finds. They are written tier by tier as they are found, except that a sheet and positions
-/// chosen by chance are written when all are found.
+/// that are chosen by chance or sorted are written when all are found.
 pub fn write_found<G: Pictured, O: Write>(
     alloc: Global,
     built: &Built<G>,
@@ -91,7 +91,7 @@ fn write_in<G: Pictured, O: Write>(
             Choice::First(limit) => {
                 write_by_tier(alloc, known, asked, reached, form, limit, output)
             }
-            Choice::Random { .. } => {
+            Choice::Random { .. } | Choice::Sorted { .. } => {
                 let lines = lines_at_once(alloc, known, asked, reached, form);
                 put_text(output, lines)
             }

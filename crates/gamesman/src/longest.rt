@@ -78,5 +78,7 @@ fn longest(value: Value, remoteness: u32) -> Sought
         whole_line: false,
         distinct: false,
         min_moves: 0,
+        min_tries: 0,
+        tries: false,
     }
 }

@@ -7,6 +7,7 @@ ghost use Rattle.std.specs.Vec.Iter.{into_iter_items};
 ghost use Rattle.gamesman.specs.LineRuns.{command_words, IsOutputOf};
 
 mod analyse;
+mod catalog;
 mod check;
 mod engine;
 mod every_game;

@@ -11,7 +11,7 @@ use crate::engine::page_of_games;
 use crate::fault::Fault;
 use crate::games::answer_for;
 use crate::host::Host;
-use crate::listing::games_json;
+use crate::listing::games_text;
 use crate::output::{put, put_all, put_text};
 use crate::reasons::advise;
 use crate::tables::BuildOptions;
@@ -19,7 +19,7 @@ use arrayvec::ArrayString;
 use gm_command::manual::{Manual, manual_text};
 use gm_command::names::{LISTED, LISTED_LATER, game_named};
 use gm_command::reading::{Help, ReadError, read_words, what_is_wrong};
-use gm_command::requests::{Reading, Request};
+use gm_command::requests::{ListForm, Reading, Request};
 use std::alloc::{AllocError, Global};
 use std::fmt::Write as _;
 use std::io::{Read, Write};
@@ -55,14 +55,19 @@ fn list<O: Write>(all: bool, output: &mut O) -> Result<u8, Fault>
     Ok(DONE)
 }
 
-// Lists the games by their names, or in JSON.
-fn write_list<O: Write>(alloc: Global, all: bool, json: bool, output: &mut O) -> Result<u8, Fault>
-    ensures { IsListed all json (O.contents output.old) (O.contents output.new) result }
+// Lists the games in this form.
+fn write_list<O: Write>(
+    alloc: Global,
+    all: bool,
+    form: ListForm,
+    output: &mut O,
+) -> Result<u8, Fault>
+    ensures { IsListed all form (O.contents output.old) (O.contents output.new) result }
 {
-    if json {
-        put_text(output, games_json(alloc, all))
-    } else {
-        list(all, output)
+    match form {
+        ListForm::Names => list(all, output),
+        ListForm::Titles => put_text(output, games_text(alloc, all, false)),
+        ListForm::Json => put_text(output, games_text(alloc, all, true)),
     }
 }
 
@@ -92,7 +97,7 @@ fn answer<R: Host, I: Read, O: Write, E: Write + Send>(
     ensures { IsDone request.entry (I.remaining input.old) (O.contents output.old) (O.contents output.new) result }
 {
     match request {
-        Request::List { all, json } => write_list(rt.alloc(), all, json, output),
+        Request::List { all, form } => write_list(rt.alloc(), all, form, output),
         Request::Game(request) => match game_named(request.game) {
             Some(game) => {
                 let options = BuildOptions::of(request, manner.terminal);

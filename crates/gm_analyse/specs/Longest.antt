@@ -13,7 +13,17 @@ use Rattle.gm_analyse.specs.Totals.{IsGreatest}
 
 -- the positions of a value with this remoteness, whatever their moves
 abbrev pub longest : Value → ℕ → Sought
-longest v n = record { value = v; remoteness = Some (record { least = n; most = n }); only_move = false; only_fastest = false; whole_line = false; distinct = false; min_moves = 0 }
+longest v n = record {
+  value = v;
+  remoteness = Some (record { least = n; most = n });
+  only_move = false;
+  only_fastest = false;
+  whole_line = false;
+  distinct = false;
+  min_moves = 0;
+  min_tries = 0;
+  tries = false;
+}
 
 -- the last of the first i places with a number above 0, if there is one
 abbrev pub IsLastAbove : List ℕ → ℕ → Option ℕ → Type 0

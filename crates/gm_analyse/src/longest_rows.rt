@@ -68,6 +68,8 @@ fn longest(value: Value, remoteness: u32) -> Sought
         whole_line: false,
         distinct: false,
         min_moves: 0,
+        min_tries: 0,
+        tries: false,
     }
 }
 

@@ -26,7 +26,7 @@ pub struct Plan {
 
 impl Plan {
     /// Returns the plan of these numbers; `None` exactly outside the limits, which are 1 to `WORKERS`, 1 to `SHARDS` and 1 to `PIECE`. By this plan workers
-    /// solve every tier, with the gate round each delivery and the source asked for each piece.
+    /// solve each tier (one, in the caller's thread, if it has at most 512 indexes), with the gate round each delivery and the source asked for each piece.
     pub fn new(workers: usize, shards: usize, piece: usize) -> Option<Self>
         ensures exact { IsSome result ↔ ArePlanNumbers workers shards piece }
         ensures workers { IfSome result (λ plan. plan.workers ≡ workers) }

@@ -7,13 +7,14 @@ use Rattle.gm_find.specs.declared.sought.Choice.TheVariants.{First}
 use Rattle.gm_game.specs.declared.position.Value.TheVariants.{Win}
 use Rattle.gm_play.specs.declared.sides.Side.TheVariants.{Computer}
 use Rattle.gm_command.specs.declared.requests.LineForm.TheVariants.{Rows}
+use Rattle.gm_command.specs.declared.requests.ListForm.TheVariants.{Names, Titles}
 use Rattle.gm_command.specs.declared.requests.Question.TheVariants.{Value, Board}
 use Rattle.gm_command.specs.declared.requests.Report.TheVariants.{Lines as Listed}
 use Rattle.gm_command.specs.declared.requests.Telling.{Telling}
 use Rattle.gm_command.specs.declared.requests.Telling.TheVariants.{Terminal, Quiet}
 use Rattle.gm_command.specs.Lines.{command_lines}
 use Rattle.gm_command.specs.Given.{no_limit}
-use Rattle.gm_command.specs.Contents.{CommandContent, Content, PlanNumbers, about_game, checking, exploring, filtering, finding, playing, solving, analysing}
+use Rattle.gm_command.specs.Contents.{CommandContent, Content, PlanNumbers, list_of_games, about_game, checking, exploring, filtering, finding, playing, solving, analysing}
 use Rattle.gm_command.specs.Readings.{content_in, faults_in}
 
 -- ---- lines
@@ -32,6 +33,18 @@ plan = record { workers = 4; shards = 4; piece = 64; fastest = true }
 
 abbrev about : List ℕ → CommandContent → Option (List ℕ × Bool) → PlanNumbers → Telling → Option Content
 about game command kept plan progress = Some (about_game (record { game = game; command = command; kept = kept; plan = plan; progress = progress }))
+
+names_of_games : reads (codes "list" ∷ []) ≡ Some (list_of_games false Names)
+unfolding clap_on_literals command_lines
+names_of_games = refl
+
+titles_of_games : reads (codes "list" ∷ codes "--titles" ∷ codes "--all" ∷ []) ≡ Some (list_of_games true Titles)
+unfolding clap_on_literals command_lines
+titles_of_games = refl
+
+titles_in_json : reads (codes "list" ∷ codes "--titles" ∷ codes "--json" ∷ []) ≡ None
+unfolding clap_on_literals command_lines
+titles_in_json = refl
 
 in_memory : reads (codes "query" ∷ codes "countdown" ∷ codes "10" ∷ []) ≡ about (codes "countdown") (exploring (Some (codes "10")) (Value false)) None plan Terminal
 unfolding clap_on_literals command_lines
@@ -92,7 +105,7 @@ by_another_name = refl
 
 wins_of_a_span : reads (codes "find" ∷ codes "dao" ∷ codes "--value" ∷ codes "win" ∷ codes "--remoteness" ∷ codes "7..11" ∷ [])
     ≡ about (codes "dao") (finding (record {
-      sought = record { value = Win; remoteness = Some (record { least = 7; most = 11 }); only_move = false; only_fastest = false; whole_line = false; distinct = false; min_moves = 0 };
+      sought = record { value = Win; remoteness = Some (record { least = 7; most = 11 }); only_move = false; only_fastest = false; whole_line = false; distinct = false; min_moves = 0; min_tries = 0; tries = false };
       tier = None;
       reached = false;
       choice = First no_limit;

@@ -6,6 +6,7 @@ use Rattle.gm_command.specs.declared.manual.Manual.{Manual}
 use Rattle.gm_command.specs.declared.requests.Question.{Question}
 use Rattle.gm_command.specs.declared.requests.PositionSearch.{PositionSearch}
 use Rattle.gm_command.specs.declared.requests.CountsRequest.{CountsRequest}
+use Rattle.gm_command.specs.declared.requests.ListForm.{ListForm}
 use Rattle.gm_command.specs.declared.requests.AskRequest.{AskRequest}
 use Rattle.gm_command.specs.declared.requests.Telling.{Telling}
 use Rattle.gm_command.specs.declared.requests.TableLocation.{TableLocation}
@@ -53,7 +54,7 @@ pub record GameContent : Type 0 where
 
 -- what a request says
 pub data Content : Type 0 where
-  list_of_games : Bool → Bool → Content
+  list_of_games : Bool → ListForm → Content
   about_game : GameContent → Content
   page_of_games : List ℕ → Content
   about_program : Manual → Content
@@ -90,7 +91,7 @@ abbrev pub game_content : GameRequest → GameContent
 game_content r = record { game = r.game.now; command = command_content r.command; kept = kept_at r.tables; plan = plan_of r.plan; progress = r.progress }
 
 abbrev pub content_of : Request → Content
-content_of (request.List all json) = list_of_games all json
+content_of (request.List all form) = list_of_games all form
 content_of (request.Game game) = about_game (game_content game)
 content_of (request.AllGames engine) = page_of_games engine.now
 content_of (request.Manual manual) = about_program manual

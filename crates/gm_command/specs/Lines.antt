@@ -81,7 +81,7 @@ abbrev pub distinct : Word
 distinct = word (codes "distinct") flag
 
 abbrev pub list_line : Line
-list_line = line ListOfGames (codes "list") (word (codes "all") flag ∷ json ∷ [])
+list_line = line ListOfGames (codes "list") (word (codes "all") flag ∷ word (codes "titles") flag ∷ json ∷ [])
 
 abbrev pub solve_line : Line
 solve_line = game_command_line game_command.Solve (codes "solve") (game ∷ word (codes "FOLDER") place ∷ word (codes "workers") (number (pos 1) (pos 16) (Some (codes "4")))
@@ -119,7 +119,8 @@ locate_line = game_command_line game_command.Locate (codes "locate") (game ∷ p
 abbrev pub find_line : Line
 find_line = game_command_line game_command.Find (codes "find") (game ∷ word (codes "value") (text true) ∷ word (codes "remoteness") (text false) ∷ word (codes "tier") tier
     ∷ word (codes "only-move") flag ∷ word (codes "only-fastest") flag ∷ word (codes "whole-line") flag ∷ distinct
-    ∷ any_number (codes "min-moves") 1 ∷ reached ∷ any_number (codes "limit") 1 ∷ any_number (codes "random") 1 ∷ any_number (codes "seed") 0
+    ∷ any_number (codes "min-moves") 1 ∷ any_number (codes "min-tries") 1 ∷ word (codes "tries") flag ∷ word (codes "sort") (text false)
+    ∷ reached ∷ any_number (codes "limit") 1 ∷ any_number (codes "random") 1 ∷ any_number (codes "seed") 0
     ∷ word (codes "show") flag ∷ json ∷ word (codes "page") flag ∷ folder ∷ read_only ∷ quiet ∷ [])
 
 abbrev pub counts_line : Line

@@ -15,6 +15,8 @@ use Rattle.gm_command.specs.declared.manual.Manual.TheVariants.{Bash, Zsh, Fish,
 use Rattle.gm_command.specs.declared.requests.CountsRequest.{CountsRequest}
 use Rattle.gm_command.specs.declared.requests.Question.{Question}
 use Rattle.gm_command.specs.declared.requests.Question.TheVariants.{Value, Moves, Why, Line as BestLine, Show, Board, Diagram}
+use Rattle.gm_command.specs.declared.requests.ListForm.{ListForm}
+use Rattle.gm_command.specs.declared.requests.ListForm.TheVariants.{Names, Titles, Json as JsonLines}
 use Rattle.gm_command.specs.declared.requests.Telling.{Telling}
 use Rattle.gm_command.specs.declared.requests.Telling.TheVariants.{Terminal, Lines, Quiet}
 use Rattle.gm_command.specs.declared.words.CommandName.{CommandName}
@@ -147,9 +149,13 @@ module _ (rows : List Row) where
       record { game = game; command = content; kept = folder_in command; plan = plan; progress = progress_in }) plan_in) (command_in command))
       (text_in rows (codes "GAME"))
 
+  -- how the games are listed: in JSON, with their titles, or by their names
+  abbrev pub list_form_in : ListForm
+  list_form_in = if json_in then JsonLines else (if has rows (codes "titles") then Titles else Names)
+
   -- the request of a command. `--all`, which is a word of `page` too, makes the page of all games
   abbrev pub request_in : CommandName → Option Content
-  request_in ListOfGames = Some (list_of_games (has rows (codes "all")) json_in)
+  request_in ListOfGames = Some (list_of_games (has rows (codes "all")) list_form_in)
   request_in (Game command) = if has rows (codes "all") then option_map (λ e. page_of_games e) (text_in rows (codes "engine"))
       else option_map (λ g. about_game g) (game_in command)
   request_in Completions = option_map (λ m. about_program m) (option_and_then manual_named (text_in rows (codes "SHELL")))

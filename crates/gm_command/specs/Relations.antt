@@ -20,13 +20,15 @@ abbrev pub barred_for : List ℕ → List (List ℕ)
 barred_for name =
     if bytes_eq name (codes "all") then codes "GAME" ∷ codes "POSITION" ∷ codes "limit" ∷ codes "folder" ∷ codes "quiet" ∷ []
     else (if bytes_eq name (codes "limit") then codes "random" ∷ []
+    else (if bytes_eq name (codes "sort") then codes "random" ∷ []
     else (if bytes_eq name (codes "csv") then codes "json" ∷ []
+    else (if bytes_eq name (codes "titles") then codes "json" ∷ []
     else (if bytes_eq name (codes "page") then codes "json" ∷ codes "show" ∷ []
     else (if bytes_eq name (codes "show") then codes "json" ∷ []
     else (if bytes_eq name (codes "svg") then codes "json" ∷ []
     else (if bytes_eq name (codes "quiet") then codes "progress" ∷ []
     else (if bytes_eq name (codes "values") then codes "distinct" ∷ []
-    else [])))))))
+    else [])))))))))
 
 -- one of the names is this one
 abbrev pub is_among : List (List ℕ) → List ℕ → Bool

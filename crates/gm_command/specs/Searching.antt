@@ -7,7 +7,9 @@ use Rattle.gm_game.specs.declared.position.Value.TheVariants.{Lose, Draw, Tie, W
 use Rattle.gm_find.specs.declared.sought.Span.{Span}
 use Rattle.gm_find.specs.declared.sought.Sought.{Sought}
 use Rattle.gm_find.specs.declared.sought.Choice.{Choice}
-use Rattle.gm_find.specs.declared.sought.Choice.TheVariants.{First, Random}
+use Rattle.gm_find.specs.declared.sought.Choice.TheVariants.{First, Random, Sorted}
+use Rattle.gm_find.specs.declared.sought.Order.{Order}
+use Rattle.gm_find.specs.declared.sought.Order.TheVariants.{Long, Hard}
 use Rattle.gm_json.specs.declared.asked.Asked.{Asked}
 use Rattle.gm_json.specs.declared.asked.With.{With}
 use Rattle.gm_command.specs.declared.requests.AskRequest.{AskRequest}
@@ -53,17 +55,32 @@ abbrev pub is_draw : Value → Bool
 is_draw Draw = true
 is_draw _ = false
 
--- some position can have these properties: a draw has no remoteness, a whole line and an only fastest move are of wins, an only move is of wins and ties, and
--- moves are told apart by symmetry only where they are counted
+-- some position can have these properties: a draw has no remoteness, a whole line and an only fastest move are of wins, an only move is of wins and ties, no
+-- draw has a solution along which tries are counted, and moves are told apart by symmetry only where they are counted
 abbrev pub is_possible : Sought → Bool
 is_possible s = not (is_draw s.value && is_some s.remoteness)
     && (not (s.whole_line && not (is_win s.value))
     && (not (s.only_move && not (is_win s.value || is_tie s.value))
     && (not (s.only_fastest && not (is_win s.value))
-    && not (s.distinct && (not (s.only_move || (s.only_fastest || s.whole_line)) && s.min_moves == 0)))))
+    && (not (is_draw s.value && (s.tries || not (s.min_tries == 0)))
+    && not (s.distinct && (not (s.only_move || (s.only_fastest || s.whole_line)) && s.min_moves == 0))))))
 
 abbrev pub if_possible : Sought → Option Sought
 if_possible s = if is_possible s then Some s else None
+
+-- the order by tries, if they are counted
+abbrev pub hard_order : Bool → Option (Option Order)
+hard_order tries = if tries then Some (Some Hard) else None
+
+-- the order that a word names: that of the indexes (none), or another
+abbrev pub order_named : Bool → List ℕ → Option (Option Order)
+order_named tries word = if bytes_eq word (codes "index") then Some None else (if bytes_eq word (codes "long") then Some (Some Long)
+    else (if bytes_eq word (codes "hard") then hard_order tries else None))
+
+-- the first positions of an order up to a limit
+abbrev pub first_in : Option Order → ℕ → Choice
+first_in None limit = First limit
+first_in (Some order) limit = Sorted order limit
 
 -- the parts that an answer has besides a position's value and moves: one more of them, which is not there before
 abbrev pub with_word : With → List ℕ → Option With
@@ -106,12 +123,18 @@ module _ (rows : List Row) where
     whole_line = has rows (codes "whole-line");
     distinct = has rows (codes "distinct");
     min_moves = number_or rows (codes "min-moves") 0;
+    min_tries = number_or rows (codes "min-tries") 0;
+    tries = has rows (codes "tries");
   })) (option_and_then value_named (text_in rows (codes "value")))) remoteness_option
 
-  -- a number of positions by chance, or the first up to a limit
-  abbrev pub choice_in : Choice
-  choice_in = elim (option_number rows (codes "random")) [
-    | None ↦ First (number_or rows (codes "limit") no_limit)
+  -- `--sort`; none if it names no order
+  abbrev pub order_in : Option (Option Order)
+  order_in = elim (text_in rows (codes "sort")) [ None ↦ Some None | Some word ↦ order_named (has rows (codes "tries")) word ]
+
+  -- a number of positions by chance, or the first of an order up to a limit
+  abbrev pub choice_in : Option Order → Choice
+  choice_in order = elim (option_number rows (codes "random")) [
+    | None ↦ first_in order (number_or rows (codes "limit") no_limit)
     | Some number ↦ Random number (number_or rows (codes "seed") 0)
   ]
 
@@ -121,8 +144,13 @@ module _ (rows : List Row) where
 
   -- the search: its properties, its tier or none for all, whether positions are to be reached, how many, and how they are written
   abbrev pub search_in : Option PositionSearch
-  search_in = option_map (λ sought. record { sought = sought; tier = tier_in rows (codes "tier"); reached = has rows (codes "reached"); choice = choice_in; report = report_in })
-      sought_in
+  search_in = option_and_then (λ sought. option_map (λ order. record {
+    sought = sought;
+    tier = tier_in rows (codes "tier");
+    reached = has rows (codes "reached");
+    choice = choice_in order;
+    report = report_in;
+  }) order_in) sought_in
 
   -- `--with`; none if a word of it is unknown or comes twice
   abbrev pub with_in : Option With

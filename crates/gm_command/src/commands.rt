@@ -11,7 +11,11 @@ use crate::words::{ArgKind, ArgSpec, CommandSpec};
 use clap::{Arg, ArgAction, Command, value_parser};
 use std::alloc::{AllocError, Global};
 
-const VERSION: &str = "1.1.0";
+const VERSION: &str = "1.2.0";
+
+// What the help has below its commands.
+const EXPLAIN: &str =
+    "`gamesman --explain COMMAND ..` explains a refusal in a pipe too, as a terminal does. GAMESMAN_EXPLAIN=1 is the same for every command.";
 
 // Gives an option a number within a range as its value.
 fn with_number<'a>(option: Arg<'a>, least: i64, most: i64, default: Option<&'static str>) -> Arg<'a>
@@ -153,6 +157,7 @@ pub fn gamesman<'a>(alloc: Global, explained: bool) -> Result<Command<'a>, Alloc
     add_commands(alloc, explained, &mut all)?;
     Command::new(alloc, "gamesman")
         .about("Solves two-player games")
+        .after_help(EXPLAIN)
         .version(VERSION)
         .subcommand_required(true)
         .subcommands(all)

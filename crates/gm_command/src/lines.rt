@@ -13,8 +13,12 @@ static LIST: CommandSpec = CommandSpec {
     name: "list",
     alias: None,
     about: "Lists the games",
-    examples: "Examples:\n  gamesman list\n  gamesman list --all | grep tactix",
-    words: &[word!("all": Flag, "List the later games too"), JSON],
+    examples: "Examples:\n  gamesman list --all --titles\n  gamesman list --all | grep tactix",
+    words: &[
+        word!("all": Flag, "List the later games too"),
+        word!("titles": Flag, "Print the title of each game after its name, behind a tab"),
+        JSON,
+    ],
 };
 
 static SOLVE: CommandSpec = CommandSpec {
@@ -172,6 +176,9 @@ static FIND: CommandSpec = CommandSpec {
         word!("whole-line": Flag, "Only wins in which, against every longest defence, exactly one move keeps the win at each turn but the last"),
         word!("distinct": Flag, "Count moves whose results are symmetric as one"),
         word!("min-moves": Number("N", 1..=MOST), "Only positions with at least this many moves, 1 or more"),
+        word!("min-tries": Number("N", 1..=MOST), "Only positions with at least this many tries at each turn, 1 or more"),
+        word!("tries": Flag, "Add the tries, their least and their sum along the solution (not with draw)"),
+        word!("sort": Text("ORDER"), "The order: index, long, or hard (goes with --tries)"),
         REACHED,
         word!("limit": Number("limit", 1..=MOST), "List at most this many, 1 or more"),
         word!("random": Number("N", 1..=MOST), "Choose this many at random, 1 or more, none of them twice; takes the place of a limit"),

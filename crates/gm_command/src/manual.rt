@@ -144,7 +144,7 @@ fn write_cases(
 
 fn write_bash(text: &mut String) -> Result<(), AllocError> {
     text.push_str(
-        "_gamesman() {\n    local cur=${COMP_WORDS[COMP_CWORD]} words=\n    case \"${COMP_WORDS[COMP_CWORD-1]}\" in\n",
+        "_gamesman() {\n    local cur=${COMP_WORDS[COMP_CWORD]} words= first=1\n    [ \"$COMP_CWORD\" -gt 1 ] && [ \"${COMP_WORDS[1]}\" = --explain ] && first=2\n    case \"${COMP_WORDS[COMP_CWORD-1]}\" in\n",
     )?;
     text.push_str(
         "        --value)\n            COMPREPLY=($(compgen -W \"win tie draw lose\" -- \"$cur\"))\n            return\n            ;;\n",
@@ -152,10 +152,12 @@ fn write_bash(text: &mut String) -> Result<(), AllocError> {
     text.push_str("        --folder")?;
     write_valued(text)?;
     text.push_str(
-        ")\n            COMPREPLY=()\n            return\n            ;;\n    esac\n    if [ \"$COMP_CWORD\" -eq 1 ]; then\n        words=\"",
+        ")\n            COMPREPLY=()\n            return\n            ;;\n    esac\n    if [ \"$COMP_CWORD\" -eq $first ]; then\n        words=\"",
     )?;
     write_commands(text)?;
-    text.push_str("\"\n    else\n        case \"${COMP_WORDS[1]}\" in\n")?;
+    text.push_str(
+        "\"\n        [ $first -eq 1 ] && words=\"$words --explain\"\n    else\n        case \"${COMP_WORDS[first]}\" in\n",
+    )?;
     write_cases("        ", ") words=\"", "\" ;;\n", text)?;
     text.push_str(
         "        esac\n    fi\n    COMPREPLY=($(compgen -W \"$words\" -- \"$cur\"))\n}\ncomplete -o default -F _gamesman gamesman\n",
@@ -164,14 +166,14 @@ fn write_bash(text: &mut String) -> Result<(), AllocError> {
 
 fn write_zsh(text: &mut String) -> Result<(), AllocError> {
     text.push_str(
-        "#compdef gamesman\n_gamesman() {\n    case ${words[CURRENT-1]} in\n    --value) compadd -- win tie draw lose; return ;;\n    --folder",
+        "#compdef gamesman\n_gamesman() {\n    local first=2\n    (( CURRENT > 2 )) && [[ ${words[2]} == --explain ]] && first=3\n    case ${words[CURRENT-1]} in\n    --value) compadd -- win tie draw lose; return ;;\n    --folder",
     )?;
     write_valued(text)?;
     text.push_str(
-        ") _files; return ;;\n    esac\n    if (( CURRENT == 2 )); then\n        compadd --",
+        ") _files; return ;;\n    esac\n    if (( CURRENT == first )); then\n        (( first == 2 )) && compadd -- --explain\n        compadd --",
     )?;
     write_commands(text)?;
-    text.push_str("\n        return\n    fi\n    case ${words[2]} in\n")?;
+    text.push_str("\n        return\n    fi\n    case ${words[first]} in\n")?;
     write_cases("    ", ") compadd --", " ;;\n", text)?;
     text.push_str(
         "    esac\n    _files\n}\nif [[ ${funcstack[1]} == _gamesman ]]; then\n    _gamesman \"$@\"\nelse\n    compdef _gamesman gamesman\nfi\n",
@@ -179,6 +181,9 @@ fn write_zsh(text: &mut String) -> Result<(), AllocError> {
 }
 
 fn write_fish(text: &mut String) -> Result<(), AllocError> {
+    text.push_str(
+        "complete -c gamesman -n __fish_use_subcommand -l explain -d 'Explain a refusal in a pipe too'\n",
+    )?;
     for line in &lines() {
         write_fish_command(line, text)?;
     }
@@ -235,12 +240,18 @@ fn write_fish_word(
 
 fn write_man(text: &mut String) -> Result<(), AllocError> {
     text.push_str(
-        ".TH GAMESMAN 1\n.SH NAME\ngamesman \\- solves two\\-player games\n.SH SYNOPSIS\n.B gamesman\n.I COMMAND\n[\\fIWORD\\fR ...]\n.SH COMMANDS\n",
+        ".TH GAMESMAN 1\n.SH NAME\ngamesman \\- solves two\\-player games\n.SH SYNOPSIS\n.B gamesman\n[\\-\\-explain]\n.I COMMAND\n[\\fIWORD\\fR ...]\n.SH COMMANDS\n",
     )?;
     for line in &lines() {
         write_man_command(line, text)?;
     }
     add(text, &[".SH GAMES\n", LISTED, LISTED_LATER])?;
+    text.push_str(
+        ".SH OPTIONS\n.TP\n.B \\-\\-explain\nBefore the command: explain a refusal in a pipe too, as a terminal does.\n",
+    )?;
+    text.push_str(
+        ".SH ENVIRONMENT\n.TP\n.B GAMESMAN_EXPLAIN\n1 is the same as \\-\\-explain for every command.\n",
+    )?;
     text.push_str(
         ".SH EXIT STATUS\n0 where what was asked was done, 1 where it was refused, 2 for a line that is none.\n",
     )

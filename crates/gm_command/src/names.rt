@@ -42,6 +42,7 @@ pub enum GameName {
     Toads,
     Domineering4,
     Kayles,
+    Kpk,
 }
 
 /// Calls a macro with all games: each has its name, its variant and its type. First come those that `list` prints, in its order,
@@ -89,6 +90,7 @@ macro_rules! with_games {
                 "toads" => Toads: gm_sliding::toads::Toads,
                 "domineering-4" => Domineering4: gm_dominoes::domineering::DomineeringFour,
                 "kayles" => Kayles: gm_dominoes::kayles::Kayles,
+                "kpk" => Kpk: gm_squares::kpk::Kpk,
             }
         }
     };

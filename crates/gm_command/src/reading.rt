@@ -5,7 +5,7 @@ ghost use Rattle.clap.specs.Words.{kind_of, subcommand_rows_of};
 ghost use Rattle.gm_command.specs.Contents.{content_of, game_content, kept_at, plan_of as numbers_of};
 ghost use Rattle.gm_command.specs.Given.{rows_in, text_in};
 ghost use Rattle.gm_command.specs.Lines.{line_of_spec};
-ghost use Rattle.gm_command.specs.Reading.{folder_in, plan_in, progress_in, only_reads, game_in, request_in, request_with, request_of as content_in};
+ghost use Rattle.gm_command.specs.Reading.{folder_in, plan_in, progress_in, only_reads, list_form_in, game_in, request_in, request_with, request_of as content_in};
 ghost use Rattle.gm_command.specs.Readings.{IsOutcome, IsReadingOf, why_not};
 
 use crate::commands::gamesman;
@@ -16,8 +16,8 @@ use crate::lines::line_named;
 use crate::manual::{Manual, manual_of};
 use crate::numbers::are_plain;
 use crate::relations::are_related;
-use crate::requests::{GameRequest, Reading, Request, TableLocation, Telling};
-use crate::searches::{json_of, sought_of};
+use crate::requests::{GameRequest, ListForm, Reading, Request, TableLocation, Telling};
+use crate::searches::{json_of, order_of, sought_of};
 use crate::words::{CommandName, CommandSpec, GameCommandName};
 use clap::error::ErrorKind;
 use clap::{ArgMatches, Error};
@@ -110,6 +110,19 @@ fn game_request_of<'a>(command: GameCommandName, inner: &ArgMatches<'a>) -> Opti
     })
 }
 
+// Returns the form in which the games are listed. The command line accepts at most one of these words.
+fn list_form_of(inner: &ArgMatches<'_>) -> ListForm
+    ensures { result ≡ list_form_in (rows_in inner.now) }
+{
+    if has(inner, "json") {
+        ListForm::Json
+    } else if has(inner, "titles") {
+        ListForm::Titles
+    } else {
+        ListForm::Names
+    }
+}
+
 // Reads a line with this command. With `--all`, `page` makes the page of all games.
 fn command_request_of<'a>(command: CommandName, inner: &ArgMatches<'a>) -> Option<Request<'a>>
     ensures { option_map content_of result ≡ request_in (rows_in inner.now) command }
@@ -117,7 +130,7 @@ fn command_request_of<'a>(command: CommandName, inner: &ArgMatches<'a>) -> Optio
     match command {
         CommandName::List => Some(Request::List {
             all: has(inner, "all"),
-            json: has(inner, "json"),
+            form: list_form_of(inner),
         }),
         CommandName::Game(_) if has(inner, "all") => Some(Request::AllGames {
             engine: text_in(inner, "engine")?,
@@ -158,6 +171,14 @@ fn matched<'a>(
     gamesman(alloc, explained)?.try_get_matches_from(words)
 }
 
+// Returns the reason why a line of `find` asks for nothing that can be found.
+fn search_fault(inner: &ArgMatches<'_>) -> Option<&'static str> {
+    match sought_of(inner) {
+        Err(why) => Some(why),
+        Ok(_) => order_of(inner).err(),
+    }
+}
+
 // Returns the reason why a line is refused although its words are those of a command.
 fn misfit(matches: &ArgMatches<'_>) -> Option<&'static str> {
     let (name, inner) = matches.subcommand()?;
@@ -167,7 +188,7 @@ fn misfit(matches: &ArgMatches<'_>) -> Option<&'static str> {
     }
     match line.command {
         CommandName::Game(GameCommandName::At) => place_of(inner).err(),
-        CommandName::Game(GameCommandName::Find) => sought_of(inner).err(),
+        CommandName::Game(GameCommandName::Find) => search_fault(inner),
         CommandName::Game(GameCommandName::Ask) => json_of(inner).err(),
         _ => None,
     }

@@ -12,6 +12,7 @@ use clap::ArgMatches;
 pub(crate) fn values_of(name: &str) -> Option<&'static [&'static str]> {
     match name {
         "value" => Some(&["win", "tie", "draw", "lose"]),
+        "sort" => Some(&["index", "long", "hard"]),
         "SHELL" => Some(&["bash", "zsh", "fish"]),
         _ => None,
     }
@@ -37,7 +38,9 @@ pub(crate) fn barred_by(name: &str) -> &'static [&'static str]
     match name {
         "all" => &["GAME", "POSITION", "limit", "folder", "quiet"],
         "limit" => &["random"],
+        "sort" => &["random"],
         "csv" => &["json"],
+        "titles" => &["json"],
         "page" => &["json", "show"],
         "show" => &["json"],
         "svg" => &["json"],

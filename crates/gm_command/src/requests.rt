@@ -188,11 +188,22 @@ pub struct GameRequest<'a> {
     pub progress: Telling,
 }
 
+/// The form in which the games are listed.
+#[derive(Clone, Copy, Debug, PartialEq, Eq)]
+pub enum ListForm {
+    /// The name of each game.
+    Names,
+    /// The name and the title of each game.
+    Titles,
+    /// A line of JSON for each game.
+    Json,
+}
+
 /// A request that a line of words makes.
 #[derive(Clone, Copy)]
 pub enum Request<'a> {
-    /// The names of the games; on request, also those that were added later.
-    List { all: bool, json: bool },
+    /// The games in this form; on request, also those that were added later.
+    List { all: bool, form: ListForm },
     Game(GameRequest<'a>),
     /// The page of all games, with the engine in this file.
     AllGames { engine: &'a str },

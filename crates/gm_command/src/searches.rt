@@ -3,7 +3,7 @@ ghost use Rattle.std.specs.Prelude.{◌≡◌, codes, is_none, option_and_then};
 ghost use Rattle.std.specs.Result.{result_ok};
 ghost use Rattle.gm_command.specs.Given.{rows_in, text_in};
 ghost use Rattle.gm_command.specs.Reading.{limit_in, counts_form_in, counts_in};
-ghost use Rattle.gm_command.specs.Searching.{value_named, is_possible, remoteness_option, sought_in, choice_in, report_in, search_in, with_word, with_words, with_nothing, split_at_commas, answer_in, ask_in};
+ghost use Rattle.gm_command.specs.Searching.{value_named, is_possible, remoteness_option, sought_in, hard_order, order_named, order_in, first_in, choice_in, report_in, search_in, with_word, with_words, with_nothing, split_at_commas, answer_in, ask_in};
 
 use crate::given::{has, number_in, number_or, text_in, tier_in};
 use crate::numbers::span_of;
@@ -11,7 +11,7 @@ use crate::requests::{AskRequest, CountsRequest, LineForm, PositionSearch, Repor
 use clap::ArgMatches;
 use gm_analyse::among::Among;
 use gm_analyse::bars::Form as CountsForm;
-use gm_find::sought::{Choice, Sought, Span};
+use gm_find::sought::{Choice, Order, Sought, Span};
 use gm_game::position::Value;
 use gm_json::asked::{Asked, With};
 
@@ -47,6 +47,8 @@ fn misfit(sought: Sought) -> Option<&'static str>
         Some("'--only-move' goes with '--value win' and '--value tie' alone")
     } else if sought.only_fastest && sought.value != Value::Win {
         Some("'--only-fastest' goes with '--value win' alone")
+    } else if sought.value == Value::Draw && (sought.tries || sought.min_tries != 0) {
+        Some("a draw has no solution along which tries are counted")
     } else if sought.distinct && !counted && sought.min_moves == 0 {
         Some(
             "'--distinct' goes with '--only-move', '--only-fastest', '--whole-line' or '--min-moves'",
@@ -72,7 +74,7 @@ fn remoteness_of(inner: &ArgMatches<'_>) -> Result<Option<Span>, &'static str>
 }
 
 /// Reads the properties that are searched for, or returns the reason why no position can have them. A draw has no remoteness. An
-/// only move goes only with win and tie, a fastest move and a whole line only with win. Moves can be distinguished by symmetry only
+/// only move goes only with win and tie, a fastest move and a whole line only with win, and tries with all but a draw. Moves can be distinguished by symmetry only
 /// if they are counted.
 pub(crate) fn sought_of(inner: &ArgMatches<'_>) -> Result<Sought, &'static str>
     ensures { result_ok result ≡ sought_in (rows_in inner.now) }
@@ -89,6 +91,8 @@ pub(crate) fn sought_of(inner: &ArgMatches<'_>) -> Result<Sought, &'static str>
         whole_line: has(inner, "whole-line"),
         distinct: has(inner, "distinct"),
         min_moves: number_or(inner, "min-moves", 0),
+        min_tries: number_or(inner, "min-tries", 0),
+        tries: has(inner, "tries"),
     };
     match misfit(sought) {
         Some(why) => Err(why),
@@ -103,16 +107,59 @@ fn value_in(inner: &ArgMatches<'_>) -> Option<Value>
     value_of(text_in(inner, "value")?)
 }
 
-// Returns which of the positions are returned: a number of them by chance, or the first up to a limit.
-fn choice_of(inner: &ArgMatches<'_>) -> Choice
-    ensures { result ≡ choice_in (rows_in inner.now) }
+// Returns the order by tries, whose sum is known only if they are counted, or the reason for a refusal.
+fn hard_order(tries: bool) -> Result<Option<Order>, &'static str>
+    ensures { result_ok result ≡ hard_order tries }
+{
+    if tries {
+        Ok(Some(Order::Hard))
+    } else {
+        Err("'--sort hard' goes with '--tries'")
+    }
+}
+
+// Returns the order that a word of `--sort` names, or the reason for a refusal.
+fn order_named(word: &str, tries: bool) -> Result<Option<Order>, &'static str>
+    ensures { result_ok result ≡ order_named tries word.now }
+{
+    match word {
+        "index" => Ok(None),
+        "long" => Ok(Some(Order::Long)),
+        "hard" => hard_order(tries),
+        _ => Err("an order is index, long or hard"),
+    }
+}
+
+/// Reads the order in which positions are returned, if it is not that of their indexes, or returns the reason for a refusal.
+pub(crate) fn order_of(inner: &ArgMatches<'_>) -> Result<Option<Order>, &'static str>
+    ensures { result_ok result ≡ order_in (rows_in inner.now) }
+{
+    match text_in(inner, "sort") {
+        Some(word) => order_named(word, has(inner, "tries")),
+        None => Ok(None),
+    }
+}
+
+// Returns which of the positions are returned in an order: the first up to a limit.
+fn first_in(order: Option<Order>, limit: usize) -> Choice
+    ensures { result ≡ first_in order limit }
+{
+    match order {
+        Some(order) => Choice::Sorted { order, limit },
+        None => Choice::First(limit),
+    }
+}
+
+// Returns which of the positions are returned: a number of them by chance, or the first of an order up to a limit.
+fn choice_of(inner: &ArgMatches<'_>, order: Option<Order>) -> Choice
+    ensures { result ≡ choice_in (rows_in inner.now) order }
 {
     match number_in(inner, "random") {
         Some(number) => Choice::Random {
             number: number as usize,
             seed: number_or(inner, "seed", 0) as u64,
         },
-        None => Choice::First(limit_of(inner)),
+        None => first_in(order, limit_of(inner)),
     }
 }
 
@@ -135,11 +182,13 @@ fn report_of(inner: &ArgMatches<'_>) -> Report
 pub(crate) fn search_of(inner: &ArgMatches<'_>) -> Option<PositionSearch>
     ensures { result ≡ search_in (rows_in inner.now) }
 {
+    let sought = sought_of(inner).ok()?;
+    let order = order_of(inner).ok()?;
     Some(PositionSearch {
-        sought: sought_of(inner).ok()?,
+        sought,
         tier: tier_in(inner, "tier"),
         reached: has(inner, "reached"),
-        choice: choice_of(inner),
+        choice: choice_of(inner, order),
         report: report_of(inner),
     })
 }

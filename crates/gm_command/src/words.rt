@@ -111,10 +111,10 @@ pub(crate) use word;
 pub(crate) const MOST: i64 = 4_294_967_295;
 
 pub(crate) const GAME: ArgSpec =
-    word!("GAME": Word, "The name of a game, one of those that `gamesman list` prints");
+    word!("GAME": Word, "The name of a game, one of those that `gamesman list --all` prints");
 
 pub(crate) const GAME_OR_ALL: ArgSpec =
-    word!("GAME": Unless("all"), "The name of a game, one of those that `gamesman list` prints");
+    word!("GAME": Unless("all"), "The name of a game, one of those that `gamesman list --all` prints");
 
 pub(crate) const START: ArgSpec = word!("POSITION": Optional, "The position (default: the start)");
 

@@ -1,5 +1,5 @@
 -- What these games look like.
-use Rattle.std.specs.Prelude.{ℕ, List, [], ◌++◌, codes}
+use Rattle.std.specs.Prelude.{ℕ, Bool, true, false, List, [], ◌++◌, codes, if◌then◌else◌}
 use Rattle.gm_draw.specs.declared.pictured.Style.TheVariants.{Counters}
 use Rattle.gm_draw.specs.Pictures.{PictureSpec, player_moves}
 use Rattle.gm_draw.specs.GameSpecs.{GameSpec}
@@ -11,29 +11,23 @@ use Rattle.gm_dominoes.specs.KaylesRules.{kayles}
 abbrev pub domino_naming : List ℕ
 domino_naming = common_naming ++ codes "A move is the two cells of a domino.\n"
 
-unfoldable pub domineering_four_picture : PictureSpec
-domineering_four_picture = on_square 4 Counters (codes "Domineering 4 by 4") (codes "player") domino_naming
+unfoldable pub domino_four_picture : Bool → PictureSpec
+domino_four_picture cram = on_square 4 Counters (if cram then codes "Cram 4 by 4" else codes "Domineering 4 by 4") (codes "player") domino_naming
 
 abbrev pub domineering_four_spec : GameSpec
-domineering_four_spec = pattern_spec 16 domineering_four domineering_four_picture
-
-unfoldable pub domineering_five_picture : PictureSpec
-domineering_five_picture = on_square 5 Counters (codes "Domineering 5 by 5") (codes "player") domino_naming
-
-abbrev pub domineering_five_spec : GameSpec
-domineering_five_spec = pattern_spec 25 domineering_five domineering_five_picture
-
-unfoldable pub cram_four_picture : PictureSpec
-cram_four_picture = on_square 4 Counters (codes "Cram 4 by 4") (codes "player") domino_naming
+domineering_four_spec = pattern_spec 16 domineering_four (domino_four_picture false)
 
 abbrev pub cram_four_spec : GameSpec
-cram_four_spec = pattern_spec 16 cram_four cram_four_picture
+cram_four_spec = pattern_spec 16 cram_four (domino_four_picture true)
 
-unfoldable pub cram_five_picture : PictureSpec
-cram_five_picture = on_square 5 Counters (codes "Cram 5 by 5") (codes "player") domino_naming
+unfoldable pub domino_five_picture : Bool → PictureSpec
+domino_five_picture cram = on_square 5 Counters (if cram then codes "Cram 5 by 5" else codes "Domineering 5 by 5") (codes "player") domino_naming
+
+abbrev pub domineering_five_spec : GameSpec
+domineering_five_spec = pattern_spec 25 domineering_five (domino_five_picture false)
 
 abbrev pub cram_five_spec : GameSpec
-cram_five_spec = pattern_spec 25 cram_five cram_five_picture
+cram_five_spec = pattern_spec 25 cram_five (domino_five_picture true)
 
 unfoldable pub kayles_picture : PictureSpec
 kayles_picture = record {

@@ -1,5 +1,5 @@
 -- The rules of Domineering and of Cram on a square of side s: the cells that dominoes cover have pieces that belong to both players.
-use Rattle.std.specs.Prelude.{ℕ, ◌+◌, ◌-◌, ◌*◌, ◌/◌, ◌%◌, ◌==◌, ◌&&◌, nat_lt, true, false, List, [], ◌∷◌, ◌++◌, map, replicate, codes, None}
+use Rattle.std.specs.Prelude.{ℕ, ◌+◌, ◌-◌, ◌*◌, ◌/◌, ◌%◌, ◌==◌, ◌&&◌, nat_lt, Bool, true, false, List, [], ◌∷◌, ◌++◌, map, replicate, codes, None}
 use Rattle.std.specs.List.{filter, range_with_len}
 use Rattle.gm_board.specs.Squares.{square_symmetries}
 use Rattle.gm_board.specs.declared.cell.Cell.TheVariants.{Empty}
@@ -65,3 +65,12 @@ cram_four = cram_with (codes "cram-4" ++ replicate 10 0) 4
 
 abbrev pub cram_five : PatternGame
 cram_five = cram_with (codes "cram-5" ++ replicate 10 0) 5
+
+-- either game, Cram or Domineering
+abbrev pub domino_four : Bool → PatternGame
+domino_four true = cram_four
+domino_four false = domineering_four
+
+abbrev pub domino_five : Bool → PatternGame
+domino_five true = cram_five
+domino_five false = domineering_five

@@ -1,3 +1,2 @@
 -- What follows from the rules.
 pub mod DominoTables
-pub mod DominoPictured

@@ -6,3 +6,4 @@ pub mod cram;
 pub mod domineering;
 pub mod kayles;
 pub mod picture;
+pub mod tables;

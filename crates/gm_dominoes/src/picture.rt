@@ -1,14 +1,10 @@
 //! What these games look like.
 ghost use Rattle.std.specs.Prelude.{◌≡◌};
-ghost use Rattle.gm_dominoes.specs.DominoPictures.{domineering_four_picture, domineering_five_picture, cram_four_picture, cram_five_picture, kayles_picture};
-ghost use Rattle.gm_dominoes.specs.laws.DominoPictured.{domineering_four_pictured, domineering_five_pictured, cram_four_pictured, cram_five_pictured, kayles_pictured};
-ghost use Rattle.gm_dominoes.specs.laws.DominoTables.{domineering_four_tables, domineering_five_tables, cram_four_tables, cram_five_tables, kayles_tables};
+ghost use Rattle.gm_dominoes.specs.DominoPictures.{domino_four_picture, domino_five_picture, kayles_picture};
+ghost use Rattle.gm_dominoes.specs.laws.DominoTables.{domino_four_pictured, domino_five_pictured, kayles_pictured};
 
-use crate::cram::{CramFive, CramFiveRules, CramFour, CramFourRules};
-use crate::domineering::{
-    DomineeringFive, DomineeringFiveRules, DomineeringFour, DomineeringFourRules,
-};
 use crate::kayles::{Kayles, KaylesRules, LETTERS};
+use crate::tables::{DominoFive, DominoFiveRules, DominoFour, DominoFourRules};
 use gm_draw::pictured::{Mover, Picture, Pictured, Style};
 use gm_patterns::picture::{PicturedPatterns, on_square};
 
@@ -16,66 +12,42 @@ use gm_patterns::picture::{PicturedPatterns, on_square};
 const DOMINOES: &[u8] =
     b"A cell is its row and its column, as a1.\nA position is its cells, row by row: x where it is\ntaken, . where it is empty.\nA move is the two cells of a domino.\n";
 
-impl PicturedPatterns<16> for DomineeringFourRules {
-    ghost picture = { domineering_four_picture };
+impl<const CRAM: bool> PicturedPatterns<16> for DominoFourRules<CRAM> {
+    ghost picture = { domino_four_picture CRAM };
 
-    ghost pictured = { domineering_four_pictured domineering_four_tables };
+    ghost pictured = { domino_four_pictured CRAM };
 
-    #[tactic(auto, unfolding(crate::specs::DominoPictures::domineering_four_picture))]
+    #[tactic(auto, unfolding(crate::specs::DominoPictures::domino_four_picture))]
     fn picture() -> Picture {
-        on_square::<16, Self>(
-            4,
-            Style::Counters,
-            b"Domineering 4 by 4",
-            b"player",
-            DOMINOES,
-        )
+        let title: &[u8] = if CRAM {
+            b"Cram 4 by 4"
+        } else {
+            b"Domineering 4 by 4"
+        };
+        on_square::<16, Self>(4, Style::Counters, title, b"player", DOMINOES)
     }
 }
 
-impl PicturedPatterns<25> for DomineeringFiveRules {
-    ghost picture = { domineering_five_picture };
+impl<const CRAM: bool> PicturedPatterns<25> for DominoFiveRules<CRAM> {
+    ghost picture = { domino_five_picture CRAM };
 
-    ghost pictured = { domineering_five_pictured domineering_five_tables };
+    ghost pictured = { domino_five_pictured CRAM };
 
-    #[tactic(auto, unfolding(crate::specs::DominoPictures::domineering_five_picture))]
+    #[tactic(auto, unfolding(crate::specs::DominoPictures::domino_five_picture))]
     fn picture() -> Picture {
-        on_square::<25, Self>(
-            5,
-            Style::Counters,
-            b"Domineering 5 by 5",
-            b"player",
-            DOMINOES,
-        )
-    }
-}
-
-impl PicturedPatterns<16> for CramFourRules {
-    ghost picture = { cram_four_picture };
-
-    ghost pictured = { cram_four_pictured cram_four_tables };
-
-    #[tactic(auto, unfolding(crate::specs::DominoPictures::cram_four_picture))]
-    fn picture() -> Picture {
-        on_square::<16, Self>(4, Style::Counters, b"Cram 4 by 4", b"player", DOMINOES)
-    }
-}
-
-impl PicturedPatterns<25> for CramFiveRules {
-    ghost picture = { cram_five_picture };
-
-    ghost pictured = { cram_five_pictured cram_five_tables };
-
-    #[tactic(auto, unfolding(crate::specs::DominoPictures::cram_five_picture))]
-    fn picture() -> Picture {
-        on_square::<25, Self>(5, Style::Counters, b"Cram 5 by 5", b"player", DOMINOES)
+        let title: &[u8] = if CRAM {
+            b"Cram 5 by 5"
+        } else {
+            b"Domineering 5 by 5"
+        };
+        on_square::<25, Self>(5, Style::Counters, title, b"player", DOMINOES)
     }
 }
 
 impl PicturedPatterns<12> for KaylesRules {
     ghost picture = { kayles_picture };
 
-    ghost pictured = { kayles_pictured kayles_tables };
+    ghost pictured = { kayles_pictured };
 
     #[tactic(auto, unfolding(crate::specs::DominoPictures::kayles_picture))]
     fn picture() -> Picture {
@@ -92,10 +64,8 @@ impl PicturedPatterns<12> for KaylesRules {
 }
 
 /// Has no effect; its contract states what these games look like.
-pub fn dominoes_is_drawn()
-    ensures domineering_four { ⟦<DomineeringFour as Pictured>⟧.picture ≡ domineering_four_picture }
-    ensures domineering_five { ⟦<DomineeringFive as Pictured>⟧.picture ≡ domineering_five_picture }
-    ensures cram_four { ⟦<CramFour as Pictured>⟧.picture ≡ cram_four_picture }
-    ensures cram_five { ⟦<CramFive as Pictured>⟧.picture ≡ cram_five_picture }
+pub fn dominoes_is_drawn<const CRAM: bool>()
+    ensures four { ⟦<DominoFour<CRAM> as Pictured>⟧.picture ≡ domino_four_picture CRAM }
+    ensures five { ⟦<DominoFive<CRAM> as Pictured>⟧.picture ≡ domino_five_picture CRAM }
     ensures kayles { ⟦<Kayles as Pictured>⟧.picture ≡ kayles_picture }
 {}

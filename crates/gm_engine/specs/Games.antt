@@ -2,24 +2,21 @@
 use Rattle.std.specs.Prelude.{ℕ, true, false, List, [], ◌∷◌, slice_get, IfSome}
 use Rattle.gm_game.specs.declared.position.Position.{Position}
 use Rattle.gm_game.specs.Rules.{Rules}
-use Rattle.gm_ways.specs.Ways.{way_rules}
-use Rattle.gm_ways.specs.WayTexts.{way_text, way_move_text}
 use Rattle.gm_toys.specs.Subtraction.{number_text, step_text}
 use Rattle.gm_toys.specs.Countdown.{countdown}
 use Rattle.gm_toys.specs.Wheel.{wheel, target_text}
 use Rattle.gm_toys.specs.Takeaway.{takeaway}
-use Rattle.gm_morris.specs.Morris.{morris_rules}
-use Rattle.gm_morris.specs.Texts.{position_text as nine_text, move_text as nine_move_text}
-use Rattle.gm_mutorere.specs.laws.RingTables.{ring_game}
+use Rattle.gm_patterns.specs.PatternGames.{PatternGame, pattern_rules}
+use Rattle.gm_patterns.specs.PatternTexts.{pattern_text, pattern_move_text}
+use Rattle.gm_morris.specs.Morris.{nine_points}
 use Rattle.gm_pieces.specs.MoveTexts.{position_text_by, move_text_by}
 use Rattle.gm_squares.specs.Chess.{ending, chess_rules, board_text, step_text as man_move}
 use Rattle.gm_dao.specs.DaoRules.{dao_rules}
 use Rattle.gm_dao.specs.Texts.{position_text as dao_text, move_text as dao_move_text}
 use Rattle.gm_hare.specs.Board.{hare_rules}
 use Rattle.gm_hare.specs.Texts.{position_text as hare_text, move_text as hare_move_text}
-use Rattle.gm_pong.specs.PongRules.{pong, pong_rules}
-use Rattle.gm_ways.specs.ShisimaRules.{shisima, shisima_rules}
-use Rattle.gm_ways.specs.TapatanRules.{tapatan, tapatan_rules}
+use Rattle.gm_pong.specs.PongRules.{pong}
+use Rattle.gm_ways.specs.Ways.{on_ways}
 use Rattle.gm_dodgem.specs.Dodgem.{dodgem_rules, dodgem_text, dodgem_move}
 use Rattle.gm_tactix.specs.Board.{tactix_rules}
 use Rattle.gm_engine.specs.declared.width.Width.{Width}
@@ -36,7 +33,11 @@ pub record PlayedGame : Type 0 where
 abbrev pub played : Width → Rules → (Position → List ℕ) → (Position → ℕ → List ℕ) → PlayedGame
 played width rules shown move_shown = record { width = width; rules = rules; shown = shown; move_shown = move_shown }
 
--- the games by their numbers, from 0 on. (Mu Torere, the fourteenth, is given by its ways, which gm_mutorere proves equal to that by its board.)
+-- a game on n cells that is a table of patterns
+abbrev pub patterned : ℕ → PatternGame → PlayedGame
+patterned n g = played Byte (pattern_rules n g) (pattern_text n g) (pattern_move_text n g)
+
+-- the games by their numbers, from 0 on. (After Tac Tix come Tic-tac-toe, Three Men's Morris, Achi and Mu Torere.)
 abbrev pub games : List PlayedGame
 games =
     played Byte (countdown 10) number_text step_text
@@ -49,16 +50,16 @@ games =
     ∷ played Byte (tactix_rules 2 true) (tactix_text 2) (tactix_move_text 2)
     ∷ played Byte (tactix_rules 3 true) (tactix_text 3) (tactix_move_text 3)
     ∷ played Byte (tactix_rules 4 true) (tactix_text 4) (tactix_move_text 4)
-    ∷ played Byte (morris_rules 9) nine_text (nine_move_text 9)
-    ∷ played Byte (morris_rules 6) nine_text (nine_move_text 6)
-    ∷ played Byte (morris_rules 8) nine_text (nine_move_text 8)
-    ∷ played Byte (way_rules 9 ring_game) (way_text 9 ring_game) (way_move_text ring_game)
+    ∷ patterned 9 (nine_points 9)
+    ∷ patterned 9 (nine_points 6)
+    ∷ patterned 9 (nine_points 8)
+    ∷ patterned 9 (on_ways 2)
     ∷ played Byte dao_rules dao_text dao_move_text
     ∷ played Byte hare_rules hare_text hare_move_text
-    ∷ played Byte pong_rules (way_text 5 pong) (way_move_text pong)
-    ∷ played Byte shisima_rules (way_text 9 shisima) (way_move_text shisima)
+    ∷ patterned 5 pong
+    ∷ patterned 9 (on_ways 0)
     ∷ played Byte takeaway number_text step_text
-    ∷ played Byte tapatan_rules (way_text 9 tapatan) (way_move_text tapatan)
+    ∷ patterned 9 (on_ways 1)
     ∷ played Byte dodgem_rules dodgem_text dodgem_move
     ∷ played Word (chess_rules false) (position_text_by (ending false) (board_text false)) (move_text_by (λ t m. man_move false m))
     ∷ played Byte (chess_rules true) (position_text_by (ending true) (board_text true)) (move_text_by (λ t m. man_move true m))

@@ -5,4 +5,5 @@ pub mod Keys
 pub mod Searching
 pub mod Telling
 pub mod Picking
+pub mod Turns
 pub mod Lower

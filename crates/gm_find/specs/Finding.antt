@@ -1,5 +1,5 @@
 -- Positions that are sought.
-use Rattle.std.specs.Prelude.{◌≡◌, ◌-◌, ℕ, zero, suc, List, [], ◌∷◌, map, length, Bool, true, IsTrue, Option, None, Some, ◌≤◌, ◌==◌, if◌then◌else◌, false}
+use Rattle.std.specs.Prelude.{◌≡◌, ◌-◌, ℕ, zero, suc, List, [], ◌∷◌, map, length, Bool, true, IsTrue, Option, None, Some, ◌<◌, ◌≤◌, ◌==◌, if◌then◌else◌, false}
 use Rattle.std.specs.List.{Contains, flat_map, range_with_len}
 use Rattle.gm_game.specs.declared.position.Position.{Position}
 use Rattle.gm_game.specs.declared.position.Value.TheVariants.{Win, Lose, Draw, Tie}
@@ -16,6 +16,7 @@ use Rattle.gm_find.specs.declared.only.Aim.TheVariants.{Keep, WinIn}
 use Rattle.gm_find.specs.declared.sought.Sought.{Sought}
 use Rattle.gm_find.specs.declared.sought.Span.{Span}
 use Rattle.gm_find.specs.Lists.{AreThose}
+use Rattle.gm_find.specs.Tries.{HasLeastTries}
 use Rattle.gm_find.specs.Reaching.{IsReachedByPlay}
 
 -- the positions of a tier, by ascending index
@@ -131,6 +132,10 @@ abbrev pub HasFittingMoves : Rules → Sought → Position → Type 0
 HasFittingMoves r q p = HasMoves r q.distinct q.min_moves p × (IsTrue q.only_move → HasOnly r q.distinct (Keep q.value) p)
     × (IsTrue q.only_fastest → HasOnlyFastest r q.distinct p)
 
+-- p has such a line as is sought, and as many tries along its solution
+abbrev pub HasFittingLine : Rules → Sought → Position → Type 0
+HasFittingLine r q p = (IsTrue q.whole_line → IsOnlyLine r q.distinct q.only_fastest p) × (0 < q.min_tries → HasLeastTries r q.min_tries p)
+
 -- a canonical position that is sought; where only reached positions are asked for, one that play reaches
 pub record IsMatch (r : Rules) (q : Sought) (reached : Bool) (p : Position) : Type 0 where
   pub canonical : IsCanonical r p
@@ -139,6 +144,7 @@ pub record IsMatch (r : Rules) (q : Sought) (reached : Bool) (p : Position) : Ty
   pub only : IsTrue q.only_move → HasOnly r q.distinct (Keep q.value) p
   pub fastest : IsTrue q.only_fastest → HasOnlyFastest r q.distinct p
   pub line : IsTrue q.whole_line → IsOnlyLine r q.distinct q.only_fastest p
+  pub tries : 0 < q.min_tries → HasLeastTries r q.min_tries p
   pub reaches : IsTrue reached → IsReachedByPlay r p
 
 -- the place at which positions of this value and remoteness stand

@@ -1,6 +1,9 @@
 pub mod Lists
 pub mod Reaching
+pub mod Tries
 pub mod Finding
 pub mod Samples
+pub mod Sorting
 pub mod Founds
 pub mod Rows
+pub mod inner

@@ -7,14 +7,15 @@ use crate::found::{Found, find, look_up};
 use crate::positions::find_positions;
 use crate::reached::Reached;
 use crate::sample::sample_of;
+use crate::sorted::put_in_order;
 use crate::sought::{Choice, Sought};
 use gm_game::game::Game;
 use gm_play::known_tiers::KnownTiers;
 use std::alloc::{AllocError, Global};
 
-/// Returns the canonical positions that are sought and that the choice takes, each with its value, its best move and the number of its moves: tier by tier in the
-/// order given and by ascending index. If a set of reached positions is given, only positions in it count. For a random choice all positions that are sought
-/// are found first, and only the chosen ones are looked up.
+/// Returns the canonical positions that are sought and that the choice takes, each with its value, its best move and the number of its moves, and on
+/// request its tries: tier by tier in the order given and by ascending index, or sorted. If a set of reached positions is given, only positions in it count. For
+/// a random choice all positions that are sought are found first, and only the chosen ones are looked up. To be sorted, all are kept in memory.
 pub fn find_some<G: Game>(
     alloc: Global,
     known: &KnownTiers<'_, G>,
@@ -31,7 +32,13 @@ pub fn find_some<G: Game>(
             let all = find_positions(alloc, known, sought, reached, usize::MAX)?;
             let some = sample_of(alloc, all.as_slice(), number, seed)?;
             drop(all);
-            look_up(alloc, known.tables, some.as_slice())
+            look_up(alloc, known.tables, some.as_slice(), sought.tries)
+        }
+        Choice::Sorted { order, limit } => {
+            let mut all = find(alloc, known, sought, reached, usize::MAX)?;
+            put_in_order(&mut all, order)?;
+            all.truncate(limit);
+            Ok(all)
         }
     }
 }

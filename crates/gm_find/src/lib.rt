@@ -3,6 +3,7 @@
 //! `specs/` has the definitions that contracts cite, and `proofs/` what follows from them.
 #![tactic(auto)]
 
+mod along;
 pub mod choice;
 pub mod found;
 mod only;
@@ -12,4 +13,6 @@ pub mod reached;
 pub mod rows;
 pub mod sample;
 mod search;
+mod sorted;
 pub mod sought;
+pub mod tries;

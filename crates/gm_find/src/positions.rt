@@ -8,8 +8,9 @@ ghost use Rattle.gm_game.specs.declared.limits.TheConstants.{REMOTENESS};
 ghost use Rattle.gm_game.specs.Records.{IsRecord};
 ghost use Rattle.gm_table.specs.Tables.{IsHeld};
 ghost use Rattle.gm_find.specs.Lists.{Adds, IsFirst};
-ghost use Rattle.gm_find.specs.Finding.{IsMatch, positions_in, all_positions, place_for, level_of, IsValueOf, HasFittingMoves};
+ghost use Rattle.gm_find.specs.Finding.{IsMatch, positions_in, all_positions, place_for, level_of, IsValueOf, HasFittingMoves, HasFittingLine};
 
+use crate::along::has_least_tries;
 use crate::only::{Aim, has_moves, has_only, has_only_fastest};
 use crate::only_line::is_only_line;
 use crate::reached::{Reached, is_in};
@@ -149,7 +150,16 @@ fn is_sought<G: Game>(search: &Search<'_, G>, p: Position) -> bool
     if !is_in(search.reached, p) {
         return false;
     }
-    !sought.whole_line || is_only_line(&known, solved, sought.distinct, sought.only_fastest)
+    has_fitting_line(&known, solved, sought)
+}
+
+// Tests whether the lines of a position are as they are sought.
+fn has_fitting_line<G: Game>(known: &Known<'_, G>, solved: Solved, sought: Sought) -> bool
+    requires { IsTrueValue G.rules known.now.position solved }
+    ensures { IsTrue result ↔ HasFittingLine G.rules sought known.now.position }
+{
+    (!sought.whole_line || is_only_line(known, solved, sought.distinct, sought.only_fastest))
+        && (sought.min_tries == 0 || has_least_tries(known, sought.min_tries))
 }
 
 // Returns whether a position has the moves that are sought.

@@ -26,6 +26,19 @@ pub struct Sought {
     pub distinct: bool,
     /// Those with at least this many moves.
     pub min_moves: usize,
+    /// Those with at least this many tries at each turn of the side that moves first, along the solution; no draws unless it is 0.
+    pub min_tries: usize,
+    /// Whether the tries of each position are counted.
+    pub tries: bool,
+}
+
+/// An order of found positions, the simplest first. Equal positions come tier by tier and by ascending index.
+#[derive(Clone, Copy, Debug, PartialEq, Eq)]
+pub enum Order {
+    /// By remoteness.
+    Long,
+    /// By the sum of the tries along the solution, and then by remoteness.
+    Hard,
 }
 
 /// Which of the positions that are sought are taken.
@@ -35,4 +48,6 @@ pub enum Choice {
     First(usize),
     /// A random choice of this many, or all if there are fewer: the same for the same seed.
     Random { number: usize, seed: u64 },
+    /// All of them in this order, and then the first, at most this many.
+    Sorted { order: Order, limit: usize },
 }

@@ -6,7 +6,7 @@ use Rattle.gm_json.specs.Extras.{extras}
 use Rattle.serde_json.specs.Data.{object}
 use Rattle.gm_play.specs.Firsts.{chosen}
 use Rattle.gm_json.specs.declared.asked.Asked.{Asked}
-use Rattle.gm_json.specs.Answers.{answer_members, IsPositionJson, IsReported, error_tree}
+use Rattle.gm_json.specs.Answers.{answer_members, IsOtherAnswer, IsPositionJson, IsReported}
 use Rattle.gm_json.specs.Places.{IsAskedAs, IsAskedAsNone}
 use Rattle.gm_play.specs.Dialogue.{without_return}
 use Rattle.std.specs.Prelude.{codes, ◌↔◌}
@@ -69,8 +69,17 @@ module _ (r : Rules) (shown : Position → List ℕ) (move_shown : Position → 
       ]
 
   -- the line asks about none
-  pub unanswered : ((p : Position) → (None ≡ Some p) ↔ IsAskedAs r shown move_shown text p) → out ≡ compact_text (error_tree n text)
+  pub unanswered : ((p : Position) → (None ≡ Some p) ↔ IsAskedAs r shown move_shown text p) → IsOtherAnswer r shown move_shown asked tiers text n out
       → IsAnswer r shown move_shown asked tiers line n out
-  unanswered none e =
+  unanswered none other =
       let nothing : IsAskedAsNone r shown move_shown text = λ p is. absurd (let some : None ≡ Some p = (none p).1 is in cc) in
-      inr (inr (subst (λ (t : List ℕ). IsAskedAsNone r shown move_shown t) cut nothing, e ∙ ap (λ (t : List ℕ). compact_text (error_tree n t)) cut))
+      inr (inr (
+        subst (λ (t : List ℕ). IsAskedAsNone r shown move_shown t) cut nothing,
+        subst (λ (t : List ℕ). IsOtherAnswer r shown move_shown asked tiers t n out) cut other,
+      ))
+
+-- what a line asks about is legal
+pub asked_legal : (r : Rules) (shown : Position → List ℕ) (move_shown : Position → ℕ → List ℕ) (line : List ℕ) (p : Position)
+    → IsAskedAs r shown move_shown line p → r.is_legal p ≡ true
+asked_legal r shown move_shown line p (inl read) = read.0
+asked_legal r shown move_shown line p (inr place) = place.2

@@ -1,5 +1,7 @@
 -- Bytes as lines, of which fronts are kept.
 use Rattle.gm_json.proofs.Lower.{◌≡◌, ℕ, ◌≤◌, ◌<◌, Bool, true, false, List, [], ◌∷◌, ◌++◌, length, take, refl, sym, ap, ◌∙◌, arith, ◌==◌, if◌then◌else◌, length-take, length-append, kept_bytes}
+use Rattle.gm_json.proofs.Lower.{inl, inr}
+use Rattle.std.proofs.lemmas.Bool.{cases_Bool, eqb-true}
 use Rattle.std.proofs.lemmas.List.{take_all, take-append-le}
 use Rattle.gm_json.specs.Asking.{lines_from}
 
@@ -46,3 +48,16 @@ pub one_begun : (line : List ℕ) → length (lines_from line []) ≤ 1
 unfolding lines_from
 one_begun [] = omega arith
 one_begun (b ∷ bs) = omega (arith, ap (λ (ls : List (List ℕ)). length ls) (lines_end (b ∷ bs) (omega arith)))
+
+-- a list that is not empty, and one that is not full
+pub some_of : (n : ℕ) (empty : Bool) → empty ≡ (n == 0) → empty ≡ false → 0 < n
+some_of n empty e h = grind (arith, e, h)
+
+pub short_of : (n most : ℕ) (full : Bool) → full ≡ (n == most) → n ≤ most → full ≡ false → n < most
+short_of n most full e fits h = grind (arith, e, fits, h)
+
+pub full_of : (n most : ℕ) (full : Bool) → full ≡ (n == most) → n ≤ most → full ≡ true → most ≤ n
+full_of n most full e fits h = grind (arith, e, fits, h)
+
+pub unequal : (b n : ℕ) → (b ≡ n → ⊥) → (b == n) ≡ false
+unequal b n h = elim (cases_Bool (b == n)) [ inl t ↦ absurd (h (eqb-true b n t)) | inr f ↦ f ]

@@ -1,5 +1,6 @@
--- The answer to a line that should be the text of a position.
-use Rattle.std.specs.Prelude.{◌≡◌, ℕ, ◌⊎◌, Bool, true, false, List, take, codes, if◌then◌else◌}
+-- The answer to a line that should ask about a position, or be an object that stands for such lines.
+use Rattle.std.specs.Prelude.{◌≡◌, ℕ, ◌⊎◌, Bool, true, false, List, [], ◌∷◌, ◌++◌, take, codes, if◌then◌else◌, Option, None, Some}
+use Rattle.std.specs.List.{Contains}
 use Rattle.serde_json.specs.Data.{Data, string, object, Members, member, no_members}
 use Rattle.serde_json.specs.Written.{compact_text}
 use Rattle.gm_game.specs.declared.position.Position.{Position}
@@ -15,21 +16,26 @@ use Rattle.gm_json.specs.declared.asked.Asked.{Asked}
 use Rattle.gm_json.specs.Words.{whole, text}
 use Rattle.gm_json.specs.Moves.{move_trees, position_members}
 use Rattle.gm_json.specs.Extras.{extras, AreBestMoves}
-use Rattle.gm_json.specs.Places.{IsAskedAsNone, IsAskedByPlace}
+use Rattle.gm_json.specs.Objects.{IsObject, IsNoObject, id_in, lines_in, with_id}
+use Rattle.gm_json.specs.Places.{IsAskedAs, IsAskedAsNone, IsAskedByPlace}
 
 -- how much of a line that asks about no position is reported
 abbrev pub read_bytes : ℕ
 read_bytes = 64
 
--- what is reported of a line that asks about no position: its number, and what was read
-abbrev pub unread_tree : ℕ → List ℕ → Data
-unread_tree n read =
-    object (member (codes "error") (string (codes "no such position"))
+-- what is reported of a line that can't be answered: why, its number, and what was read
+abbrev pub unread_tree : List ℕ → ℕ → List ℕ → Data
+unread_tree why n read =
+    object (member (codes "error") (string why)
     (member (codes "line") (whole n)
     (member (codes "read") (text read) no_members)))
 
 abbrev pub error_tree : ℕ → List ℕ → Data
-error_tree n line = unread_tree n (take read_bytes line)
+error_tree n line = unread_tree (codes "no such position") n (take read_bytes line)
+
+-- the same of an object that asks nothing
+abbrev pub no_question_tree : ℕ → List ℕ → Data
+no_question_tree n line = unread_tree (codes "no such question") n (take read_bytes line)
 
 -- the value of a position without its moves; on request, also its canonical position
 abbrev pub value_asked : Bool → Asked
@@ -72,8 +78,40 @@ module _ (r : Rules) (shown : Position → List ℕ) (move_shown : Position → 
     abbrev pub IsPlaceAnswer : List ℕ → List ℕ → Type 0
     IsPlaceAnswer line out = (p : Position) × IsAskedByPlace r shown move_shown line p × IsPositionJson (shown p) out
 
-    -- the answer to the line with this number: the answer for the position that it asks about, or that there is no such position
+    -- the answer to a text in the line with this number: the answer for the position that it asks about, or that there is no such position
+    abbrev pub IsTextAnswer : List ℕ → ℕ → List ℕ → Type 0
+    IsTextAnswer text n out = IsPositionJson text out
+        ⊎ (IsPlaceAnswer text out
+        ⊎ (IsAskedAsNone r shown move_shown text × (out ≡ compact_text (error_tree n text))))
+
+    -- the answers to some texts in their order, each with the id and a line's end
+    abbrev pub AreTextAnswers : Option Data → ℕ → List (List ℕ) → List ℕ → Type 0
+    AreTextAnswers id n [] all = all ≡ []
+    AreTextAnswers id n (text ∷ texts) all = (out : List ℕ) × (rest : List ℕ) × IsTextAnswer text n out × (all ≡ (with_id id out ++ codes "\n") ++ rest) ×
+        AreTextAnswers id n texts rest
+
+    -- the answers to the texts that an object stands for, a line each; if it stands for none, that it asks nothing
+    abbrev pub AreObjectAnswers : Option Data → ℕ → List ℕ → Option (List (List ℕ)) → List ℕ → Type 0
+    AreObjectAnswers id n line None out = out ≡ with_id id (compact_text (no_question_tree n line))
+    AreObjectAnswers id n line (Some []) out = out ≡ with_id id (compact_text (no_question_tree n line))
+    AreObjectAnswers id n line (Some (text ∷ texts)) out = AreTextAnswers id n (text ∷ texts) (out ++ codes "\n")
+
+    -- the line is an object, and this is its answer
+    abbrev pub IsObjectAnswer : List ℕ → ℕ → List ℕ → Type 0
+    IsObjectAnswer line n out = (d : Data) × IsObject line d × AreObjectAnswers (id_in d) n line (lines_in d) out
+
+    -- the answer to a line that asks about no position itself: that of an object, or that there is no such position
+    abbrev pub IsOtherAnswer : List ℕ → ℕ → List ℕ → Type 0
+    IsOtherAnswer line n out = IsObjectAnswer line n out ⊎ (IsNoObject line × (out ≡ compact_text (error_tree n line)))
+
+    -- the answer to the line with this number: the answer for the position that it asks about, or that to another line
     abbrev pub IsAnswer : List ℕ → ℕ → List ℕ → Type 0
     IsAnswer line n out = IsPositionJson (without_return line) out
         ⊎ (IsPlaceAnswer (without_return line) out
-        ⊎ (IsAskedAsNone r shown move_shown (without_return line) × (out ≡ compact_text (error_tree n (without_return line)))))
+        ⊎ (IsAskedAsNone r shown move_shown (without_return line) × IsOtherAnswer (without_return line) n out))
+
+module _ (r : Rules) (shown : Position → List ℕ) (move_shown : Position → ℕ → List ℕ) where
+  -- the line is an object that stands for a line that asks about p
+  abbrev pub IsAskedWithin : List ℕ → Position → Type 0
+  IsAskedWithin line p = (d : Data) × (texts : List (List ℕ)) × (text : List ℕ) × IsObject line d × (lines_in d ≡ Some texts) × Contains texts text
+      × IsAskedAs r shown move_shown text p

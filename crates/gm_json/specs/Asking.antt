@@ -5,9 +5,9 @@ use Rattle.gm_play.specs.Sessions.{AppendsPart}
 use Rattle.gm_json.specs.declared.ask_error.AskError.{AskError}
 use Rattle.gm_json.specs.declared.ask_error.AskError.TheVariants.{OutOfMemory, NotHeld, ReadFailed, WriteFailed, OutputClosed}
 
--- how much of a line is looked at: the longest text of a position, its return, and a byte that tells a longer line, which is the text of no position
+-- how much of a line is looked at: the longest object, its return, and a byte that marks a longer line, which is no object and the text of no position
 abbrev pub kept_bytes : ℕ
-kept_bytes = 66
+kept_bytes = 65538
 
 -- the most bytes that one read gives
 abbrev pub block_bytes : ℕ

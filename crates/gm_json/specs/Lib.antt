@@ -4,6 +4,7 @@ pub mod Lines
 pub mod Founds
 pub mod Extras
 pub mod Places
+pub mod Objects
 pub mod Answers
 pub mod Located
 pub mod Boards

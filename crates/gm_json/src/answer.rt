@@ -1,13 +1,13 @@
-//! The answer to one line that should ask about a position.
-ghost use Rattle.std.specs.Prelude.{◌≡◌, ◌++◌, ◌∷◌, true, false, take, IfOk, IfErr, OnOk, IsErrOf, ◌↔◌};
+//! The answer to one line that should ask about a position, or be an object that stands for such lines.
+ghost use Rattle.std.specs.Prelude.{◌≡◌, ◌++◌, ◌∷◌, ◌⊎◌, true, false, IfOk, IfErr, OnOk, IsErrOf};
 ghost use Rattle.std.specs.List.{All};
 ghost use Rattle.gm_game.specs.declared.position.Position.{Position};
 ghost use Rattle.serde_json.specs.Data.{Members};
-ghost use Rattle.serde_json.specs.Written.{compact_text, members_text};
+ghost use Rattle.serde_json.specs.Written.{members_text};
 ghost use Rattle.gm_play.specs.Refusals.{IsNotHeld};
 ghost use Rattle.gm_play.specs.PlayTexts.{IsMoveOf};
 ghost use Rattle.gm_play.specs.Dialogue.{without_return as without_return_spec};
-ghost use Rattle.gm_json.specs.Answers.{IsAnswer, IsPositionJson, IsReported, answer_members, read_bytes, error_tree};
+ghost use Rattle.gm_json.specs.Answers.{IsAnswer, IsOtherAnswer, IsPositionJson, IsReported, answer_members, IsAskedWithin};
 ghost use Rattle.gm_json.specs.Asking.{IsOfLine};
 ghost use Rattle.gm_json.specs.Places.{IsAskedAs};
 
@@ -15,7 +15,9 @@ use crate::ask_error::AskError;
 use crate::asked::Asked;
 use crate::extras::push_extras;
 use crate::moves::{push_moves, push_value};
-use crate::parts::{push_bytes, push_number_member, push_text_member};
+use crate::object::object_of;
+use crate::object_answer::{no_position, object_answer, position_answer};
+use crate::parts::push_bytes;
 use crate::place::asked_about;
 use gm_game::position::{Position, Solved};
 use gm_game::shown::Shown;
@@ -26,12 +28,9 @@ use gm_play::move_values::MoveValue;
 use gm_play::streams::without_return;
 use std::alloc::{AllocError, Global};
 
-// The number of bytes that are repeated of a line that asks about no position.
-const READ: usize = 64;
-
-/// Returns the answer to the line with this number: the answer for the position with this text, or with the tier and the index of a line `@TIER INDEX`, or the
-/// error that there is no such position, with the first 64 bytes of the line. A carriage return at the end of the line is no part of it. Parents are looked for
-/// in these tiers. `NotHeld` comes exactly if the tier of the position has no table.
+/// Returns the answer to the line with this number: the answer for the position with this text, or with the tier and the index of a line `@TIER INDEX`; the answers
+/// to the texts that an object stands for, a line each; or the error that there is no such position, with the first 64 bytes of the line. A carriage return at
+/// the end of the line is no part of it. Parents are looked for in these tiers. `NotHeld` comes if the tier of a position has no table.
 pub fn ask_line<G: Shown>(
     alloc: Global,
     tables: &Closed<'_, G>,
@@ -42,19 +41,39 @@ pub fn ask_line<G: Shown>(
 ) -> Result<Vec<u8>, AskError>
     ensures answer { IfOk result (λ out. IsAnswer G.Game.rules G.shown G.move_shown asked tiers.now line.now number out.items) }
     ensures kind { IfErr result IsOfLine }
-    ensures not_held { IsErrOf result AskError.NotHeld ↔ ((p : Position) × IsAskedAs G.Game.rules G.shown G.move_shown (without_return_spec line.now) p
-        × IsNotHeld G.Game.rules tables.now.tables.now p) }
+    ensures not_held { IsErrOf result AskError.NotHeld → ((p : Position) × (IsAskedAs G.Game.rules G.shown G.move_shown (without_return_spec line.now) p
+        ⊎ IsAskedWithin G.Game.rules G.shown G.move_shown (without_return_spec line.now) p) × IsNotHeld G.Game.rules tables.now.tables.now p) }
+    ensures unheld { (p : Position) → IsAskedAs G.Game.rules G.shown G.move_shown (without_return_spec line.now) p
+        → IsNotHeld G.Game.rules tables.now.tables.now p → IsErrOf result AskError.NotHeld }
 {
     let text = without_return(line);
-    let answered = match asked_about::<G>(text) {
-        Some(p) => match tables.known(p) {
-            Some(known) => position_json(alloc, &known, tiers, asked),
-            None => return Err(AskError::NotHeld),
-        },
-        None => no_position(alloc, number, text),
-    };
-    match answered {
-        Ok(out) => Ok(out),
+    match asked_about::<G>(text) {
+        Some(p) => position_answer(alloc, tables, tiers, asked, p),
+        None => other_answer(alloc, tables, tiers, asked, text, number),
+    }
+}
+
+// Returns the answer to a line that asks about no position itself.
+fn other_answer<G: Shown>(
+    alloc: Global,
+    tables: &Closed<'_, G>,
+    tiers: &[u64],
+    asked: Asked,
+    line: &[u8],
+    number: u64,
+) -> Result<Vec<u8>, AskError>
+    ensures answer { IfOk result (λ out. IsOtherAnswer G.Game.rules G.shown G.move_shown asked tiers.now line.now number out.items) }
+    ensures kind { IfErr result IsOfLine }
+    ensures not_held { IsErrOf result AskError.NotHeld → ((p : Position) × IsAskedWithin G.Game.rules G.shown G.move_shown line.now p
+        × IsNotHeld G.Game.rules tables.now.tables.now p) }
+{
+    match object_of(alloc, line) {
+        Ok(Some(tree)) => {
+            let answer = object_answer(alloc, tables, tiers, asked, &tree, line, number);
+            drop(tree);
+            answer
+        }
+        Ok(None) => no_position(alloc, number, line),
         Err(_) => Err(AskError::OutOfMemory),
     }
 }
@@ -113,28 +132,4 @@ fn push_front<G: Shown>(
     }
     push_moves::<G>(alloc, out, p, list)?;
     push_value::<G>(alloc, out, true, p, value)
-}
-
-// Returns the answer to a line that asks about no position.
-fn no_position(alloc: Global, number: u64, line: &[u8]) -> Result<Vec<u8>, AllocError>
-    ensures { IfOk result (λ out. out.items ≡ compact_text (error_tree number line.now)) }
-{
-    let mut out = Vec::new(alloc);
-    push_bytes(&mut out, b"{")?;
-    push_text_member(alloc, &mut out, false, "error", b"no such position")?;
-    push_number_member(&mut out, true, "line", number)?;
-    push_text_member(alloc, &mut out, true, "read", first_bytes(line))?;
-    push_bytes(&mut out, b"}")?;
-    Ok(out)
-}
-
-// Returns the first bytes of a line.
-fn first_bytes(line: &[u8]) -> &[u8]
-    ensures { result.now ≡ take read_bytes line.now }
-{
-    if line.len() <= READ {
-        line
-    } else {
-        &line[..READ]
-    }
 }

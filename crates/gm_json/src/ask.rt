@@ -11,8 +11,8 @@ ghost use Rattle.gm_json.specs.inner.Midst.{GoesOn, Midst};
 use crate::answer::ask_line;
 use crate::ask_error::AskError;
 use crate::asked::Asked;
+use crate::object::LONGEST;
 use arrayvec::ArrayVec;
-use gm_game::limits::LINE;
 use gm_game::shown::Shown;
 use gm_play::closed::Closed;
 use gm_play::streams::write_text;
@@ -28,8 +28,8 @@ pub const READY: &[u8] = b"{\"ready\":true}\n";
 // The most reads: with this many the number of a line is below 2^64.
 const READS: u64 = 281_474_976_710_655;
 
-// How much of a line is kept: the longest text of a position, its return, and a byte that tells a longer line.
-const KEPT: usize = LINE + 2;
+// How much of a line is kept: the longest object, its return, and a byte that marks a longer line.
+const KEPT: usize = LONGEST + 2;
 
 // What a service has at hand: the line that has begun, its number, and the answers that are not written yet.
 #[derive(Drop)]

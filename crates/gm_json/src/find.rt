@@ -6,13 +6,14 @@ ghost use Rattle.serde_json.specs.View.{view, members_view};
 ghost use Rattle.gm_play.specs.BestMoves.{IsBestMove};
 ghost use Rattle.gm_find.specs.Founds.{IsFound};
 ghost use Rattle.gm_json.specs.Words.{move_or_null};
-ghost use Rattle.gm_json.specs.Founds.{found_tree, found_line, IsFoundJson};
+ghost use Rattle.gm_json.specs.Founds.{with_tries, found_tree, found_line, IsFoundJson};
 
 use crate::words::{push_line, put_text, put_word, text_value};
 use gm_find::choice::find_some;
 use gm_find::found::Found;
 use gm_find::reached::Reached;
 use gm_find::sought::{Choice, Sought};
+use gm_find::tries::Tries;
 use gm_game::position::Position;
 use gm_game::shown::Shown;
 use gm_play::known_tiers::KnownTiers;
@@ -21,7 +22,7 @@ use serde_json::{Map, Value as Json, put};
 use std::alloc::{AllocError, Global};
 
 /// Returns the canonical positions that are sought as lines of compact JSON, each with its end: the best move (`null` at an end), the number of the moves, the
-/// position, its remoteness and its value. The members are in alphabetical order; the lines come tier by tier in the order given and by ascending index: the
+/// position, its remoteness and its value, and its tries, if they are counted. The members are in alphabetical order; the lines come tier by tier in the order given and by ascending index: the
 /// first of them, or a random choice. If a set of reached positions is given, only positions in it count.
 pub fn find_json<G: Shown>(
     alloc: Global,
@@ -65,7 +66,24 @@ fn put_found<G: Shown>(
     put(members, alloc, "moves", Json::from(x.moves as u64))?;
     put_text(alloc, members, "position", G::show(x.position).as_slice())?;
     put(members, alloc, "remoteness", Json::from(x.value.remoteness))?;
-    put_word(alloc, members, "value", word_of(x.value.value))
+    put_word(alloc, members, "value", word_of(x.value.value))?;
+    put_tries(alloc, members, x.tries)
+}
+
+// Puts the tries of a position into an object, if they are counted.
+fn put_tries(
+    alloc: Global,
+    members: &mut Map<String, Json>,
+    tries: Option<Tries>,
+) -> Result<(), AllocError>
+    ensures { OnOk result (members_view members.new.entries ≡ with_tries tries (members_view members.old.entries)) }
+{
+    let Some(x) = tries else {
+        return Ok(());
+    };
+    put(members, alloc, "least", Json::from(x.least as u64))?;
+    put(members, alloc, "sum", Json::from(x.total))?;
+    put(members, alloc, "tries", Json::from(x.own as u64))
 }
 
 // Returns a best move; null at an end.

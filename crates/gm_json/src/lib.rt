@@ -13,6 +13,8 @@ pub mod find;
 pub mod line;
 pub mod located;
 pub mod moves;
+mod object;
+mod object_answer;
 mod parts;
 mod place;
 pub mod why;

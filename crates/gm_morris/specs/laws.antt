@@ -1,7 +1,2 @@
--- What follows from the rules: the laws of a game, and of its texts.
-pub mod PointFacts
-pub mod BoardFacts
-pub mod MoveFacts
-pub mod MorrisLaws
-pub mod TextLaws
-pub mod NinePictured
+-- Nothing is wrong with the tables, and the pictures satisfy the laws of pictures.
+pub mod NineTables

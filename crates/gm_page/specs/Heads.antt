@@ -16,7 +16,7 @@ men_of Counters = codes "x"
 men_of Stones = codes "xo"
 men_of Discs = codes "xo"
 men_of Letters = codes "dh"
-men_of Chess = codes "KQRk"
+men_of Chess = codes "KQRBNPk"
 men_of Hounds = codes "fh"
 
 -- the name of the side that begins, and that of the other side

@@ -285,6 +285,7 @@ pub const PARTS: &[u8] = br##"</style>
 <div class="bar" id="setting" role="group" aria-label="Puzzles and boards">
 <button id="puzzle">Puzzle</button>
 <select id="length" aria-label="Length of puzzles"></select>
+<select id="least" aria-label="Tries of puzzles"><option value="0">with any tries</option><option value="2">with 2 tries or more</option><option value="5">with 5 tries or more</option></select>
 <button id="random">Random position</button>
 <button id="edit" aria-pressed="false">Edit the board</button>
 </div>
@@ -320,7 +321,8 @@ seed decides in which, so the same seed and moves give the same game. Hint tells
 position that is on the board for the third time makes the game a draw.</dd>
 <dt class="solver">Puzzles</dt>
 <dd class="solver">A puzzle is a position that is won, by exactly one of its moves; in a game without such positions, by exactly one in the fewest moves. Its length
-counts the moves of both sides. It is solved when the game is won.</dd>
+counts the moves of both sides. Tries are moves that do not solve it, and with which the game is not lost or tied within two moves of each side. It is solved
+when the game is won.</dd>
 <dt class="solver">Editing</dt>
 <dd class="solver">Edit the board, and a press on a point puts the next piece there, or the one that you choose below the board; a drag takes a piece to another point.
 Other side to move leaves the pieces as they are. The position's worth is shown as soon as it is one of the game, and else, if the page can tell, why it is none.

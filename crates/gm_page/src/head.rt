@@ -106,7 +106,7 @@ fn men(style: Style) -> &'static str
         Style::Counters => "x",
         Style::Crosses | Style::Stones | Style::Discs => "xo",
         Style::Letters => "dh",
-        Style::Chess => "KQRk",
+        Style::Chess => "KQRBNPk",
         Style::Hounds => "fh",
     }
 }

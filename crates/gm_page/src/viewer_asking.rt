@@ -24,7 +24,7 @@ for (const part of document.querySelectorAll(engined ? ".tables" : ".solver")) p
 $("many").hidden = single;
 let game = null;
 
-// ---- The games: the rules of each in a few lines; how many legal positions it has (LEGAL); what its start is worth (WORTHS); how many men each move adds (ADDS); how the board is turned for the second player (TURNS); the rows that end it, by their shapes or their points (ROWS).
+// ---- The games: the rules of each in a few lines; how many legal positions it has (LEGAL); what its start is worth (WORTHS); its kind (FAMILIES); how many men each move adds (ADDS); how the board is turned for the second player (TURNS); the rows that end it, by their shapes or their points (ROWS).
 const RULES = {
   "dao":
     "Four stones a side. A stone slides in one of eight directions as far as it can. A full row or column, a square of two by two, or all four " +
@@ -77,6 +77,9 @@ const RULES = {
   "kqk":
     "White has king and queen, Black the king alone. All move as in chess. White wins by checkmate. The game is drawn by stalemate, or when Black " +
     "takes the queen.",
+  "kpk":
+    "White has king and pawn, Black the king alone. All move as in chess. On the last row the pawn becomes a queen, a rook, a bishop or a knight. " +
+    "White wins by checkmate. The game is drawn by stalemate, with a bishop or a knight, or when Black takes White's man.",
   "foxhounds":
     "Four hounds hunt a fox on the dark squares of a chess board. A man moves one square diagonally to a free square: a hound only forwards, the " +
     "fox any way. The fox wins as soon as no hound is on a lower row. Who can't move loses.",
@@ -101,15 +104,31 @@ const RULES = {
     "between the center and a corner. Three in a row, a column or a diagonal win. Who can't move loses.",
 };
 const LEGAL = {
-  "dao": 891990, "dodgem": 1377, "hare": 2640, "tictactoe": 5478, "threemens": 3910, "achi": 5400, "mutorere": 630, "ponghauki": 30, "krk": 402724,
-  "kqk": 372064, "tactix-1": 2, "tactix-2": 16, "tactix-3": 512, "tactix-4": 65536, "tactix-1-misere": 2, "tactix-2-misere": 16, "tactix-3-misere":
-  512, "tactix-4-misere": 65536, "countdown": 11, "wheel": 10, "takeaway": 13, "shisima": 1600, "tapatan": 1520
+  "dao": 891990, "dodgem": 1377, "domineering-4": 32768, "kayles": 4096, "hare": 2640, "tictactoe": 5478, "threemens": 3910, "achi": 5400,
+  "mutorere": 630, "tictactoe-misere": 5478, "notakto": 512, "hex-3": 5514, "ponghauki": 30, "hexapawn": 2487, "picaria": 3870, "toads": 11550,
+  "krk": 402724, "kqk": 372064, "kpk": 1158448, "foxhounds": 2013760, "tactix-1": 2, "tactix-2": 16, "tactix-3": 512, "tactix-4": 65536,
+  "tactix-5": 33554432, "tactix-1-misere": 2, "tactix-2-misere": 16, "tactix-3-misere": 512, "tactix-4-misere": 65536, "tactix-5-misere": 33554432,
+  "countdown": 11, "wheel": 10, "takeaway": 13, "shisima": 1600, "tapatan": 1520
 };
 const WORTHS = {
-  "dao": "draw", "dodgem": "win in 19", "hare": "win in 23", "tictactoe": "tie in 9", "threemens": "draw", "achi": "win in 11", "mutorere": "draw",
-  "ponghauki": "draw", "krk": "win in 23", "kqk": "win in 13", "tactix-1": "win in 1", "tactix-2": "lose in 4", "tactix-3": "win in 7", "tactix-4":
-  "lose in 16", "tactix-1-misere": "lose in 1", "tactix-2-misere": "lose in 3", "tactix-3-misere": "win in 6", "tactix-4-misere": "lose in 15",
-  "countdown": "win in 7", "wheel": "win in 3", "takeaway": "lose in 6", "shisima": "draw", "tapatan": "draw"
+  "dao": "draw", "dodgem": "win in 19", "domineering-4": "win in 7", "kayles": "win in 11", "hare": "win in 23", "tictactoe": "tie in 9",
+  "threemens": "draw", "achi": "win in 11", "mutorere": "draw", "tictactoe-misere": "tie in 9", "notakto": "win in 6", "hex-3": "win in 5",
+  "ponghauki": "draw", "hexapawn": "lose in 6", "picaria": "draw", "toads": "win in 21", "krk": "win in 23", "kqk": "win in 13", "kpk": "win in 43",
+  "foxhounds": "lose in 44", "tactix-1": "win in 1", "tactix-2": "lose in 4", "tactix-3": "win in 7", "tactix-4": "lose in 16",
+  "tactix-5": "win in 19", "tactix-1-misere": "lose in 1", "tactix-2-misere": "lose in 3", "tactix-3-misere": "win in 6",
+  "tactix-4-misere": "lose in 15", "tactix-5-misere": "win in 18", "countdown": "win in 7", "wheel": "win in 3", "takeaway": "lose in 6",
+  "shisima": "draw", "tapatan": "draw"
+};
+const FAMILIES = {
+  "dao": "Rows of three and four", "dodgem": "Chases and blockades", "domineering-4": "Filling a board", "kayles": "Taking counters",
+  "hare": "Chases and blockades", "tictactoe": "Rows of three and four", "threemens": "Rows of three and four", "achi": "Rows of three and four",
+  "mutorere": "Chases and blockades", "tictactoe-misere": "Rows of three and four", "notakto": "Rows of three and four", "hex-3": "Filling a board",
+  "ponghauki": "Chases and blockades", "hexapawn": "Chases and blockades", "picaria": "Rows of three and four", "toads": "Chases and blockades",
+  "krk": "Endings of chess", "kqk": "Endings of chess", "kpk": "Endings of chess", "foxhounds": "Chases and blockades", "tactix-1": "Taking counters",
+  "tactix-2": "Taking counters", "tactix-3": "Taking counters", "tactix-4": "Taking counters", "tactix-5": "Taking counters",
+  "tactix-1-misere": "Taking counters", "tactix-2-misere": "Taking counters", "tactix-3-misere": "Taking counters",
+  "tactix-4-misere": "Taking counters", "tactix-5-misere": "Taking counters", "countdown": "Numbers", "wheel": "Numbers", "takeaway": "Numbers",
+  "shisima": "Rows of three and four", "tapatan": "Rows of three and four"
 };
 const ADDS = {
   "domineering-4": 2, "tictactoe": 1, "threemens": 1, "achi": 1, "tictactoe-misere": 1, "notakto": 1, "hex-3": 1, "picaria": 1
@@ -119,8 +138,8 @@ const TURNS = {
 };
 const ROWS = {
   "dao": "rows columns squares corners", "tictactoe": "rows columns diagonals", "threemens": "rows columns", "achi": "rows columns diagonals",
-  "tictactoe-misere": "rows columns diagonals", "notakto": "rows columns diagonals", "picaria": "rows columns diagonals", "shisima": ["0c4", "1c5",
-  "2c6", "3c7"], "tapatan": ["123", "456", "789", "147", "258", "369", "159", "357"]
+  "tictactoe-misere": "rows columns diagonals", "notakto": "rows columns diagonals", "picaria": "rows columns diagonals",
+  "shisima": ["0c4", "1c5", "2c6", "3c7"], "tapatan": ["123", "456", "789", "147", "258", "369", "159", "357"]
 };
 
 // ---- The engine, in a thread of its own. It answers questions in turn. Its text unpacks to the script of that thread, a zero, and the module.

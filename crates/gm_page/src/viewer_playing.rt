@@ -26,7 +26,7 @@ function cancel() {
   $("edit").focus();
 }
 // The kinds of men that the game has.
-const kinds = () => [...game.men].flatMap((letter, kind) => !squared(game) || game.start.includes(letter) ? [kind] : []);
+const kinds = () => [...game.men].flatMap((letter, kind) => !squared(game) || hasMan(game, letter) ? [kind] : []);
 // Shows what belongs to editing, or hides it.
 function editing() {
   const many = editor && game.men.length > 0;
@@ -189,7 +189,10 @@ function layLengths() {
   const lengths = counts.map(([record]) => record).filter(isWon).sort((a, b) => a - b);
   $("length").replaceChildren(html("option", { value: "" }, "of any length"), ...lengths.map(it => html("option", { value: it }, `win in ${it % CODE}`)));
 }
-async function findPuzzle(records) {
+// How many moves are tries: they are not the fastest win, and the game is not lost or tied after them within two moves of each side.
+const isTry = (m, remoteness) => m.moveValue === "win" ? m.moveRemoteness > remoteness : m.moveValue === "draw" || m.moveRemoteness > 4;
+const triesOf = ({ moves, remoteness }) => moves.filter(m => isTry(m, remoteness)).length;
+async function findPuzzle(records, least) {
   const of = game, winning = ({ moves, remoteness }, fastest) => moves.filter(m => m.moveValue === "win" && (!fastest || m.moveRemoteness === remoteness));
   let second = null;
   for (let turn = 0; records.length && turn < 24 && !(second && turn >= 4); turn++) {
@@ -197,8 +200,8 @@ async function findPuzzle(records) {
     const texts = await Promise.all(Array.from({ length: 12 }, () => ask("random", { game: of.game, record })));
     const told = (await ask("ask", { game: of.game, text: texts.map(text => text + "\n").join("") })).trim().split("\n").map(it => JSON.parse(it));
     if (of !== game) return null;
-    const found = fastest => told.findIndex(it => it.moves.length > 1 && winning(it, fastest).length === 1);
-    const made = (k, fastest) => k < 0 ? null : { text: texts[k], left: told[k].remoteness, fastest };
+    const found = fastest => told.findIndex(it => it.moves.length > 1 && winning(it, fastest).length === 1 && triesOf(it) >= least);
+    const made = (k, fastest) => k < 0 ? null : { text: texts[k], left: told[k].remoteness, tries: triesOf(told[k]), fastest };
     const first = made(found(false), false);
     if (first) return first;
     second ??= made(found(true), true);
@@ -208,7 +211,7 @@ async function findPuzzle(records) {
 async function puzzle() {
   const of = game, wanted = $("length").value, records = counts.map(([record]) => record).filter(isWon);
   say("Looking for a puzzle.");
-  const found = await findPuzzle(wanted ? [Number(wanted)] : records);
+  const found = await findPuzzle(wanted ? [Number(wanted)] : records, Number($("least").value));
   if (of !== game) return;
   if (!found) return say("No such puzzle was found.");
   await begin(await find(found.text));
@@ -220,7 +223,7 @@ async function puzzle() {
   $("puzzle").textContent = "Next puzzle";
   draw();
   const only = found.fastest ? "is that fast" : "wins";
-  say(`A puzzle: ${game.sides[mine]} to move and win in ${found.left}, moves of both sides. Exactly one move ${only}: which?`);
+  say(`A puzzle: ${game.sides[mine]} to move and win in ${found.left}, moves of both sides. Exactly one move ${only}: which? It has ${found.tries} ${found.tries === 1 ? "try" : "tries"}.`);
 }
 // Returns the words for a puzzle's end.
 function solved() {

@@ -1,2 +1,3 @@
 pub mod ChildSteps
+pub mod LeastSteps
 mod PastSteps

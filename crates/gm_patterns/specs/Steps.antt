@@ -1,6 +1,6 @@
 -- Steps: a board that has the pattern before a step gets what the pattern after it says, and is as it was elsewhere.
-use Rattle.std.specs.Prelude.{ℕ, not, bit_or, List, [], ◌∷◌, map, length, if◌then◌else◌}
-use Rattle.std.specs.List.{range_with_len}
+use Rattle.std.specs.Prelude.{ℕ, Bool, not, bit_or, List, [], ◌∷◌, map, length, if◌then◌else◌}
+use Rattle.std.specs.List.{filter, flat_map, range_with_len}
 use Rattle.gm_board.specs.declared.cell.Cell.{Cell}
 use Rattle.gm_board.specs.declared.cell.Cell.TheVariants.{Empty, Mine, Theirs}
 use Rattle.gm_board.specs.Cells.{cell_at}
@@ -54,6 +54,10 @@ slide a c = record {
   before = both (mine_on (a ∷ [])) (empty_on (c ∷ []));
   after = both (empty_on (a ∷ [])) (mine_on (c ∷ []));
 }
+
+-- the same from each of n cells to each to which it is joined
+abbrev pub slides : ℕ → (ℕ → ℕ → Bool) → List Step
+slides n joined = flat_map (λ a. map (slide a) (filter (joined a) (range_with_len 0 n))) (range_with_len 0 n)
 
 -- a piece goes to a cell of an opponent's piece, which it takes
 abbrev pub capture : ℕ → ℕ → Step

@@ -1,37 +1,15 @@
-//! Which boards are legal, on which the game is over, and how the other player sees them.
-ghost use Rattle.std.specs.Prelude.{◌≡◌, true};
+//! On which boards a pattern ends the game, and how the other player sees a board.
+ghost use Rattle.std.specs.Prelude.{◌≡◌};
 ghost use Rattle.gm_board.specs.Images.{board_of};
-ghost use Rattle.gm_patterns.specs.PatternGames.{tier_on as tier_on_of, legal, turn_by, end_by_last_move as over_of, end_by_patterns as patterns_end, passed as passed_of};
+ghost use Rattle.gm_patterns.specs.PatternGames.{turn_by, end_by_patterns as patterns_end, passed as passed_of};
 
 use crate::pattern::has_some;
 use crate::rules::{Meaning, PatternRules};
-use crate::tiers::{can_have, tier_of};
 use gm_game::position::End;
 use gm_pieces::board::Board;
 
-/// Returns the tier of a board.
-#[tactic(auto, unfolding(crate::specs::PatternGames::tier_on))]
-pub fn tier_on<const CELLS: u32, T: PatternRules<CELLS>>(board: Board<CELLS>) -> u64
-    ensures { result ≡ tier_on_of T.game (board_of CELLS board.entry.mine board.entry.theirs) }
-{
-    tier_of::<CELLS, T>(
-        u64::from(board.own_pieces()),
-        u64::from(board.their_pieces()),
-    )
-}
-
-/// Returns whether the sides can have as many pieces as on a board, and it has none of the forbidden patterns.
-#[tactic(auto, using(gm_board::specs::laws::Images::board_length), unfolding(crate::specs::PatternGames::legal))]
-pub fn is_legal_board<const CELLS: u32, T: PatternRules<CELLS>>(board: Board<CELLS>) -> bool
-    ensures { result ≡ legal CELLS T.game (board_of CELLS board.entry.mine board.entry.theirs) }
-{
-    let mine = u64::from(board.own_pieces());
-    let theirs = u64::from(board.their_pieces());
-    can_have::<CELLS, T>(mine, theirs) && !has_some(board, T::patterns(Meaning::Forbidden))
-}
-
-// Returns how the patterns of a board end the game, if they do.
-fn end_by_patterns<const CELLS: u32, T: PatternRules<CELLS>>(board: Board<CELLS>) -> Option<End>
+/// Returns how the patterns of a board end the game, if they do.
+pub fn end_by_patterns<const CELLS: u32, T: PatternRules<CELLS>>(board: Board<CELLS>) -> Option<End>
     ensures { result ≡ patterns_end T.game (board_of CELLS board.entry.mine board.entry.theirs) }
 {
     if has_some(board, T::patterns(Meaning::Lost)) {
@@ -42,20 +20,6 @@ fn end_by_patterns<const CELLS: u32, T: PatternRules<CELLS>>(board: Board<CELLS>
         Some(End::Tie)
     } else {
         None
-    }
-}
-
-/// Returns how the last move has ended the game, if it has: by the numbers of pieces, or else by a pattern.
-#[tactic(auto, using(crate::specs::laws::MaskFacts::legal_few), unfolding(crate::specs::PatternGames::end_by_last_move))]
-pub fn end_by_last_move<const CELLS: u32, T: PatternRules<CELLS>>(
-    board: Board<CELLS>,
-) -> Option<End>
-    requires { legal CELLS T.game (board_of CELLS board.mine board.theirs) ≡ true }
-    ensures { result ≡ over_of T.game (board_of CELLS board.entry.mine board.entry.theirs) }
-{
-    match T::over(board.own_pieces(), board.their_pieces()) {
-        Some(end) => Some(end),
-        None => end_by_patterns::<CELLS, T>(board),
     }
 }
 

@@ -1,10 +1,10 @@
 //! Indexes: the boards of a tier on which the mover has no fewer pieces come first, numbered as arrangements.
-ghost use Rattle.std.specs.Prelude.{◌≡◌, ◌+◌, ◌^◌, ◌<◌, true};
+ghost use Rattle.std.specs.Prelude.{◌≡◌, ◌+◌, ◌^◌, ◌<◌};
 ghost use Rattle.gm_board.specs.Images.{board_of};
-ghost use Rattle.gm_patterns.specs.PatternGames.{boards_with as boards_in, boards_before as boards_first, size_of as size_in, board_at as board_in, legal};
+ghost use Rattle.gm_patterns.specs.PatternGames.{boards_with as boards_in, boards_before as boards_first};
 
 use crate::rules::PatternRules;
-use crate::tiers::{can_have, numbers_in};
+use crate::tiers::can_have;
 use gm_board::arrangement::Arrangement;
 use gm_pieces::board::Board;
 
@@ -27,24 +27,6 @@ pub fn boards_with<const CELLS: u32, T: PatternRules<CELLS>>(mine: u64, theirs: 
     }
 }
 
-/// Returns how many indexes a tier has.
-#[tactic(auto, unfolding(crate::specs::PatternGames::size_of))]
-pub fn size_of<const CELLS: u32, T: PatternRules<CELLS>>(tier: u64) -> u64
-    ensures { result ≡ size_in CELLS T.game tier }
-{
-    let (more, fewer) = numbers_in::<CELLS, T>(tier);
-    if fewer > more {
-        return 0;
-    }
-    let first = boards_with::<CELLS, T>(more, fewer);
-    let rest = if more == fewer {
-        0
-    } else {
-        boards_with::<CELLS, T>(fewer, more)
-    };
-    first + rest
-}
-
 /// Returns how many boards of its tier come before those with the numbers of pieces of a board.
 #[tactic(auto, unfolding(crate::specs::PatternGames::boards_before))]
 pub fn boards_before<const CELLS: u32, T: PatternRules<CELLS>>(board: Board<CELLS>) -> u64
@@ -57,20 +39,5 @@ pub fn boards_before<const CELLS: u32, T: PatternRules<CELLS>>(board: Board<CELL
         0
     } else {
         boards_with::<CELLS, T>(theirs, mine)
-    }
-}
-
-/// Returns the board of a tier with this index.
-#[tactic(auto, using(crate::specs::laws::MaskFacts::cells_few, crate::specs::laws::IndexFacts::size_few, crate::specs::laws::IndexFacts::first_fits, crate::specs::laws::IndexFacts::rest_fits), unfolding(crate::specs::PatternGames::board_at))]
-pub fn board_at<const CELLS: u32, T: PatternRules<CELLS>>(tier: u64, index: u64) -> Board<CELLS>
-    requires { index < size_in CELLS T.game tier }
-    ensures { board_of CELLS result.mine result.theirs ≡ board_in CELLS T.game tier index }
-{
-    let (more, fewer) = numbers_in::<CELLS, T>(tier);
-    let first = boards_with::<CELLS, T>(more, fewer);
-    if index < first {
-        Board::numbered(more as u32, fewer as u32, index)
-    } else {
-        Board::numbered(fewer as u32, more as u32, index - first)
     }
 }

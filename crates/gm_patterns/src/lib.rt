@@ -5,7 +5,6 @@ pub mod boards;
 pub mod indexes;
 pub mod least;
 pub mod lesser;
-pub mod moves;
 pub mod on_patterns;
 pub mod pattern;
 pub mod picture;

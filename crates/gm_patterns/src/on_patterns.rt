@@ -8,13 +8,13 @@ ghost use Rattle.gm_patterns.specs.PatternTexts.{step_text as step_text_of};
 ghost use Rattle.gm_patterns.specs.laws.PatternLaws.{pattern_lawful, pattern_numbered, pattern_symmetric};
 ghost use Rattle.gm_patterns.specs.laws.PatternTextLaws.{pattern_readable};
 
-use crate::boards::{end_by_last_move, is_legal_board, tier_on};
-use crate::indexes::{board_at, boards_before, size_of};
+use crate::boards::{end_by_patterns, passed};
+use crate::indexes::{boards_before, boards_with};
 use crate::lesser::past_lesser;
-use crate::moves::{can_have_led_here, can_move, moved, undo};
-use crate::rules::PatternRules;
+use crate::pattern::has_some;
+use crate::rules::{Meaning, PatternRules};
 use crate::text::name_of;
-use crate::tiers::{child_tiers, rank_of, step_at, step_count};
+use crate::tiers::{as_children, can_have, numbers_in, put_children, step_at, step_count, tier_of};
 use arrayvec::ArrayVec;
 use gm_game::limits::{CHILD_TIERS, NAME};
 use gm_game::position::{End, Position};
@@ -57,37 +57,79 @@ impl<const CELLS: u32, T: PatternRules<CELLS>> MoveRules for PatternMoves<CELLS,
     fn initial() -> Position {
         let start = T::basics().start;
         Position {
-            tier: tier_on::<CELLS, T>(start),
+            tier: Self::tier(start),
             index: Self::index(start),
         }
     }
 
+    #[tactic(auto, unfolding(crate::specs::PatternGames::size_of))]
     fn tier_size(tier: u64) -> u64 {
-        size_of::<CELLS, T>(tier)
+        let (more, fewer) = numbers_in::<CELLS, T>(tier);
+        if fewer > more {
+            return 0;
+        }
+        let first = boards_with::<CELLS, T>(more, fewer);
+        let rest = if more == fewer {
+            0
+        } else {
+            boards_with::<CELLS, T>(fewer, more)
+        };
+        first + rest
     }
 
+    #[tactic(auto, unfolding(crate::specs::PatternGames::child_tiers))]
     fn child_tiers(tier: u64) -> ArrayVec<u64, CHILD_TIERS> {
-        child_tiers::<CELLS, T>(tier)
+        let (more, fewer) = numbers_in::<CELLS, T>(tier);
+        if more + fewer > u64::from(CELLS) {
+            return ArrayVec::new();
+        }
+        if fewer > more {
+            return ArrayVec::new();
+        }
+        let mut list = ArrayVec::new();
+        put_children::<CELLS, T>(tier, more, fewer, &mut list);
+        put_children::<CELLS, T>(tier, fewer, more, &mut list);
+        as_children(list.as_slice())
     }
 
+    #[tactic(auto, unfolding(crate::specs::PatternGames::rank_of))]
     fn tier_rank(tier: u64) -> u64 {
-        rank_of::<CELLS, T>(tier)
+        let (more, fewer) = numbers_in::<CELLS, T>(tier);
+        if T::basics().adds {
+            u64::from(CELLS).saturating_sub(more + fewer)
+        } else {
+            more + fewer
+        }
     }
 
     fn move_number_bound(tier: u64) -> u32 {
         step_count::<CELLS, T>(tier)
     }
 
+    #[tactic(auto, using(crate::specs::laws::MaskFacts::cells_few, crate::specs::laws::IndexFacts::size_few, crate::specs::laws::IndexFacts::first_fits, crate::specs::laws::IndexFacts::rest_fits), unfolding(crate::specs::PatternGames::board_at))]
     fn board(tier: u64, index: u64) -> Board<CELLS> {
-        board_at::<CELLS, T>(tier, index)
+        let (more, fewer) = numbers_in::<CELLS, T>(tier);
+        let first = boards_with::<CELLS, T>(more, fewer);
+        if index < first {
+            Board::numbered(more as u32, fewer as u32, index)
+        } else {
+            Board::numbered(fewer as u32, more as u32, index - first)
+        }
     }
 
+    #[tactic(auto, using(gm_board::specs::laws::Images::board_length), unfolding(crate::specs::PatternGames::legal))]
     fn is_legal_board(board: Board<CELLS>) -> bool {
-        is_legal_board::<CELLS, T>(board)
+        let mine = u64::from(board.own_pieces());
+        let theirs = u64::from(board.their_pieces());
+        can_have::<CELLS, T>(mine, theirs) && !has_some(board, T::patterns(Meaning::Forbidden))
     }
 
+    #[tactic(auto, unfolding(crate::specs::PatternGames::tier_on))]
     fn tier(board: Board<CELLS>) -> u64 {
-        tier_on::<CELLS, T>(board)
+        tier_of::<CELLS, T>(
+            u64::from(board.own_pieces()),
+            u64::from(board.their_pieces()),
+        )
     }
 
     #[tactic(auto, using(crate::specs::laws::IndexFacts::index_small), unfolding(crate::specs::PatternGames::index_on))]
@@ -100,28 +142,40 @@ impl<const CELLS: u32, T: PatternRules<CELLS>> MoveRules for PatternMoves<CELLS,
         boards_before::<CELLS, T>(board) + T::least_index(&board)
     }
 
+    #[tactic(auto, using(crate::specs::laws::MaskFacts::legal_few), unfolding(crate::specs::PatternGames::end_by_last_move))]
     fn end_by_last_move(board: Board<CELLS>) -> Option<End> {
-        end_by_last_move::<CELLS, T>(board)
+        match T::over(board.own_pieces(), board.their_pieces()) {
+            Some(end) => Some(end),
+            None => end_by_patterns::<CELLS, T>(board),
+        }
     }
 
     fn end_if_no_move(_board: Board<CELLS>) -> End {
         T::basics().stuck
     }
 
+    #[tactic(auto, unfolding(crate::specs::PatternGames::can_move))]
     fn can_move(board: Board<CELLS>, number: u32) -> bool {
-        can_move::<CELLS, T>(board, number)
+        step_at::<CELLS, T>(Self::tier(board), number)
+            .before
+            .fits(board)
     }
 
+    #[tactic(auto, unfolding(crate::specs::PatternGames::moved))]
     fn moved(board: Board<CELLS>, number: u32) -> Board<CELLS> {
-        moved::<CELLS, T>(board, number)
+        passed::<CELLS, T>(step_at::<CELLS, T>(Self::tier(board), number).made(board))
     }
 
+    #[tactic(auto, unfolding(crate::specs::PatternGames::can_have_led_here))]
     fn can_have_led_here(tier: u64, board: Board<CELLS>, number: u32) -> bool {
-        can_have_led_here::<CELLS, T>(tier, board, number)
+        step_at::<CELLS, T>(tier, number)
+            .after
+            .fits(passed::<CELLS, T>(board))
     }
 
+    #[tactic(auto, unfolding(crate::specs::PatternGames::undo))]
     fn undo(tier: u64, board: Board<CELLS>, number: u32) -> Board<CELLS> {
-        undo::<CELLS, T>(tier, board, number)
+        step_at::<CELLS, T>(tier, number).taken_back(passed::<CELLS, T>(board))
     }
 
     fn board_text(board: Board<CELLS>) -> Line {
@@ -137,7 +191,7 @@ impl<const CELLS: u32, T: PatternRules<CELLS>> MoveRules for PatternMoves<CELLS,
     fn move_text(board: Board<CELLS>, number: u32) -> Line {
         name_of(
             T::basics().names,
-            step_at::<CELLS, T>(tier_on::<CELLS, T>(board), number),
+            step_at::<CELLS, T>(Self::tier(board), number),
         )
     }
 
@@ -156,7 +210,7 @@ impl<const CELLS: u32, T: PatternRules<CELLS>> MoveLists for PatternMoves<CELLS,
         let end = hi.min(Self::tier_size(tier));
         let mut index = lo;
         while index < end {
-            let board = board_at::<CELLS, T>(tier, index);
+            let board = Self::board(tier, index);
             let next = past_lesser::<CELLS, T>(tier, index, board);
             if next > index {
                 index = next;

@@ -39,71 +39,55 @@ macro_rules! row {
             not_theirs: $not_theirs,
         }
     };
+    (step $from:expr, $to:expr, $before:expr, $after:expr) => {
+        $crate::step::Step {
+            from: $from,
+            to: $to,
+            before: $before,
+            after: $after,
+        }
+    };
+    (moved $a:expr, $c:expr, $not_empty:expr, $not_mine:expr, $not_theirs:expr) => {
+        $crate::row!(step $a, $c,
+            $crate::row!(pattern $not_empty, $not_mine, $not_theirs),
+            $crate::row!(pattern 1 << $c, 1 << $a, 1 << $a | 1 << $c))
+    };
     (place $k:literal) => {
         $crate::row!(cover $k $k)
     };
     (stack $k:literal $below:literal) => {
-        $crate::step::Step {
-            from: $k,
-            to: $k,
-            before: $crate::row!(pattern 1 << $below, 1 << $k, 1 << $k),
-            after: $crate::row!(mine_on 1 << $k),
-        }
+        $crate::row!(step $k, $k,
+            $crate::row!(pattern 1 << $below, 1 << $k, 1 << $k),
+            $crate::row!(mine_on 1 << $k))
     };
     (cover $a:literal $c:literal) => {
-        $crate::step::Step {
-            from: $a,
-            to: $c,
-            before: $crate::row!(empty_on 1 << $a | 1 << $c),
-            after: $crate::row!(mine_on 1 << $a | 1 << $c),
-        }
+        $crate::row!(step $a, $c,
+            $crate::row!(empty_on 1 << $a | 1 << $c),
+            $crate::row!(mine_on 1 << $a | 1 << $c))
     };
     (take $a:literal $c:literal) => {
-        $crate::step::Step {
-            from: $a,
-            to: $c,
-            before: $crate::row!(mine_on 1 << $a | 1 << $c),
-            after: $crate::row!(empty_on 1 << $a | 1 << $c),
-        }
+        $crate::row!(step $a, $c,
+            $crate::row!(mine_on 1 << $a | 1 << $c),
+            $crate::row!(empty_on 1 << $a | 1 << $c))
     };
     (slide $a:literal $c:literal) => {
-        $crate::step::Step {
-            from: $a,
-            to: $c,
-            before: $crate::row!(pattern 1 << $a, 1 << $c, 1 << $a | 1 << $c),
-            after: $crate::row!(pattern 1 << $c, 1 << $a, 1 << $a | 1 << $c),
-        }
+        $crate::row!(moved $a, $c, 1 << $a, 1 << $c, 1 << $a | 1 << $c)
+    };
+    (slide_if $a:literal $c:literal $not_empty:literal $not_mine:literal $not_theirs:literal) => {
+        $crate::row!(moved $a, $c, $not_empty | 1 << $a, $not_mine | 1 << $c, $not_theirs | (1 << $a | 1 << $c))
     };
     (capture $a:literal $c:literal) => {
-        $crate::step::Step {
-            from: $a,
-            to: $c,
-            before: $crate::row!(pattern 1 << $a | 1 << $c, 1 << $c, 1 << $a),
-            after: $crate::row!(pattern 1 << $c, 1 << $a, 1 << $a | 1 << $c),
-        }
+        $crate::row!(moved $a, $c, 1 << $a | 1 << $c, 1 << $c, 1 << $a)
     };
     (jump $a:literal $m:literal $c:literal) => {
-        $crate::step::Step {
-            from: $a,
-            to: $c,
-            before: $crate::row!(pattern 1 << $a | 1 << $m, 1 << $m | 1 << $c, 1 << $a | 1 << $c),
-            after: $crate::row!(pattern 1 << $c, 1 << $a | 1 << $m, 1 << $a | 1 << $m | 1 << $c),
-        }
+        $crate::row!(step $a, $c,
+            $crate::row!(pattern 1 << $a | 1 << $m, 1 << $m | 1 << $c, 1 << $a | 1 << $c),
+            $crate::row!(pattern 1 << $c, 1 << $a | 1 << $m, 1 << $a | 1 << $m | 1 << $c))
     };
     (hop $a:literal $m:literal $c:literal) => {
-        $crate::step::Step {
-            from: $a,
-            to: $c,
-            before: $crate::row!(pattern 1 << $a | 1 << $m, 1 << $m | 1 << $c, 1 << $a | 1 << $c),
-            after: $crate::row!(pattern 1 << $c, 1 << $a, 1 << $a | 1 << $c),
-        }
+        $crate::row!(moved $a, $c, 1 << $a | 1 << $m, 1 << $m | 1 << $c, 1 << $a | 1 << $c)
     };
     (vault $a:literal $m:literal $c:literal) => {
-        $crate::step::Step {
-            from: $a,
-            to: $c,
-            before: $crate::row!(pattern 1 << $a | 1 << $m | 1 << $c, 1 << $c, 1 << $a | 1 << $m),
-            after: $crate::row!(pattern 1 << $c, 1 << $a, 1 << $a | 1 << $c),
-        }
+        $crate::row!(moved $a, $c, 1 << $a | 1 << $m | 1 << $c, 1 << $c, 1 << $a | 1 << $m)
     };
 }

@@ -1,4 +1,4 @@
-//! Tiers: the boards on which one side has so many pieces and the other so many; their steps, child tiers and ranks.
+//! Tiers: the boards on which one side has so many pieces and the other so many; their steps and child tiers.
 ghost use Rattle.std.specs.Prelude.{◌≡◌, ◌+◌, ◌-◌, ◌^◌, ◌<◌, ◌≤◌, length, replicate};
 ghost use Rattle.gm_board.specs.declared.cell.Cell.{Cell as BoardCell};
 ghost use Rattle.gm_board.specs.Images.{board_of};
@@ -6,7 +6,7 @@ ghost use Rattle.std.specs.List.{filter_map};
 ghost use Rattle.gm_game.specs.Ascending.{put_all};
 ghost use Rattle.gm_game.specs.declared.limits.TheConstants.{CHILD_TIERS, PARENTS};
 ghost use Rattle.gm_patterns.specs.Steps.{cells_in};
-ghost use Rattle.gm_patterns.specs.PatternGames.{tier_of as tier_number, can_have as can_have_in, can_play as can_play_in, steps_of as steps_in, step_at as step_in, rank_of as rank_in, tier_by as tier_number_by, more_by, fewer_by, more, fewer, child_by as child_in, child_tiers as children_in};
+ghost use Rattle.gm_patterns.specs.PatternGames.{tier_of as tier_number, can_have as can_have_in, can_play as can_play_in, steps_of as steps_in, step_at as step_in, more, fewer, child_by as child_in};
 
 use crate::rules::{PatternRules, Tiers};
 use crate::step::Step;
@@ -15,36 +15,6 @@ use gm_game::limits::{CHILD_TIERS, PARENTS};
 use gm_pieces::ascending::put;
 use gm_pieces::board::Board;
 
-// Returns the number of the tier of the boards on which one side has so many pieces and the other so many.
-fn tier_by(tiers: Tiers, mine: u64, theirs: u64) -> u64
-    requires mine { mine < 2 ^ 32 }
-    requires theirs { theirs < 2 ^ 32 }
-    ensures { result ≡ tier_number_by tiers mine theirs }
-{
-    match tiers {
-        Tiers::Sides => 100 * mine.max(theirs) + mine.min(theirs),
-        Tiers::Placed | Tiers::Common => mine + theirs,
-        Tiers::Single(_) => 0,
-    }
-}
-
-// Returns how many pieces the side with more of them has in a tier, and how many the other side.
-fn numbers_by(tiers: Tiers, tier: u64) -> (u64, u64)
-    ensures more { result.0 ≡ more_by tiers tier }
-    ensures fewer { result.1 ≡ fewer_by tiers tier }
-    ensures fits { result.0 + result.1 < 2 ^ 64 }
-{
-    match tiers {
-        Tiers::Sides => (tier / 100, tier % 100),
-        Tiers::Placed => (tier - tier / 2, tier / 2),
-        Tiers::Common => (tier, 0),
-        Tiers::Single(pieces) => {
-            let each = u64::from(pieces);
-            (each, if tier == 0 { each } else { each + 1 })
-        }
-    }
-}
-
 /// Returns the number of the tier of the boards on which one side has so many pieces and the other so many.
 #[inline(always)]
 pub fn tier_of<const CELLS: u32, T: PatternRules<CELLS>>(mine: u64, theirs: u64) -> u64
@@ -52,7 +22,11 @@ pub fn tier_of<const CELLS: u32, T: PatternRules<CELLS>>(mine: u64, theirs: u64)
     requires theirs { theirs < 2 ^ 32 }
     ensures { result ≡ tier_number T.game mine theirs }
 {
-    tier_by(T::basics().tiers, mine, theirs)
+    match T::basics().tiers {
+        Tiers::Sides => 100 * mine.max(theirs) + mine.min(theirs),
+        Tiers::Placed | Tiers::Common => mine + theirs,
+        Tiers::Single(_) => 0,
+    }
 }
 
 /// Returns how many pieces the side with more of them has in a tier, and how many the other side.
@@ -62,7 +36,15 @@ pub fn numbers_in<const CELLS: u32, T: PatternRules<CELLS>>(tier: u64) -> (u64, 
     ensures fewer { result.1 ≡ fewer T.game tier }
     ensures fits { result.0 + result.1 < 2 ^ 64 }
 {
-    numbers_by(T::basics().tiers, tier)
+    match T::basics().tiers {
+        Tiers::Sides => (tier / 100, tier % 100),
+        Tiers::Placed => (tier - tier / 2, tier / 2),
+        Tiers::Common => (tier, 0),
+        Tiers::Single(pieces) => {
+            let each = u64::from(pieces);
+            (each, if tier == 0 { each } else { each + 1 })
+        }
+    }
 }
 
 /// Returns whether the mover and the opponent can have these numbers of pieces.
@@ -93,19 +75,6 @@ pub fn steps_of<const CELLS: u32, T: PatternRules<CELLS>>(tier: u64) -> &'static
         T::steps((more + fewer) as u32)
     } else {
         &[]
-    }
-}
-
-/// Returns a number that is less for each child tier.
-#[tactic(auto, unfolding(crate::specs::PatternGames::rank_of))]
-pub fn rank_of<const CELLS: u32, T: PatternRules<CELLS>>(tier: u64) -> u64
-    ensures { result ≡ rank_in CELLS T.game tier }
-{
-    let (more, fewer) = numbers_in::<CELLS, T>(tier);
-    if T::basics().adds {
-        u64::from(CELLS).saturating_sub(more + fewer)
-    } else {
-        more + fewer
     }
 }
 
@@ -172,8 +141,8 @@ fn child_by<const CELLS: u32, T: PatternRules<CELLS>>(
     (child != tier_of::<CELLS, T>(mine, theirs)).then_some(child)
 }
 
-// Puts the other tiers to which the steps of a tier lead from these numbers of pieces into a list.
-fn put_children<const CELLS: u32, T: PatternRules<CELLS>>(
+/// Puts the other tiers to which the steps of a tier lead from these numbers of pieces into a list.
+pub fn put_children<const CELLS: u32, T: PatternRules<CELLS>>(
     tier: u64,
     mine: u64,
     theirs: u64,
@@ -191,32 +160,12 @@ fn put_children<const CELLS: u32, T: PatternRules<CELLS>>(
     }
 }
 
-// Returns a short list of tiers as one of child tiers.
-fn as_children(list: &[u64]) -> ArrayVec<u64, CHILD_TIERS>
+/// Returns a short list of tiers as one of child tiers.
+pub fn as_children(list: &[u64]) -> ArrayVec<u64, CHILD_TIERS>
     requires { length list.now ≤ CHILD_TIERS }
     ensures { result.items ≡ list.now }
 {
     let mut children = ArrayVec::new();
     let _fits = children.try_extend_from_slice(list);
     children
-}
-
-/// Returns the other tiers to which steps from a tier lead, ascending.
-#[tactic(auto, unfolding(crate::specs::PatternGames::child_tiers))]
-pub fn child_tiers<const CELLS: u32, T: PatternRules<CELLS>>(
-    tier: u64,
-) -> ArrayVec<u64, CHILD_TIERS>
-    ensures { result.items ≡ children_in CELLS T.game tier }
-{
-    let (more, fewer) = numbers_in::<CELLS, T>(tier);
-    if more + fewer > u64::from(CELLS) {
-        return ArrayVec::new();
-    }
-    if fewer > more {
-        return ArrayVec::new();
-    }
-    let mut list = ArrayVec::new();
-    put_children::<CELLS, T>(tier, more, fewer, &mut list);
-    put_children::<CELLS, T>(tier, fewer, more, &mut list);
-    as_children(list.as_slice())
 }

@@ -5,7 +5,8 @@ use Rattle.gm_draw.specs.Pictures.{PictureSpec, x_moves}
 use Rattle.gm_draw.specs.GameSpecs.{GameSpec}
 use Rattle.gm_draw.specs.Points.{square_naming}
 use Rattle.gm_patterns.specs.PatternPictures.{pattern_spec, on_square, common_naming}
-use Rattle.gm_placing.specs.RowRules.{tictactoe_misere, tictactoe_four, notakto}
+pub use Rattle.gm_morris.specs.NinePicture.{tictactoe_misere_spec}
+use Rattle.gm_placing.specs.RowRules.{tictactoe_four, notakto}
 use Rattle.gm_placing.specs.HexRules.{hex_three, hex_four}
 use Rattle.gm_placing.specs.SimRules.{sim}
 
@@ -15,20 +16,6 @@ place_naming = square_naming ++ codes "A move is the cell that is taken.\n"
 
 abbrev pub hex_naming : List ℕ
 hex_naming = square_naming ++ codes "The side to move joins the first row to the last.\nA move is the cell that is taken.\n"
-
-unfoldable pub tictactoe_misere_picture : PictureSpec
-tictactoe_misere_picture = record {
-  title = codes "Misere Tic-Tac-Toe";
-  style = Crosses;
-  board = codes "    1   2   3\na   A | B | C\n   ---+---+---\nb   D | E | F\n   ---+---+---\nc   G | H | I";
-  rows = [];
-  points = tictactoe_misere.names;
-  mover = x_moves;
-  naming = place_naming;
-}
-
-abbrev pub tictactoe_misere_spec : GameSpec
-tictactoe_misere_spec = pattern_spec 9 tictactoe_misere tictactoe_misere_picture
 
 unfoldable pub tictactoe_four_picture : PictureSpec
 tictactoe_four_picture = record {

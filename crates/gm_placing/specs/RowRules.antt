@@ -1,5 +1,5 @@
 -- The rules of games of rows: on a square of side s the players place pieces by turns, and a line of one side's pieces ends the game.
-use Rattle.std.specs.Prelude.{ℕ, ◌+◌, ◌-◌, ◌*◌, ◌==◌, ◌||◌, Bool, true, false, List, [], ◌∷◌, ◌++◌, map, replicate, codes, if◌then◌else◌, None}
+use Rattle.std.specs.Prelude.{ℕ, ◌+◌, ◌-◌, ◌*◌, ◌==◌, ◌||◌, true, false, List, [], ◌∷◌, ◌++◌, map, replicate, codes, None}
 use Rattle.std.specs.List.{range_with_len}
 use Rattle.gm_board.specs.Squares.{square_symmetries}
 use Rattle.gm_board.specs.declared.cell.Cell.TheVariants.{Empty}
@@ -21,9 +21,9 @@ lines s =
     ++ map (λ k. run s k s) (range_with_len 0 s)
     ++ run s 0 (s + 1) ∷ run s (s - 1) (s - 1) ∷ []
 
--- the game on a square of side s: the player who has made a line has won, or in misere play has lost; a full board without a line is a tie
-abbrev pub rows_with : List ℕ → ℕ → Bool → PatternGame
-rows_with name s misere = record {
+-- the game on a square of side s: the player who has made a line has won; a full board without a line is a tie
+abbrev pub rows_with : List ℕ → ℕ → PatternGame
+rows_with name s = record {
   name = name;
   start = replicate (s * s) Empty;
   names = square_points s;
@@ -36,28 +36,25 @@ rows_with name s misere = record {
   swapped = true;
   turn = None;
   forbidden = map mine_on (lines s);
-  lost = if misere then [] else map theirs_on (lines s);
-  won = if misere then map theirs_on (lines s) else [];
+  lost = map theirs_on (lines s);
+  won = [];
   tied = [];
   stuck = Tie;
   symmetries = square_symmetries s;
 }
 
--- Tic-tac-toe in which a line loses
-abbrev pub tictactoe_misere : PatternGame
-tictactoe_misere = rows_with (codes "tictactoe-misere") 3 true
-
 -- Tic-tac-toe on four by four: a line of four wins
 abbrev pub tictactoe_four : PatternGame
-tictactoe_four = rows_with (codes "tictactoe-4" ++ replicate 5 0) 4 false
+tictactoe_four = rows_with (codes "tictactoe-4" ++ replicate 5 0) 4
 
 -- Notakto: the pieces belong to both players, and the player who makes a line loses
 abbrev pub notakto : PatternGame
-notakto = record (rows_with (codes "notakto" ++ replicate 9 0) 3 true) {
+notakto = record (rows_with (codes "notakto" ++ replicate 9 0) 3) {
   numbers = λ mine theirs. theirs == 0;
   tiers = Common;
   swapped = false;
   forbidden = [];
+  lost = [];
   won = map mine_on (lines 3);
   stuck = Win;
 }

@@ -1,3 +1,2 @@
 -- What follows from the rules.
 pub mod PlacingTables
-pub mod PlacingPictured

@@ -1,13 +1,10 @@
 //! What these games look like.
 ghost use Rattle.std.specs.Prelude.{◌≡◌};
-ghost use Rattle.gm_placing.specs.PlacingPictures.{tictactoe_misere_picture, tictactoe_four_picture, notakto_picture, hex_three_picture, hex_four_picture, sim_picture};
-ghost use Rattle.gm_placing.specs.laws.PlacingPictured.{tictactoe_misere_pictured, tictactoe_four_pictured, notakto_pictured, hex_three_pictured, hex_four_pictured, sim_pictured};
-ghost use Rattle.gm_placing.specs.laws.PlacingTables.{misere_tables, tictactoe_four_tables, notakto_tables, hex_three_tables, hex_four_tables, sim_tables};
+ghost use Rattle.gm_placing.specs.PlacingPictures.{tictactoe_four_picture, notakto_picture, hex_three_picture, hex_four_picture, sim_picture};
+ghost use Rattle.gm_placing.specs.laws.PlacingTables.{tictactoe_four_pictured, notakto_pictured, hex_three_pictured, hex_four_pictured, sim_pictured};
 
 use crate::hex::{HexFour, HexFourRules, HexThree, HexThreeRules};
-use crate::rows::{
-    Notakto, NotaktoRules, TicTacToeFour, TicTacToeFourRules, TicTacToeMisere, TicTacToeMisereRules,
-};
+use crate::rows::{Notakto, NotaktoRules, TicTacToeFour, TicTacToeFourRules};
 use crate::sim::{LINES, Sim, SimRules};
 use gm_draw::cells::square_cells;
 use gm_draw::pictured::{Mover, Picture, Pictured, Style};
@@ -25,29 +22,10 @@ const COMMON_PLACES: &[u8] =
 const HEX: &[u8] =
     b"A cell is its row and its column, as a1.\nA position is its cells, row by row: x for the\nside to move, o for the other, . where it is empty\nThe side to move joins the first row to the last.\nA move is the cell that is taken.\n";
 
-impl PicturedPatterns<9> for TicTacToeMisereRules {
-    ghost picture = { tictactoe_misere_picture };
-
-    ghost pictured = { tictactoe_misere_pictured misere_tables };
-
-    #[tactic(auto, unfolding(crate::specs::PlacingPictures::tictactoe_misere_picture, gm_draw::specs::Points::square_points))]
-    fn picture() -> Picture {
-        Picture {
-            title: b"Misere Tic-Tac-Toe",
-            style: Style::Crosses,
-            board: b"    1   2   3\na   A | B | C\n   ---+---+---\nb   D | E | F\n   ---+---+---\nc   G | H | I",
-            rows: &[],
-            points: square_cells(3),
-            mover: Mover::Same(b"x"),
-            naming: PLACES,
-        }
-    }
-}
-
 impl PicturedPatterns<16> for TicTacToeFourRules {
     ghost picture = { tictactoe_four_picture };
 
-    ghost pictured = { tictactoe_four_pictured tictactoe_four_tables };
+    ghost pictured = { tictactoe_four_pictured };
 
     #[tactic(auto, unfolding(crate::specs::PlacingPictures::tictactoe_four_picture, gm_draw::specs::Points::square_points))]
     fn picture() -> Picture {
@@ -66,7 +44,7 @@ impl PicturedPatterns<16> for TicTacToeFourRules {
 impl PicturedPatterns<9> for NotaktoRules {
     ghost picture = { notakto_picture };
 
-    ghost pictured = { notakto_pictured notakto_tables };
+    ghost pictured = { notakto_pictured };
 
     #[tactic(auto, unfolding(crate::specs::PlacingPictures::notakto_picture))]
     fn picture() -> Picture {
@@ -77,7 +55,7 @@ impl PicturedPatterns<9> for NotaktoRules {
 impl PicturedPatterns<9> for HexThreeRules {
     ghost picture = { hex_three_picture };
 
-    ghost pictured = { hex_three_pictured hex_three_tables };
+    ghost pictured = { hex_three_pictured };
 
     #[tactic(auto, unfolding(crate::specs::PlacingPictures::hex_three_picture, gm_draw::specs::Points::square_points))]
     fn picture() -> Picture {
@@ -96,7 +74,7 @@ impl PicturedPatterns<9> for HexThreeRules {
 impl PicturedPatterns<16> for HexFourRules {
     ghost picture = { hex_four_picture };
 
-    ghost pictured = { hex_four_pictured hex_four_tables };
+    ghost pictured = { hex_four_pictured };
 
     #[tactic(auto, unfolding(crate::specs::PlacingPictures::hex_four_picture, gm_draw::specs::Points::square_points))]
     fn picture() -> Picture {
@@ -115,7 +93,7 @@ impl PicturedPatterns<16> for HexFourRules {
 impl PicturedPatterns<15> for SimRules {
     ghost picture = { sim_picture };
 
-    ghost pictured = { sim_pictured sim_tables };
+    ghost pictured = { sim_pictured };
 
     #[tactic(auto, unfolding(crate::specs::PlacingPictures::sim_picture))]
     fn picture() -> Picture {
@@ -133,7 +111,6 @@ impl PicturedPatterns<15> for SimRules {
 
 /// Has no effect; its contract states what these games look like.
 pub fn placing_is_drawn()
-    ensures tictactoe_misere { ⟦<TicTacToeMisere as Pictured>⟧.picture ≡ tictactoe_misere_picture }
     ensures tictactoe_four { ⟦<TicTacToeFour as Pictured>⟧.picture ≡ tictactoe_four_picture }
     ensures notakto { ⟦<Notakto as Pictured>⟧.picture ≡ notakto_picture }
     ensures hex_three { ⟦<HexThree as Pictured>⟧.picture ≡ hex_three_picture }

@@ -1,14 +1,15 @@
-//! Games of rows: misere Tic-tac-toe, Tic-tac-toe on four by four, and Notakto.
+//! Games of rows: Tic-tac-toe on four by four, and Notakto. Misere Tic-tac-toe is a game of nine points.
 ghost use Rattle.std.specs.Prelude.{◌≡◌};
 ghost use Rattle.gm_patterns.specs.PatternGames.{pattern_rules};
 ghost use Rattle.gm_patterns.specs.PatternTexts.{pattern_text, pattern_move_text};
-ghost use Rattle.gm_placing.specs.RowRules.{tictactoe_misere as misere_game, tictactoe_four as four_game, notakto as notakto_game};
-ghost use Rattle.gm_placing.specs.laws.PlacingTables.{misere_tables, tictactoe_four_tables, notakto_tables};
+ghost use Rattle.gm_placing.specs.RowRules.{tictactoe_four as four_game, notakto as notakto_game};
+ghost use Rattle.gm_placing.specs.laws.PlacingTables.{tictactoe_four_tables, notakto_tables};
 
 use gm_draw::cells::square_cells;
 use gm_game::game::Game;
 use gm_game::position::End;
 use gm_game::shown::Shown;
+pub use gm_morris::games::{TicTacToeMisere, tictactoe_misere_is};
 use gm_patterns::on_patterns::OnPatterns;
 use gm_patterns::pattern::Pattern;
 use gm_patterns::rules::{Basics, Meaning, PatternRules, Tiers};
@@ -26,10 +27,6 @@ const SIXTEEN: [Step; 16] = table![place 0, 1, 2, 3, 4, 5, 6, 7, 8, 9, 10, 11, 1
 const THREE_MINE: [Pattern; 8] =
     table![mine_on 0o007, 0o070, 0o700, 0o111, 0o222, 0o444, 0o421, 0o124];
 
-/// Lines of three of the opponent's.
-const THREE_THEIRS: [Pattern; 8] =
-    table![theirs_on 0o007, 0o070, 0o700, 0o111, 0o222, 0o444, 0o421, 0o124];
-
 /// Lines of four of the mover's. Each hexadecimal digit of a mask is a row.
 const FOUR_MINE: [Pattern; 10] = table![
     mine_on
@@ -41,67 +38,6 @@ const FOUR_THEIRS: [Pattern; 10] = table![
     theirs_on
     0x000f, 0x00f0, 0x0f00, 0xf000, 0x1111, 0x2222, 0x4444, 0x8888, 0x8421, 0x1248
 ];
-
-/// The tables of misere Tic-tac-toe.
-#[derive(Drop)]
-pub struct TicTacToeMisereRules;
-
-/// Misere Tic-tac-toe: who fills a line loses (docs/GAMES.md, games of placing).
-pub type TicTacToeMisere = OnPatterns<9, TicTacToeMisereRules>;
-
-impl PatternRules<9> for TicTacToeMisereRules {
-    ghost game = { misere_game };
-
-    #[tactic(auto, unfolding(gm_board::specs::Images::board_of, gm_draw::specs::Points::square_points))]
-    fn basics() -> Basics<9> {
-        Basics {
-            name: *b"tictactoe-misere",
-            start: Board { mine: 0, theirs: 0 },
-            names: square_cells(3),
-            tiers: Tiers::Placed,
-            adds: true,
-            swapped: true,
-            stuck: End::Tie,
-        }
-    }
-
-    fn can_have(mine: u32, theirs: u32) -> bool {
-        mine == theirs || mine + 1 == theirs
-    }
-
-    fn over(_mine: u32, _theirs: u32) -> Option<End> {
-        None
-    }
-
-    fn steps(_pieces: u32) -> &'static [Step] {
-        &NINE
-    }
-
-    fn turned(mask: u32) -> u32 {
-        mask
-    }
-
-    fn patterns(meaning: Meaning) -> &'static [Pattern] {
-        match meaning {
-            Meaning::Forbidden => &THREE_MINE,
-            Meaning::Won => &THREE_THEIRS,
-            _ => &[],
-        }
-    }
-
-    fn least_index(board: &Board<9>) -> u64 {
-        board.least_index(3)
-    }
-
-    ghost tables = { misere_tables };
-}
-
-/// The rules and texts of misere Tic-tac-toe are those that `specs/` states.
-pub fn tictactoe_misere_is()
-    ensures rules { ⟦<TicTacToeMisere as Game>⟧.rules ≡ pattern_rules 9 misere_game }
-    ensures shown { ⟦<TicTacToeMisere as Shown>⟧.shown ≡ pattern_text 9 misere_game }
-    ensures move_shown { ⟦<TicTacToeMisere as Shown>⟧.move_shown ≡ pattern_move_text 9 misere_game }
-{}
 
 /// The tables of Tic-tac-toe on four by four.
 #[derive(Drop)]

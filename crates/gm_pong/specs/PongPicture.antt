@@ -3,7 +3,7 @@ use Rattle.std.specs.Prelude.{[], codes}
 use Rattle.gm_draw.specs.declared.pictured.Style.TheVariants.{Discs}
 use Rattle.gm_draw.specs.Pictures.{PictureSpec, x_moves}
 use Rattle.gm_draw.specs.GameSpecs.{GameSpec}
-use Rattle.gm_ways.specs.WayPictures.{way_points, way_spec}
+use Rattle.gm_patterns.specs.PatternPictures.{pattern_spec}
 use Rattle.gm_pong.specs.PongRules.{pong}
 
 unfoldable pub pong_picture : PictureSpec
@@ -12,10 +12,10 @@ pong_picture = record {
   style = Discs;
   board = codes "A       B\n| \\   / |\n|   C   |\n| /   \\ |\nD-------E";
   rows = [];
-  points = way_points 5 pong.point_char;
+  points = pong.names;
   mover = x_moves;
   naming = codes "Points are named so:\n0       1\n| \\   / |\n|   2   |\n| /   \\ |\n3-------4\nA position is points 0 to 4: x for the side to\nmove, o for the other, . where it is empty.\nA move is from one point to another.\n";
 }
 
 abbrev pub pong_spec : GameSpec
-pong_spec = way_spec 5 pong pong_picture
+pong_spec = pattern_spec 5 pong pong_picture

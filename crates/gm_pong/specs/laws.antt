@@ -1,3 +1,2 @@
--- What follows from the rules.
+-- Nothing is wrong with the table, and the picture satisfies the laws of pictures.
 pub mod PongTables
-pub mod PongPictured

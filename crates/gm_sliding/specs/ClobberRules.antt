@@ -1,18 +1,15 @@
 -- The rules of Clobber on four by four: all cells have pieces at the start, and each step takes one.
-use Rattle.std.specs.Prelude.{ℕ, ◌+◌, ◌-◌, ◌/◌, ◌%◌, ◌==◌, ◌||◌, Bool, true, false, List, [], ◌∷◌, ◌++◌, map, replicate, codes, if◌then◌else◌, None}
+use Rattle.std.specs.Prelude.{ℕ, ◌+◌, ◌/◌, ◌%◌, ◌==◌, ◌||◌, Bool, true, false, List, [], ◌∷◌, ◌++◌, map, replicate, codes, if◌then◌else◌, None}
 use Rattle.std.specs.List.{filter, flat_map, range_with_len}
 use Rattle.gm_board.specs.Squares.{square_symmetries}
 use Rattle.gm_board.specs.declared.cell.Cell.TheVariants.{Mine, Theirs}
 use Rattle.gm_draw.specs.Points.{square_points}
 use Rattle.gm_game.specs.declared.position.End.TheVariants.{Lose}
+use Rattle.gm_morris.specs.Morris.{distance}
 use Rattle.gm_patterns.specs.Steps.{capture}
 use Rattle.gm_patterns.specs.PatternGames.{PatternGame}
 use Rattle.gm_patterns.specs.declared.rules.Tiers.TheVariants.{Sides}
 use Rattle.gm_patterns.specs.declared.step.Step.{Step}
-
--- how far two numbers are from each other
-abbrev pub distance : ℕ → ℕ → ℕ
-distance x y = (x - y) + (y - x)
 
 -- whether two cells of four by four are neighbors in a row or a column
 abbrev pub are_beside : ℕ → ℕ → Bool

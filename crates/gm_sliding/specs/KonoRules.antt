@@ -1,18 +1,15 @@
 -- The rules of Four Field Kono: sixteen cells, four rows from the top, each from left to right.
-use Rattle.std.specs.Prelude.{ℕ, ◌+◌, ◌-◌, ◌/◌, ◌%◌, ◌==◌, ◌&&◌, ◌||◌, nat_le, nat_lt, Bool, true, false, List, [], ◌∷◌, ◌++◌, map, replicate, codes, if◌then◌else◌, None, Some}
+use Rattle.std.specs.Prelude.{ℕ, ◌+◌, ◌/◌, ◌%◌, ◌==◌, ◌&&◌, ◌||◌, nat_le, nat_lt, Bool, true, false, List, [], ◌∷◌, ◌++◌, map, replicate, codes, if◌then◌else◌, None, Some}
 use Rattle.std.specs.List.{filter, flat_map, range_with_len}
 use Rattle.gm_board.specs.Squares.{square_symmetries}
 use Rattle.gm_board.specs.declared.cell.Cell.TheVariants.{Mine, Theirs}
 use Rattle.gm_draw.specs.Points.{square_points}
 use Rattle.gm_game.specs.declared.position.End.TheVariants.{Lose}
-use Rattle.gm_patterns.specs.Steps.{slide, vault}
+use Rattle.gm_morris.specs.Morris.{distance}
+use Rattle.gm_patterns.specs.Steps.{slides, vault}
 use Rattle.gm_patterns.specs.PatternGames.{PatternGame}
 use Rattle.gm_patterns.specs.declared.rules.Tiers.TheVariants.{Sides}
 use Rattle.gm_patterns.specs.declared.step.Step.{Step}
-
--- how far two numbers are from each other
-abbrev pub distance : ℕ → ℕ → ℕ
-distance x y = (x - y) + (y - x)
 
 -- whether one cell is so many cells from another in its row or its column
 abbrev pub are_apart_by : ℕ → ℕ → ℕ → Bool
@@ -24,8 +21,8 @@ abbrev pub cells : List ℕ
 cells = range_with_len 0 16
 
 -- a man goes to a free cell beside its own
-abbrev pub slides : List Step
-slides = flat_map (λ a. map (slide a) (filter (are_apart_by 1 a) cells)) cells
+abbrev pub men_go : List Step
+men_go = slides 16 (are_apart_by 1)
 
 -- or over a man of its own side beside it onto a man of the opponent's behind that, which it takes
 abbrev pub vaults : List Step
@@ -43,7 +40,7 @@ kono = record {
   tiers = Sides;
   adds = false;
   phase = λ pieces. 0;
-  phases = (slides ++ vaults) ∷ [];
+  phases = (men_go ++ vaults) ∷ [];
   swapped = true;
   turn = None;
   forbidden = [];

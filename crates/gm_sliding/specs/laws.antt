@@ -1,3 +1,3 @@
 -- What follows from the rules.
 pub mod SlidingTables
-pub mod SlidingPictured
+pub mod ToadsTables

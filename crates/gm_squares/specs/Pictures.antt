@@ -7,6 +7,7 @@ use Rattle.gm_draw.specs.Chessboards.{chess_board, chess_points}
 use Rattle.gm_draw.specs.Pictures.{PictureSpec}
 use Rattle.gm_draw.specs.GameSpecs.{GameSpec, game_spec}
 use Rattle.gm_squares.specs.Chess.{ending, chess_rules, board as men_at, board_text as men_text, step_text as man_move_text}
+use Rattle.gm_squares.specs.Kpk.{kpk, kpk_rules, board as pawn_board_at, board_text as pawn_board_text, step_text as pawn_move_text}
 use Rattle.gm_squares.specs.FoxHounds.{fox_and_hounds, foxhounds_rules, board as chase_at, board_text as chase_text, step_text as chase_move_text}
 
 -- the side to move in a chess ending
@@ -31,6 +32,24 @@ chess_picture queen = record {
 abbrev pub chess_spec : Bool → GameSpec
 chess_spec queen =
     game_spec (chess_rules queen) (position_text_by (ending queen) (men_text queen)) (move_text_by (λ t m. man_move_text queen m)) (chess_picture queen)
+
+-- king and pawn against king
+abbrev pub kpk_mover : Position → List ℕ
+kpk_mover p = chess_side (pawn_board_at p.tier p.index).men.white_moves
+
+unfoldable pub kpk_picture : PictureSpec
+kpk_picture = record {
+  title = codes "King and Pawn against King";
+  style = Chess;
+  board = chess_board;
+  rows = [];
+  points = chess_points;
+  mover = kpk_mover;
+  naming = codes "A square is its file and its rank, as e4.\nA position is White's king and pawn, as Ke1 Pe2,\nBlack's king, as ke8, and who moves: w or b.\nA move is a man's letter, its square, - and the\nsquare that it goes to; Qe7-e8 makes a queen.\n";
+}
+
+abbrev pub kpk_spec : GameSpec
+kpk_spec = game_spec kpk_rules (position_text_by kpk pawn_board_text) (move_text_by pawn_move_text) kpk_picture
 
 -- the side to move in Fox and Hounds
 abbrev pub chase_side : Bool → List ℕ

@@ -22,5 +22,14 @@ pub mod ChaseBack
 pub mod ChaseNumbering
 pub mod ChaseApart
 pub mod ChaseTexts
+pub mod PawnFacts
+pub mod PawnAfter
+pub mod PawnTried
+pub mod PawnNumbering
+pub mod PawnMoves
+pub mod PawnImages
+pub mod PawnTexts
+pub mod PawnMarks
 pub mod MenPictured
+pub mod PawnPictured
 pub mod ChasePictured

@@ -1,6 +1,7 @@
 //! Texts of boards and moves.
 ghost use Rattle.std.specs.Prelude.{◌≡◌, ◌+◌, ◌<◌, ◌≤◌, ◌/◌, ◌%◌, ℕ, slice_index, true, if◌then◌else◌};
-ghost use Rattle.gm_squares.specs.Chess.{board_text as board_text_of, step_text as step_text_of, legal, piece_char as piece_char_of, man_char as man_char_of, told};
+ghost use Rattle.gm_squares.specs.Kpk.{men_text};
+ghost use Rattle.gm_squares.specs.Chess.{step_text as step_text_of, piece_char as piece_char_of, man_char as man_char_of, told};
 
 use crate::attacks::TAKEN;
 use crate::men::Men;
@@ -9,8 +10,8 @@ use arrayvec::ArrayVec;
 use gm_game::shown::Line;
 use gm_game::text::push_text;
 
-// Returns the letter of the rook or queen.
-fn piece_byte(queen: bool) -> u8
+/// Returns the letter of the rook or queen.
+pub fn piece_byte(queen: bool) -> u8
     ensures { result ≡ piece_char_of queen }
 {
     if queen { b'Q' } else { b'R' }
@@ -34,16 +35,18 @@ fn side_byte(white_moves: bool) -> u8
     if white_moves { b'w' } else { b'b' }
 }
 
-/// Returns the text of a board.
-#[tactic(auto, using(crate::specs::laws::MenFacts::king_below, crate::specs::laws::MenFacts::foe_below, crate::specs::laws::MenFacts::piece_most, crate::specs::laws::MenTexts::bare_is, crate::specs::laws::MenTexts::armed_is))]
-pub fn board_text(queen: bool, b: Men) -> Line
-    requires { legal queen b ≡ true }
-    ensures { result.items ≡ board_text_of queen b }
+/// Returns the text of a board, with the letter of White's rook or queen.
+#[tactic(auto, using(crate::specs::laws::MenTexts::bare_is, crate::specs::laws::MenTexts::armed_is))]
+pub fn board_text(letter: u8, b: Men) -> Line
+    requires king { b.king < 64 }
+    requires foe { b.foe < 64 }
+    requires piece { b.piece ≤ 64 }
+    ensures { result.items ≡ men_text letter b }
 {
     let mut line = ArrayVec::new();
     push_square(&mut line, b"K", b.king);
     if b.piece != TAKEN {
-        push_square(&mut line, &[b' ', piece_byte(queen)], b.piece);
+        push_square(&mut line, &[b' ', letter], b.piece);
     }
     push_square(&mut line, b" k", b.foe);
     push_text(&mut line, &[b' ', side_byte(b.white_moves)]);

@@ -1,11 +1,13 @@
 //! What the chess endings and Fox and Hounds look like.
 ghost use Rattle.std.specs.Prelude.{◌≡◌};
-ghost use Rattle.gm_squares.specs.Pictures.{chess_picture, foxhounds_picture};
+ghost use Rattle.gm_squares.specs.Pictures.{chess_picture, foxhounds_picture, kpk_picture};
 ghost use Rattle.gm_squares.specs.laws.MenPictured.{chess_pictured};
+ghost use Rattle.gm_squares.specs.laws.PawnPictured.{kpk_pictured};
 ghost use Rattle.gm_squares.specs.laws.ChasePictured.{foxhounds_pictured};
 
 use crate::chess::ChessRules;
 use crate::foxhounds::{FoxHounds, FoxRules};
+use crate::kpk::{Kpk, PawnRules};
 use gm_draw::chessboard::{chess_board, chess_squares};
 use gm_draw::on_boards::PicturedMoves;
 use gm_draw::pictured::{Mover, Picture, Pictured, Style};
@@ -58,6 +60,29 @@ impl<const QUEEN: bool> PicturedMoves for ChessRules<QUEEN> {
     }
 }
 
+impl PicturedMoves for PawnRules {
+    ghost picture = { kpk_picture };
+
+    ghost pictured = { kpk_pictured };
+
+    #[tactic(auto, using(crate::specs::laws::PawnPictured::kpk_named), unfolding(crate::specs::Pictures::kpk_picture))]
+    fn picture() -> Picture {
+        Picture {
+            title: b"King and Pawn against King",
+            style: Style::Chess,
+            board: chess_board(),
+            rows: &[],
+            points: chess_squares(),
+            mover: Mover::ByLast {
+                byte: b'w',
+                name: b"White",
+                other: b"Black",
+            },
+            naming: b"A square is its file and its rank, as e4.\nA position is White's king and pawn, as Ke1 Pe2,\nBlack's king, as ke8, and who moves: w or b.\nA move is a man's letter, its square, - and the\nsquare that it goes to; Qe7-e8 makes a queen.\n",
+        }
+    }
+}
+
 impl PicturedMoves for FoxRules {
     ghost picture = { foxhounds_picture };
 
@@ -84,6 +109,11 @@ impl PicturedMoves for FoxRules {
 /// Has no effect; its contract states what the chess endings look like.
 pub fn chess_is_drawn<const QUEEN: bool>()
     ensures { ⟦<OnBoards<ChessRules<QUEEN>> as Pictured>⟧.picture ≡ chess_picture QUEEN }
+{}
+
+/// Has no effect; its contract states what king and pawn against king looks like.
+pub fn kpk_is_drawn()
+    ensures { ⟦<Kpk as Pictured>⟧.picture ≡ kpk_picture }
 {}
 
 /// Has no effect; its contract states what Fox and Hounds looks like.

@@ -1,47 +1,47 @@
 -- What games on points look like.
-use Rattle.std.specs.Prelude.{ℕ, List, [], ◌∷◌, map, codes}
-use Rattle.gm_ways.specs.Lower.{range_with_len, Discs, PictureSpec, x_moves, GameSpec, game_spec}
-use Rattle.gm_ways.specs.Ways.{WayGame, way_rules}
-use Rattle.gm_ways.specs.WayTexts.{way_text, way_move_text}
-use Rattle.gm_ways.specs.ShisimaRules.{shisima}
-use Rattle.gm_ways.specs.TapatanRules.{tapatan}
-
--- the names of the points: each has one byte
-unfoldable pub way_points : ℕ → (ℕ → ℕ) → List (List ℕ)
-way_points n char = map (λ k. char k ∷ []) (range_with_len 0 n)
-
--- a game on points, and what it looks like
-abbrev pub way_spec : ℕ → WayGame → PictureSpec → GameSpec
-way_spec n g = game_spec (way_rules n g) (way_text n g) (way_move_text g)
+use Rattle.std.specs.Prelude.{List, ℕ, [], codes}
+use Rattle.gm_draw.specs.declared.pictured.Style.TheVariants.{Discs}
+use Rattle.gm_draw.specs.Pictures.{PictureSpec, x_moves}
+use Rattle.gm_draw.specs.GameSpecs.{GameSpec}
+use Rattle.gm_patterns.specs.PatternPictures.{pattern_spec}
+use Rattle.gm_ways.specs.declared.ways.Variant.{Variant}
+use Rattle.gm_ways.specs.declared.ways.Variant.TheVariants.{Shisima, Tapatan, MuTorere}
+use Rattle.gm_ways.specs.Ways.{variant_of, ring_names, tapatan, on_ways}
 
 -- a ring: point 0 is at the top, and the ring goes round clockwise
-abbrev pub ring_with : (ℕ → ℕ) → List ℕ → PictureSpec
-ring_with char title = record {
+abbrev pub ring_with : List ℕ → PictureSpec
+ring_with title = record {
   title = title;
   style = Discs;
   board = codes "H---A---B\n| \\ | / |\nG---I---C\n| / | \\ |\nF---E---D";
   rows = [];
-  points = way_points 9 char;
+  points = ring_names;
   mover = x_moves;
   naming = codes "Points are named so:\n7---0---1\n| \\ | / |\n6---c---2\n| / | \\ |\n5---4---3\nA position is points 0 to 7 and c: x for the side\nto move, o for the other, . where it is empty.\nA move is from one point to another.\n";
 }
 
-unfoldable pub shisima_picture : PictureSpec
-shisima_picture = ring_with shisima.point_char (codes "Shisima")
-
-abbrev pub shisima_spec : GameSpec
-shisima_spec = way_spec 9 shisima shisima_picture
-
-unfoldable pub tapatan_picture : PictureSpec
-tapatan_picture = record {
+unfoldable pub way_picture : Variant → PictureSpec
+way_picture Shisima = ring_with (codes "Shisima")
+way_picture MuTorere = ring_with (codes "Mu Torere")
+way_picture Tapatan = record {
   title = codes "Tapatan";
   style = Discs;
   board = codes "A---B---C\n| \\ | / |\nD---E---F\n| / | \\ |\nG---H---I";
   rows = [];
-  points = way_points 9 tapatan.point_char;
+  points = tapatan.names;
   mover = x_moves;
   naming = codes "Points are named so:\n1---2---3\n| \\ | / |\n4---5---6\n| / | \\ |\n7---8---9\nA position is points 1 to 9: x for the side to\nmove, o for the other, . where it is empty.\nA move is from one point to another.\n";
 }
 
+-- the game with this number
+abbrev pub way_spec : ℕ → GameSpec
+way_spec n = pattern_spec 9 (on_ways n) (way_picture (variant_of n))
+
+abbrev pub shisima_spec : GameSpec
+shisima_spec = way_spec 0
+
 abbrev pub tapatan_spec : GameSpec
-tapatan_spec = way_spec 9 tapatan tapatan_picture
+tapatan_spec = way_spec 1
+
+abbrev pub mutorere_spec : GameSpec
+mutorere_spec = way_spec 2

@@ -1,93 +1,119 @@
--- Games on n points that ways join: each side has as many pieces as the other, a piece goes along a way to a free point, the player who fills a line wins,
--- and a player who can't move has lost. A board is a list of n points as the player to move sees them.
-use Rattle.std.specs.Prelude.{ℕ, ◌*◌, Bool, false, ◌&&◌, ◌==◌, List, [], length, slice_index_or, if◌then◌else◌, Option, None, Some}
-use Rattle.gm_ways.specs.Lower.{list_any, End, Lose, Rules, Cell, Empty, arrangements, is_mine, is_theirs, is_empty, cell_at, number_of, has_filled, permute, from_point, to_point, mover_gone, brought_back, board_index, board_numbered}
-use Rattle.gm_pieces.specs.MoveGames.{MoveGame, move_rules}
+-- The rules of Shisima, Tapatan and Mu Torere: a piece goes along a way to a free point. The ring has eight points and then the center.
+use Rattle.std.specs.Prelude.{ℕ, ◌+◌, ◌-◌, ◌/◌, ◌%◌, Bool, ◌&&◌, ◌||◌, ◌==◌, nat_lt, true, false, List, [], ◌∷◌, ◌++◌, map, replicate, codes, if◌then◌else◌, None}
+use Rattle.std.specs.List.{filter, flat_map, range_with_len}
+use Rattle.gm_board.specs.Squares.{square_symmetries}
+use Rattle.gm_board.specs.declared.cell.Cell.{Cell}
+use Rattle.gm_board.specs.declared.cell.Cell.TheVariants.{Empty, Mine, Theirs}
+use Rattle.gm_game.specs.declared.position.End.TheVariants.{Lose}
+use Rattle.gm_patterns.specs.Patterns.{mine_on, theirs_on, not_theirs_on, both}
+use Rattle.gm_patterns.specs.Steps.{slide, slides, step_if}
+use Rattle.gm_patterns.specs.PatternGames.{PatternGame}
+use Rattle.gm_patterns.specs.declared.rules.Tiers.TheVariants.{Single}
+use Rattle.gm_patterns.specs.declared.step.Step.{Step}
+use Rattle.gm_ways.specs.declared.ways.Variant.{Variant}
+use Rattle.gm_ways.specs.declared.ways.Variant.TheVariants.{Shisima, Tapatan, MuTorere}
 
--- what each such game states
-pub record WayGame : Type 0 where
-  -- the name, padded with zeros
-  pub name : List ℕ
-  -- how many pieces each side has, and the board at the start
-  pub pieces : ℕ
-  pub start : List Cell
-  -- for each point, the points to which a way leads from it
-  pub ways : List (List ℕ)
-  -- whether a piece may go along a way from one point to another, besides that the other is free
-  pub may_go : List Cell → ℕ → ℕ → Bool
-  -- the lines, the points of each ascending: the player who fills one wins
-  pub lines : List (List ℕ)
-  -- the symmetries: for each point, the point whose piece comes there
-  pub symmetries : List (List ℕ)
-  -- the byte of a point's name
-  pub point_char : ℕ → ℕ
+-- the game with this number; any other number stands for Shisima
+unfoldable pub variant_of : ℕ → Variant
+variant_of n = if n == 1 then Tapatan else (if n == 2 then MuTorere else Shisima)
 
--- ---- boards
--- whether the board has n points, m pieces of the mover's and t of the opponent's
-unfoldable pub has_numbers : ℕ → ℕ → ℕ → List Cell → Bool
-has_numbers n m t b = length b == n && (number_of is_mine b == m && number_of is_theirs b == t)
-
--- a legal board has the numbers of pieces of the game, and the mover has no line
-unfoldable pub way_legal : ℕ → WayGame → List Cell → Bool
-way_legal n g b = if has_filled Empty g.lines is_mine b then false else has_numbers n g.pieces g.pieces b
-
--- how the last move has ended the game, if it has: the mover has lost if the opponent has a line
-unfoldable pub way_end_by_last_move : WayGame → List Cell → Option End
-way_end_by_last_move g b = if has_filled Empty g.lines is_theirs b then Some Lose else None
-
--- ---- moves
--- whether a way leads from one point to another
-unfoldable pub are_joined : List (List ℕ) → ℕ → ℕ → Bool
-are_joined ways a c = list_any (λ k. k == c) (slice_index_or ways a [])
-
--- whether a piece of the mover's can go from one point to another
-abbrev pub way_can_go : WayGame → List Cell → ℕ → ℕ → Bool
-way_can_go g b a c = are_joined g.ways a c && (is_mine (cell_at b a) && (is_empty (cell_at b c) && g.may_go b a c))
-
--- whether the move with this number can be made
-unfoldable pub way_can_move : WayGame → List Cell → ℕ → Bool
-way_can_move g b m = way_can_go g b (from_point m) (to_point m)
-
--- the board after a move, as the other player sees it
-unfoldable pub way_moved : List Cell → ℕ → List Cell
-way_moved b m = mover_gone b (from_point m) (to_point m)
-
--- whether a piece of the opponent's can have gone from one point to another
-abbrev pub was_gone : WayGame → List Cell → ℕ → ℕ → Bool
-was_gone g d a c = are_joined g.ways a c && (is_theirs (cell_at d c) && is_empty (cell_at d a))
-
--- whether the move with this number can have led to d
-unfoldable pub way_can_have_led_here : WayGame → List Cell → ℕ → Bool
-way_can_have_led_here g d m = was_gone g d (from_point m) (to_point m)
-
--- the board before the move with this number, as the player who made it saw it
-unfoldable pub way_undo : List Cell → ℕ → List Cell
-way_undo d m = brought_back d (from_point m) (to_point m)
-
--- ---- the game
--- the game with numbered moves: all positions are of tier 0
-abbrev pub way_game : ℕ → WayGame → MoveGame (List Cell) (List ℕ)
-way_game n g = record {
-  name = g.name;
-  start = g.start;
-  legal = way_legal n g;
-  end_by_last_move = way_end_by_last_move g;
-  end_if_no_move = λ b. Lose;
-  move_number_bound = λ t. 16 * n;
-  can_move = way_can_move g;
-  moved = way_moved;
-  can_have_led_here = λ t d m. way_can_have_led_here g d m;
-  undo = λ t d m. way_undo d m;
-  symmetries = g.symmetries;
-  image = λ p b. permute Empty p b;
-  tier = λ b. 0;
-  index = board_index;
-  board = λ t i. board_numbered n g.pieces g.pieces i;
-  size = λ t. if t == 0 then arrangements n g.pieces g.pieces else 0;
-  child_tiers = λ t. [];
-  tier_rank = λ t. 0;
+-- a game in which each side has so many pieces, a player who fills a line wins, and a player who can't move has lost
+abbrev pub way_game : List ℕ → List Cell → List (List ℕ) → ℕ → List Step → List (List ℕ) → List (List ℕ) → PatternGame
+way_game name start names pieces steps lines symmetries = record {
+  name = name;
+  start = start;
+  names = names;
+  numbers = λ mine theirs. mine == pieces && theirs == pieces;
+  over = λ mine theirs. None;
+  tiers = Single pieces;
+  adds = false;
+  phase = λ pieces. 0;
+  phases = steps ∷ [];
+  swapped = true;
+  turn = None;
+  forbidden = map mine_on lines;
+  lost = map theirs_on lines;
+  won = [];
+  tied = [];
+  stuck = Lose;
+  symmetries = symmetries;
 }
 
--- the rules of its positions
-abbrev pub way_rules : ℕ → WayGame → Rules
-way_rules n g = move_rules (way_game n g)
+-- ---- the ring
+-- a point of the ring has its digit for its name, and the center `c`
+abbrev pub ring_names : List (List ℕ)
+ring_names = map (λ k. (48 + k) ∷ []) (range_with_len 0 8) ++ (99 ∷ []) ∷ []
+
+-- the points before and after one on the ring, on which 0 comes after 7
+abbrev pub before : ℕ → ℕ
+before k = (k + 7) % 8
+
+abbrev pub after : ℕ → ℕ
+after k = (k + 1) % 8
+
+abbrev pub are_beside : ℕ → ℕ → Bool
+are_beside a c = c == before a || c == after a
+
+-- the ways: a point of the ring is joined to the two beside it and to the center
+abbrev pub ring_joins : ℕ → ℕ → Bool
+ring_joins a c = if a == 8 then nat_lt c 8 else (c == 8 || are_beside a c)
+
+-- the turns and the reflections of the ring; the center stays
+abbrev pub ring_symmetries : List (List ℕ)
+ring_symmetries =
+    map (λ n. map (λ k. (k + n) % 8) (range_with_len 0 8) ++ 8 ∷ []) (range_with_len 0 8)
+    ++ map (λ n. map (λ k. (n + 8 - k) % 8) (range_with_len 0 8) ++ 8 ∷ []) (range_with_len 0 8)
+
+-- ---- Shisima: each side begins on three neighbors of the ring; two opposite points of the ring and the center are a line
+abbrev pub shisima : PatternGame
+shisima = way_game (codes "shisima" ++ replicate 9 0)
+    (Mine ∷ Mine ∷ Mine ∷ Empty ∷ Theirs ∷ Theirs ∷ Theirs ∷ Empty ∷ Empty ∷ [])
+    ring_names 3 (slides 9 ring_joins) (map (λ k. k ∷ (k + 4) ∷ 8 ∷ []) (range_with_len 0 4)) ring_symmetries
+
+-- ---- Mu Torere
+-- a piece goes to the center if an opponent's piece is beside it: before it, after it, or both
+abbrev pub to_center : ℕ → List Step
+to_center a =
+    step_if (both (theirs_on (before a ∷ [])) (theirs_on (after a ∷ []))) (slide a 8)
+    ∷ step_if (both (theirs_on (before a ∷ [])) (not_theirs_on (after a ∷ []))) (slide a 8)
+    ∷ step_if (both (not_theirs_on (before a ∷ [])) (theirs_on (after a ∷ []))) (slide a 8) ∷ []
+
+-- or it goes to a point beside it, and from the center to any point
+abbrev pub mutorere_steps : List Step
+mutorere_steps =
+    flat_map (λ a. map (slide a) (filter (are_beside a) (range_with_len 0 8)) ++ to_center a) (range_with_len 0 8)
+    ++ map (slide 8) (range_with_len 0 8)
+
+-- each side begins on four neighbors of the ring; there are no lines
+abbrev pub mutorere : PatternGame
+mutorere = way_game (codes "mutorere" ++ replicate 8 0) (replicate 4 Mine ++ replicate 4 Theirs ++ Empty ∷ []) ring_names 4 mutorere_steps [] ring_symmetries
+
+-- ---- Tapatan: three rows of three points from the top, each from left to right
+abbrev pub tapatan_lines : List (List ℕ)
+tapatan_lines = (0 ∷ 1 ∷ 2 ∷ []) ∷ (3 ∷ 4 ∷ 5 ∷ []) ∷ (6 ∷ 7 ∷ 8 ∷ []) ∷ (0 ∷ 3 ∷ 6 ∷ []) ∷ (1 ∷ 4 ∷ 7 ∷ []) ∷ (2 ∷ 5 ∷ 8 ∷ []) ∷ (0 ∷ 4 ∷ 8 ∷ []) ∷ (2 ∷ 4 ∷ 6 ∷ []) ∷ []
+
+-- how far two numbers are from each other
+abbrev pub distance : ℕ → ℕ → ℕ
+distance x y = (x - y) + (y - x)
+
+-- the ways: along rows and columns, and the center with the four corners
+abbrev pub tapatan_joins : ℕ → ℕ → Bool
+tapatan_joins a c =
+    distance (a / 3) (c / 3) + distance (a % 3) (c % 3) == 1
+    || ((a == 4 || c == 4) && (distance (a / 3) (c / 3) == 1 && distance (a % 3) (c % 3) == 1))
+
+-- the pieces of the two sides stand by turns on the upper and the lower row; a point's name is a digit from 1 on
+abbrev pub tapatan : PatternGame
+tapatan = way_game (codes "tapatan" ++ replicate 9 0)
+    (Theirs ∷ Mine ∷ Theirs ∷ Empty ∷ Empty ∷ Empty ∷ Mine ∷ Theirs ∷ Mine ∷ [])
+    (map (λ k. (49 + k) ∷ []) (range_with_len 0 9)) 3 (slides 9 tapatan_joins) tapatan_lines (square_symmetries 3)
+
+-- ---- each game
+abbrev pub ways : Variant → PatternGame
+ways Shisima = shisima
+ways Tapatan = tapatan
+ways MuTorere = mutorere
+
+-- the game with this number: 0 is Shisima, 1 Tapatan, and 2 Mu Torere
+abbrev pub on_ways : ℕ → PatternGame
+on_ways n = ways (variant_of n)

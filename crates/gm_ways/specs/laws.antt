@@ -1,8 +1,2 @@
--- What follows from the definitions.
-pub mod WayFacts
-pub mod WayBoards
-pub mod WayMoves
-pub mod WayLaws
-pub mod WayTextLaws
-pub mod Tables
-pub mod WayPictured
+-- Nothing is wrong with the tables, and the pictures satisfy the laws of pictures.
+pub mod WayTables

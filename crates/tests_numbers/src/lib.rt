@@ -6,6 +6,8 @@ mod chomp;
 #[cfg(test)]
 mod connect;
 #[cfg(test)]
+mod kpk;
+#[cfg(test)]
 mod nim;
 #[cfg(test)]
 mod whole;

@@ -24,8 +24,12 @@ pub(crate) fn made<G: Shown>(p: Position, text: &[u8]) -> Option<(u32, Position)
     }
 }
 
-// Fails if the moves of a position are not these, in this order.
-fn expect_moves<G: Shown>(rt: &impl Abort, p: Position, moves: &[(&'static str, &'static str)]) {
+/// Fails if the moves of a position are not these, in this order.
+pub(crate) fn expect_moves<G: Shown>(
+    rt: &impl Abort,
+    p: Position,
+    moves: &[(&'static str, &'static str)],
+) {
     let mut last = None;
     for (name, result) in moves {
         let found = made::<G>(p, name.as_bytes());

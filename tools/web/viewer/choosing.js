@@ -80,17 +80,12 @@ function showGames(fault) {
 const many = of => LEGAL[of.game] ? counted(LEGAL[of.game]) + " positions" : "";
 const tile = of => html("li", {}, html("a", { href: "#" + of.game }, drawing(of), html("b", {}, of.title),
   html("span", {}, [WORTHS[of.game], many(of)].filter(Boolean).join("; "))));
-// The games by their kinds, each with the beginnings of names; the rest at the end.
-const KINDS = [
-  ["Rows of three and four", "tictactoe threemens achi tapatan shisima picaria dao notakto nineholes connect"],
-  ["Chases and blockades", "hare foxhounds mutorere ponghauki dodgem toads"], ["Endings of chess", "krk kqk"], ["Taking counters", "tactix"],
-  ["Numbers", "countdown takeaway wheel nim"],
-];
+// The games by their kinds; those of no known kind at the end.
 function layGames() {
-  const kindOf = of => KINDS.findIndex(([, names]) => names.split(" ").some(name => of.game.startsWith(name)));
-  for (const [k, name] of [...KINDS.map(([name], k) => [k, name]), [-1, "Other games"]]) {
-    const tiles = games.filter(of => kindOf(of) === k).map(tile);
-    if (tiles.length) $("games").append(html("h2", {}, name), html("ul", {}, ...tiles));
+  const kinds = [...new Set(games.map(of => FAMILIES[of.game]).filter(Boolean)), undefined];
+  for (const kind of kinds) {
+    const tiles = games.filter(of => FAMILIES[of.game] === kind).map(tile);
+    if (tiles.length) $("games").append(html("h2", {}, kind || "Other games"), html("ul", {}, ...tiles));
   }
 }
 layGames();

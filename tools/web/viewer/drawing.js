@@ -64,7 +64,7 @@ function drawPlot() {
       { class: k === at ? "spot now" : "spot", x: x - 5, y: y - 5, width: 10, height: 10, rx: winner(k) === null ? 0 : 5 })));
 }
 // What is switched off where it has nothing to do, and while the board is edited.
-const SWITCHED = "first back next end best lead random puzzle length hide versus level seed undo help copy".split(" ");
+const SWITCHED = "first back next end best lead random puzzle length least hide versus level seed undo help copy".split(" ");
 function setButtons() {
   const first = at === 0, last = at === line.length - 1, over = !moves.length;
   const off = { first, back: first, next: last, end: last, best: over, lead: over, help: over, undo: first };

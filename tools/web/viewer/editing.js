@@ -23,7 +23,7 @@ function cancel() {
   $("edit").focus();
 }
 // The kinds of men that the game has.
-const kinds = () => [...game.men].flatMap((letter, kind) => !squared(game) || game.start.includes(letter) ? [kind] : []);
+const kinds = () => [...game.men].flatMap((letter, kind) => !squared(game) || hasMan(game, letter) ? [kind] : []);
 // Shows what belongs to editing, or hides it.
 function editing() {
   const many = editor && game.men.length > 0;

@@ -44,7 +44,9 @@ function textOf(of, men, who) {
   const text = men.map((_, k) => byte(men[turned(of, who, k)])).join("");
   return sided(of) ? text + of.start.at(-2) + of.men[who] : text;
 }
-const NAMES = { K: "king", Q: "queen", R: "rook", k: "king", f: "fox", h: "hound" };
+// Whether a game on a chess board can have men with this letter: those of its start, and what a pawn becomes.
+const hasMan = (of, letter) => of.start.includes(letter) || (of.start.includes("P") && "QRBN".includes(letter));
+const NAMES = { K: "king", Q: "queen", R: "rook", B: "bishop", N: "knight", P: "pawn", k: "king", f: "fox", h: "hound" };
 // The name of a kind of men.
 function kindName(of, kind) {
   if (kind < 0) return "empty";

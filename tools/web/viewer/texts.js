@@ -41,8 +41,8 @@ function whyNoText(of, typed) {
 }
 function whyNoSquares(of, text) {
   const found = fromForsyth(of, text)[0] ?? inOrder(of, text)[0];
-  if (!found && text.includes("/")) return `It is no position in Forsyth's notation with the men ${[...of.men].join(", ")}.`;
-  const words = text.split(/[\s,;]+/), bad = words.slice(0, -1).find(word => !of.men.includes(word[0]) || !of.points.includes(word.slice(1)));
+  if (!found && text.includes("/")) return `It is no position in Forsyth's notation with the men ${[...of.men].filter(letter => hasMan(of, letter)).join(", ")}.`;
+  const words = text.split(/[\s,;]+/), bad = words.slice(0, -1).find(word => !hasMan(of, word[0]) || !of.points.includes(word.slice(1)));
   if (bad) return `'${bad}' is no man on a square, as ${of.start.slice(0, 3)} is.`;
   if (!sideLetters(of).includes(words.at(-1))) return `At its end must be the side to move, ${[...sideLetters(of)].join(" or ")}.`;
   return found ? whyNoPosition(of, menOf(of, found, 0), sideOf(of, found, 0)) : "Two of its men are on one square.";
@@ -68,19 +68,23 @@ function whyNoCounts(of, who, counts) {
 }
 function whyNoChess(of, men, who, counts) {
   const king = kind => men.indexOf(kind), [white, black] = [king(0), king(of.men.length - 1)], place = k => [k % 8, Math.floor(k / 8)];
-  const named = kind => kindName(of, kind), startsWith = kind => of.start.includes(of.men[kind]);
-  const wrong = counts.findIndex((count, kind) => NAMES[of.men[kind]] === "king" ? count !== 1 : count > Number(startsWith(kind)));
-  if (wrong >= 0 && counts[wrong]) return startsWith(wrong) ? `There is more than one ${named(wrong)}.` : `This game has no ${named(wrong)}.`;
+  const named = kind => kindName(of, kind), has = kind => hasMan(of, of.men[kind]);
+  const wrong = counts.findIndex((count, kind) => NAMES[of.men[kind]] === "king" ? count !== 1 : count > Number(has(kind)));
+  if (wrong >= 0 && counts[wrong]) return has(wrong) ? `There is more than one ${named(wrong)}.` : `This game has no ${named(wrong)}.`;
   if (wrong >= 0) return `There is no ${named(wrong)}.`;
+  if (men.filter(kind => kind >= 0).length > 3) return `${of.sides[0]} has more than one man beside the king.`;
   const apart = (a, b) => Math.max(...place(a).map((it, axis) => Math.abs(it - place(b)[axis])));
   if (apart(white, black) < 2) return "The kings are side by side.";
   const from = men.findIndex(kind => kind > 0 && kind < of.men.length - 1);
   return who === 0 && from >= 0 && attacks(men, from, black, of.men[men[from]]) ? "Black is in check, and White is to move." : "";
 }
-// Whether a rook or a queen on one place attacks another.
+// Whether a man of White on one place attacks another.
 function attacks(men, from, to, letter) {
   const across = to % 8 - from % 8, down = Math.floor(to / 8) - Math.floor(from / 8), far = Math.max(Math.abs(across), Math.abs(down));
-  if (across && down && (letter === "R" || Math.abs(across) !== Math.abs(down))) return false;
+  if (letter === "N") return Math.abs(across * down) === 2;
+  if (letter === "P") return Math.abs(across) === 1 && down === -1;
+  const straight = !across || !down, slanting = Math.abs(across) === Math.abs(down);
+  if (!(straight && letter !== "B" || slanting && letter !== "R")) return false;
   const step = Math.sign(across) + 8 * Math.sign(down);
   return [...Array(far - 1).keys()].every(k => men[from + step * (k + 1)] < 0);
 }

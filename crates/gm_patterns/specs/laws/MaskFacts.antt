@@ -27,16 +27,13 @@ past_cell : (n m k : ℕ) → m < 2 ^ n → n ≤ k → has_cell m k ≡ false
 past_cell n m k l h = ap (λ (v : ℕ). eqb v 1) (bit_at_above m n k l h)
 
 and_none : (x : Bool) → (x && false) ≡ false
-and_none true = refl
-and_none false = refl
+and_none x = grind arith
 
 and_all : (x : Bool) → (x && true) ≡ x
-and_all true = refl
-and_all false = refl
+and_all x = grind arith
 
 apart_at : (x y : Bool) → (x ≡ true → y ≡ false) → (x && y) ≡ false
-apart_at true y h = h refl
-apart_at false y h = refl
+apart_at x y h = grind arith
 
 fits_32 : (n m : ℕ) → n ≤ 25 → m < 2 ^ n → m < 2 ^ 32
 fits_32 n m few l = let most : n ≤ 32 = omega (arith, few) in let small : 2 ^ n ≤ 2 ^ 32 = pow_mono most in omega (arith, small, l)
@@ -44,18 +41,11 @@ fits_32 n m few l = let most : n ≤ 32 = omega (arith, few) in let small : 2 ^ 
 -- ---- patterns
 -- what is wrong on a cell, by the tests of the masks
 wrong_by : (x y e m t : Bool) → (x && y) ≡ false → not ((x && m || y && t) || not (x || y) && e) ≡ (if x then not m else (if y then not t else not e))
-wrong_by true true e m t q = absurd (true≢false q)
-wrong_by true false e true t q = refl
-wrong_by true false e false t q = refl
-wrong_by false true e m true q = refl
-wrong_by false true e m false q = refl
-wrong_by false false e m t q = refl
+wrong_by x y e m t q = grind arith
 
 lets_by : (p : Pattern) (k : ℕ) (x y : Bool) → lets p k (cell_by x y) ≡ (if x then not (has_cell p.not_mine k) else (if y then not (has_cell p.not_theirs k) else not
     (has_cell p.not_empty k)))
-lets_by p k true y = refl
-lets_by p k false true = refl
-lets_by p k false false = refl
+lets_by p k x y = grind arith
 
 module _ (n a b : ℕ) (p : Pattern) (few : n ≤ 25) (la : a < 2 ^ n) (lb : b < 2 ^ n) (q : bit_and a b ≡ 0) where
   all : ℕ
@@ -133,33 +123,14 @@ module _ (n a b : ℕ) (p : Pattern) (few : n ≤ 25) (la : a < 2 ^ n) (lb : b <
 -- ---- a pattern laid on cells
 -- what lies on a cell, by the tests of the masks
 only_by : (m t : Bool) → cell_by (not m) (m && not t) ≡ (if not m then Mine else (if not t then Theirs else Empty))
-only_by true true = refl
-only_by true false = refl
-only_by false t = refl
+only_by m t = grind arith
 
 laid_by : (x y c m t : Bool) → cell_by (x && not c || c && not m) (y && not c || c && m && not t)
     ≡ (if c then (if not m then Mine else (if not t then Theirs else Empty)) else cell_by x y)
-laid_by true true true m t = only_by m t
-laid_by true false true m t = only_by m t
-laid_by false true true m t = only_by m t
-laid_by false false true m t = only_by m t
-laid_by true true false m t = refl
-laid_by true false false m t = refl
-laid_by false true false m t = refl
-laid_by false false false m t = refl
+laid_by x y c m t = grind arith
 
 apart_by : (x y c m t : Bool) → (x && y) ≡ false → ((x && not c || c && not m) && (y && not c || c && m && not t)) ≡ false
-apart_by true true true m t e = absurd (true≢false e)
-apart_by true false true true t e = refl
-apart_by true false true false t e = refl
-apart_by false true true true t e = refl
-apart_by false true true false t e = refl
-apart_by false false true true t e = refl
-apart_by false false true false t e = refl
-apart_by true true false m t e = absurd (true≢false e)
-apart_by true false false m t e = refl
-apart_by false true false m t e = refl
-apart_by false false false m t e = refl
+apart_by x y c m t e = grind arith
 
 -- a mask without some cells has no more cells
 pub without_within : (n m c : ℕ) → m < 2 ^ n → without m c < 2 ^ n

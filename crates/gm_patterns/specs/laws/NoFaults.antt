@@ -5,8 +5,27 @@ use Rattle.gm_draw.specs.Points.{are_apart}
 use Rattle.gm_game.specs.Texts.{IsPaddedText}
 use Rattle.gm_game.specs.declared.limits.TheConstants.{NAME}
 use Rattle.gm_patterns.specs.PatternGames.{PatternGame, legal}
+use Rattle.gm_patterns.specs.PatternTables.Test.{Sizes, Cells, Start, Says, Names, Kept, Numbered, Numbers, Turns, Images, Ends}
 use Rattle.gm_patterns.specs.PatternTables.{Fault, faults, IsPatternGame, unless, wrong_steps, wrong_numbers, failing, is_cell_name, is_step, named_again, keeps_legal, are_numbered, are_right, is_turn, has_steps, has_images}
 use Rattle.gm_patterns.specs.laws.ListFacts.{both_nil}
+
+-- nothing is wrong with tables, if each test computes to no faults, in the order of the tests
+pub no_faults : {n : ℕ} {g : PatternGame} → faults Sizes n g ≡ [] → faults Cells n g ≡ [] → faults Start n g ≡ [] → faults Says n g ≡ []
+    → faults Names n g ≡ [] → faults Kept n g ≡ [] → faults Numbered n g ≡ [] → faults Numbers n g ≡ [] → faults Turns n g ≡ [] → faults Images n g ≡ []
+    → faults Ends n g ≡ [] → IsPatternGame n g
+no_faults sizes cells start says names kept numbered numbers turns images ends = record {
+  sizes = sizes;
+  cells = cells;
+  start = start;
+  says = says;
+  names = names;
+  kept = kept;
+  numbered = numbered;
+  numbers = numbers;
+  turns = turns;
+  images = images;
+  ends = ends;
+}
 
 -- the tests that the tables pass, and what fails a test, which is nothing
 pub record AreRight (n : ℕ) (g : PatternGame) : Type 0 where

@@ -1,6 +1,6 @@
 -- Patterns: what it means that a board has one, and patterns of which one follows from others.
 use Rattle.std.specs.Prelude.{◌≡◌, ◌+◌, ◌-◌, ◌%◌, ◌^◌, ◌<◌, ◌&&◌, ◌||◌}
-use Rattle.gm_pieces.specs.Common.{ℕ, min, Bool, true, false, not, eqb, ltb, eqb-true, List, map, length, get_or, refl, sym, ap, ◌∙◌, subst, inl, inr, cases_lt, true≢false, not-true, bit_and, bit_or, bit_at, list_any, range_with_len, all_at, and_left, and_right, contains_range, range_below, has_cell, has_and, has_or, has_none, Cell, Empty, Mine, Theirs, cell_at, turned, permute, permute_get, permute_length, IsPermutationOf, any_at, any_from}
+use Rattle.gm_pieces.specs.Common.{arith, ℕ, min, Bool, true, false, not, eqb, ltb, eqb-true, List, map, length, get_or, refl, sym, ap, ◌∙◌, subst, inl, inr, cases_lt, true≢false, not-true, bit_and, bit_or, bit_at, list_any, range_with_len, all_at, and_left, and_right, contains_range, range_below, has_cell, has_and, has_or, has_none, Cell, Empty, Mine, Theirs, cell_at, turned, permute, permute_get, permute_length, IsPermutationOf, any_at, any_from}
 use Rattle.gm_board.specs.laws.Turned.{cell_turned}
 use Rattle.std.proofs.lemmas.List.{length-map}
 use Rattle.std.proofs.lemmas.Bool.{or_parts}
@@ -26,8 +26,7 @@ fits_from p b h = all_from (λ (k : ℕ). lets p k (cell_at b k)) (range_with_le
 
 -- ---- patterns made of patterns
 not_or : (x y : Bool) → not (x || y) ≡ (not x && not y)
-not_or true y = refl
-not_or false y = refl
+not_or x y = grind arith
 
 -- both patterns let what their union lets
 pub lets_both : (p q : Pattern) (k : ℕ) (c : Cell) → lets (both p q) k c ≡ (lets p k c && lets q k c)
@@ -48,10 +47,7 @@ has_without m c k =
     ∙ without_bits (bit_at m k) (bit_at c k) (bit_at-lt m k) (bit_at-lt c k)
 
 not_without : (x y : Bool) → not (x && not y) ≡ (y || not x)
-not_without true true = refl
-not_without true false = refl
-not_without false true = refl
-not_without false false = refl
+not_without x y = grind arith
 
 -- what a pattern says of other cells lets anything lie on these cells
 pub lets_outside : (c : ℕ) (p : Pattern) (k : ℕ) (x : Cell) → lets (outside c p) k x ≡ (has_cell c k || lets p k x)
@@ -71,19 +67,13 @@ lets_all p k c e =
 
 -- ---- patterns that no board has
 one_missing : (x y z : Bool) → not x ≡ true → (x && (y && z)) ≡ false
-one_missing true y z e = absurd (true≢false (sym e))
-one_missing false y z e = refl
+one_missing x y z e = grind arith
 
 second_missing : (x y z : Bool) → not y ≡ true → (x && (y && z)) ≡ false
-second_missing true true z e = absurd (true≢false (sym e))
-second_missing true false z e = refl
-second_missing false y z e = refl
+second_missing x y z e = grind arith
 
 last_missing : (x y z : Bool) → not z ≡ true → (x && (y && z)) ≡ false
-last_missing true true true e = absurd (true≢false (sym e))
-last_missing true true false e = refl
-last_missing true false z e = refl
-last_missing false y z e = refl
+last_missing x y z e = grind arith
 
 missing : (p : Pattern) (k : ℕ) (c : Cell) → lets p k c ≡ true → (has_cell p.not_empty k && (has_cell p.not_mine k && has_cell p.not_theirs k)) ≡ false
 missing p k Empty e = one_missing (has_cell p.not_empty k) (has_cell p.not_mine k) (has_cell p.not_theirs k) e
@@ -94,8 +84,7 @@ and_false_left : (x y : Bool) → x ≡ false → (x && y) ≡ false
 and_false_left x y e = ap (λ (z : Bool). z && y) e
 
 and_false_right : (x y : Bool) → y ≡ false → (x && y) ≡ false
-and_false_right true y e = e
-and_false_right false y e = refl
+and_false_right x y e = grind arith
 
 -- a board with a pattern shows that the pattern is not void
 pub not_void : (n : ℕ) (p : Pattern) (b : List Cell) → length b ≡ n → fits p b ≡ true → is_void n p ≡ true → ⊥

@@ -1,23 +1,15 @@
--- The tables of Pong Hau K'i are right: each field but the first and the last is a computation.
-use Rattle.std.proofs.Common.{refl, arith}
-use Rattle.gm_board.specs.Cells.{number_of}
-use Rattle.gm_pieces.specs.Steps.{from_point, to_point}
-use Rattle.gm_ways.specs.Ways.{are_joined, has_numbers, way_legal}
-use Rattle.gm_ways.specs.WayTables.{IsWayGame}
+-- The table of Pong Hau K'i is right, and so is its picture: a computation finds nothing wrong with them.
+use Rattle.std.proofs.Common.{refl}
+use Rattle.gm_patterns.specs.PatternTables.{faults, IsPatternGame}
+use Rattle.gm_patterns.specs.laws.NoFaults.{no_faults}
+use Rattle.gm_patterns.specs.laws.PatternPictured.{IsPatternPictured, pattern_pictured}
 use Rattle.gm_pong.specs.PongRules.{pong}
+use Rattle.gm_pong.specs.PongPicture.{pong_picture}
 
-pub tables : IsWayGame 5 pong
-unfolding are_joined from_point to_point way_legal has_numbers number_of
-tables = record {
-  few = omega arith;
-  name_length = refl;
-  name_text = refl;
-  start = refl;
-  ways = refl;
-  moves = refl;
-  group = refl;
-  kept = refl;
-  lines = refl;
-  names = refl;
-  may_go = λ p b i j c e l m k f. refl;
-}
+pub pong_tables : IsPatternGame 5 pong
+unfolding faults
+pong_tables = no_faults refl refl refl refl refl refl refl refl refl refl refl
+
+pub pong_pictured : IsPatternPictured 5 pong pong_picture
+unfolding pong_picture
+pong_pictured = pattern_pictured _ _ _ pong_tables refl refl (λ ps t w. w)

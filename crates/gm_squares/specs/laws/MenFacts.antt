@@ -14,11 +14,11 @@ pub if_false : {X : Type 0} (x : Bool) (y z : X) → x ≡ false → (if x then 
 if_false true y z e = absurd (true≢false e)
 if_false false y z e = refl
 
-differ : (a c : ℕ) → not (eqb a c) ≡ true → (not (eqb c a) ≡ true) × (eqb c a ≡ false)
+pub differ : (a c : ℕ) → not (eqb a c) ≡ true → (not (eqb c a) ≡ true) × (eqb c a ≡ false)
 differ a c e = (grind (arith, nat_tests), grind (arith, nat_tests))
 
 -- squares differ of which only one is attacked
-apart_by : (a c d : ℕ) → king_attacks a c ≡ true → not (king_attacks a d) ≡ true → not (eqb c d) ≡ true
+pub apart_by : (a c d : ℕ) → king_attacks a c ≡ true → not (king_attacks a d) ≡ true → not (eqb c d) ≡ true
 apart_by a c d e f = elim (cases_Bool (eqb c d)) [
   | inl i ↦ absurd (true≢false (sym f ∙ ap not (ap (king_attacks a) (sym (eqb-true c d i)) ∙ e)))
   | inr i ↦ ap not i
@@ -60,7 +60,7 @@ legal_in q b l =
           record { below = ltb-true _ _ (and_left _ _ r); king = and_left _ _ r1; foe = and_left _ _ r2; check = and_right _ _ r2 };
     }
 
-legal_from : (q : Bool) (b : Men) → IsLegal q b → legal q b ≡ true
+pub legal_from : (q : Bool) (b : Men) → IsLegal q b → legal q b ≡ true
 unfolding legal
 legal_from q b h =
     and_both _ _ (lt-ltb _ _ h.king) (and_both _ _ (lt-ltb _ _ h.foe) (and_both _ _ h.kings (and_both _ _ h.apart
@@ -116,7 +116,7 @@ pub record IsManMove (b : Men) (m k : ℕ) (white : Bool) (square : ℕ) (rest :
   pub from : from_square m ≡ square
   pub can : rest square ≡ true
 
-abbrev king_rest : Men → ℕ → ℕ → Bool
+abbrev pub king_rest : Men → ℕ → ℕ → Bool
 king_rest b c a = king_attacks a c && (not (eqb c b.piece) && not (king_attacks c b.foe))
 
 abbrev piece_rest : Bool → Men → ℕ → ℕ → Bool
@@ -130,7 +130,7 @@ IsMoveOf q b m =
     IsManMove b m 0 true b.king (king_rest b (to_square m))
     ⊎ (IsManMove b m 1 true b.piece (piece_rest q b (to_square m)) ⊎ IsManMove b m 2 false b.foe (foe_rest q b (to_square m)))
 
-man_in : (b : Men) (m k : ℕ) (w : Bool) (s : ℕ) (rest : ℕ → Bool) → b.white_moves ≡ w
+pub man_in : (b : Men) (m k : ℕ) (w : Bool) (s : ℕ) (rest : ℕ → Bool) → b.white_moves ≡ w
     → (eqb (man m) k && (eqb (from_square m) s && rest (from_square m))) ≡ true → IsManMove b m k w s rest
 man_in b m k w s rest i e =
     let f = and_right (eqb (man m) k) _ e in
@@ -150,7 +150,7 @@ move_in q b m e =
     ]
 
 -- ---- legal after a move
-king_legal : (q : Bool) (b : Men) (c : ℕ) → IsLegal q b → eqb b.piece 64 ≡ false → c < 64 → king_rest b c b.king ≡ true → IsLegal q (king_gone b c)
+pub king_legal : (q : Bool) (b : Men) (c : ℕ) → IsLegal q b → eqb b.piece 64 ≡ false → c < 64 → king_rest b c b.king ≡ true → IsLegal q (king_gone b c)
 king_legal q b c h n l k =
     let a = h.armed n in
     let r = and_right (king_attacks b.king c) _ k in
@@ -163,9 +163,8 @@ king_legal q b c h n l k =
       armed = λ i. record { below = a.below; king = (differ c b.piece (and_left _ _ r)).0; foe = a.foe; check = refl };
     }
 
-piece_legal : (q : Bool) (b : Men) (c : ℕ) → IsLegal q b → c < 64 → piece_rest q b c b.piece ≡ true → IsLegal q (piece_gone b c)
-piece_legal q b c h l k =
-    let r = and_right (piece_attacks q b.piece c b.king b.foe) _ k in
+pub piece_legal : (q : Bool) (b : Men) (c : ℕ) → IsLegal q b → c < 64 → (not (eqb c b.king) && not (eqb c b.foe)) ≡ true → IsLegal q (piece_gone b c)
+piece_legal q b c h l r =
     record {
       king = h.king;
       foe = h.foe;
@@ -206,7 +205,7 @@ unfolding moved
 moved_legal q b m h n v = elim v [
   | inl k ↦ rw k.is (legal_from q _ (king_legal q b (to_square m) h n (to_below m) k.can))
   | inr u ↦ elim u [
-    | inl k ↦ rw k.is (legal_from q _ (piece_legal q b (to_square m) h (to_below m) k.can))
+    | inl k ↦ rw k.is (legal_from q _ (piece_legal q b (to_square m) h (to_below m) (and_right (piece_attacks q b.piece (to_square m) b.king b.foe) _ k.can)))
     | inr k ↦ rw k.is (legal_from q _ (foe_legal q b (to_square m) h n (to_below m) k.can))
   ]
 ]
@@ -221,9 +220,10 @@ stood b c n = elim (cases_Bool (eqb c b.piece)) [
 ]
 
 -- a move that is taken back gives the board
-pub undone : (q : Bool) (b : Men) (m : ℕ) → eqb b.piece 64 ≡ false → IsMoveOf q b m → (can_have_led_here (moved b m) m ≡ true) × (undo (moved b m) m ≡ b)
+pub undone : (x y z : ℕ → Bool) (b : Men) (m : ℕ) → eqb b.piece 64 ≡ false → IsManMove b m 0 true b.king x ⊎ (IsManMove b m 1 true b.piece y ⊎ IsManMove b m 2 false b.foe z)
+    → (can_have_led_here (moved b m) m ≡ true) × (undo (moved b m) m ≡ b)
 unfolding moved undo can_have_led_here
-undone q b m n v =
+undone x y z b m n v =
     let a = from_square m in
     let c = to_square m in
     let same = eq-eqb c c refl in
@@ -254,7 +254,7 @@ was_in d m e = elim (cases_Bool d.white_moves) [
   ]
 ]
 
-apart_foe : (q : Bool) (d : Men) → IsLegal q d → not (eqb d.piece d.foe) ≡ true
+pub apart_foe : (q : Bool) (d : Men) → IsLegal q d → not (eqb d.piece d.foe) ≡ true
 apart_foe q d h = elim (cases_Bool (eqb d.piece 64)) [
   | inl e ↦ (let l = h.foe in let f = eqb-true d.piece 64 e in grind (arith, nat_tests, l, f))
   | inr e ↦ (h.armed e).foe
@@ -268,13 +268,13 @@ put_back p c r i n = elim (cases_Bool (eqb p 64)) [
 ]
 
 -- a move that is taken back and made again gives the board
-pub redone : (q : Bool) (d : Men) (m : ℕ) → IsLegal q d → can_have_led_here d m ≡ true → moved (undo d m) m ≡ d
+pub redone : (d : Men) (m : ℕ) → not (eqb d.piece d.foe) ≡ true → can_have_led_here d m ≡ true → moved (undo d m) m ≡ d
 unfolding moved undo
-redone q d m h e =
+redone d m h e =
     let a = from_square m in
     let c = to_square m in
     elim (was_in d m e) [
-      | inl x ↦ rw x.1 (same_men (foe_gone (foe_back d a) c) d (sym x.0) refl (put_back d.piece c d.foe x.2 (apart_foe q d h)) x.2)
+      | inl x ↦ rw x.1 (same_men (foe_gone (foe_back d a) c) d (sym x.0) refl (put_back d.piece c d.foe x.2 h) x.2)
       | inr u ↦ elim u [
         | inl x ↦ rw x.1 (same_men (king_gone (king_back d a) c) d (sym x.0) x.2 refl refl)
         | inr x ↦ rw x.1 (same_men (piece_gone (piece_back d a) c) d (sym x.0) refl x.2 refl)

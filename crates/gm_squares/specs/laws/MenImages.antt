@@ -20,7 +20,7 @@ split_to : (k a c : ℕ) → a < 64 → c < 64 → to_square (man_step_number k 
 unfolding to_square
 split_to k a c l h = omega (arith, l, h)
 
-number_below : (k a c : ℕ) → a < 64 → c < 64 → k ≤ 2 → man_step_number k a c < 12288
+pub number_below : (k a c : ℕ) → a < 64 → c < 64 → k ≤ 2 → man_step_number k a c < 12288
 number_below k a c l h s = omega (arith, l, h, s)
 
 -- a man that a move takes is taken in every image
@@ -28,23 +28,33 @@ taken_image : (t : Bool) (x p : ℕ) → (if t then 64 else image_square x p) �
 taken_image true x p = sym (image_taken x)
 taken_image false x p = refl
 
--- ---- a legal board
-module _ (q : Bool) (x : ℕ) (lx : x < 8) (b : Men) (h : legal q b ≡ true) where
+-- ---- a board
+pub record HasSquares (b : Men) : Type 0 where
+  pub king : b.king ≤ 64
+  pub foe : b.foe ≤ 64
+  pub piece : b.piece ≤ 64
+
+-- the squares of a legal board
+squares : (q : Bool) (b : Men) → legal q b ≡ true → HasSquares b
+squares q b h =
+    let k = king_below q b h in let f = foe_below q b h in record { king = omega (arith, k); foe = omega (arith, f); piece = piece_most q b h }
+
+module _ (q : Bool) (x : ℕ) (lx : x < 8) (b : Men) (h : HasSquares b) where
   k64 : b.king ≤ 64
-  k64 = let k = king_below q b h in omega (arith, k)
+  k64 = h.king
 
   f64 : b.foe ≤ 64
-  f64 = let f = foe_below q b h in omega (arith, f)
+  f64 = h.foe
 
   p64 : b.piece ≤ 64
-  p64 = piece_most q b h
+  p64 = h.piece
 
-  check_image : in_check q (image x b) ≡ in_check q b
+  pub check_image : in_check q (image x b) ≡ in_check q b
   unfolding in_check
   check_image = piece_image q x b.piece b.foe b.king b.king lx p64 f64 k64 k64
 
   -- a man that has been taken is taken in every image
-  gone : eqb (image_square x b.piece) 64 ≡ eqb b.piece 64
+  pub gone : eqb (image_square x b.piece) 64 ≡ eqb b.piece 64
   gone = ap (eqb (image_square x b.piece)) (sym (image_taken x)) ∙ image_same x b.piece 64 lx p64 (omega arith)
 
   -- an image of a legal board is legal
@@ -77,7 +87,7 @@ module _ (q : Bool) (x : ℕ) (lx : x < 8) (b : Men) (h : legal q b ≡ true) wh
 
   -- ---- moves
   module _ (m : ℕ) where
-    abbrev turned : ℕ
+    abbrev pub turned : ℕ
     turned = man_step_number (man m) (image_square x (from_square m)) (image_square x (to_square m))
 
     fl : image_square x (from_square m) < 64
@@ -92,13 +102,13 @@ module _ (q : Bool) (x : ℕ) (lx : x < 8) (b : Men) (h : legal q b ≡ true) wh
     a64 : from_square m ≤ 64
     a64 = let l = from_below m in omega (arith, l)
 
-    man_is : man turned ≡ man m
+    pub man_is : man turned ≡ man m
     man_is = split_man (man m) (image_square x (from_square m)) (image_square x (to_square m)) fl tl
 
-    from_is : from_square turned ≡ image_square x (from_square m)
+    pub from_is : from_square turned ≡ image_square x (from_square m)
     from_is = split_from (man m) (image_square x (from_square m)) (image_square x (to_square m)) fl tl
 
-    to_is : to_square turned ≡ image_square x (to_square m)
+    pub to_is : to_square turned ≡ image_square x (to_square m)
     to_is = split_to (man m) (image_square x (from_square m)) (image_square x (to_square m)) fl tl
 
     -- a move of the board has an image among the moves of the image
@@ -142,35 +152,34 @@ module _ (q : Bool) (x : ℕ) (lx : x < 8) (b : Men) (h : legal q b ≡ true) wh
     image_number l = number_below (man m) (image_square x (from_square m)) (image_square x (to_square m)) fl tl (man_small m l)
 
 -- ---- the laws
-abbrev moved_by : (ℕ → ℕ) → Men → Men
+abbrev pub moved_by : (ℕ → ℕ) → Men → Men
 moved_by f b = record { white_moves = b.white_moves; king = f b.king; piece = f b.piece; foe = f b.foe }
 
--- images of a legal board are equal where those of squares are
-on_squares : (q : Bool) (b : Men) → legal q b ≡ true → (f g : ℕ → ℕ) → ((s : ℕ) → s ≤ 64 → f s ≡ g s) → moved_by f b ≡ moved_by g b
-on_squares q b l f g e =
-    same_men (moved_by f b) (moved_by g b) refl (e b.king (k64 q 0 (omega arith) b l)) (e b.piece (p64 q 0 (omega arith) b l)) (e b.foe (f64 q 0 (omega arith) b l))
+-- images of a board are equal where those of squares are
+pub on_squares : (b : Men) → HasSquares b → (f g : ℕ → ℕ) → ((s : ℕ) → s ≤ 64 → f s ≡ g s) → moved_by f b ≡ moved_by g b
+on_squares b h f g e = same_men (moved_by f b) (moved_by g b) refl (e b.king h.king) (e b.piece h.piece) (e b.foe h.foe)
 
 pub symmetric : (q : Bool) → IsMoveSymmetric (ending q)
 symmetric q = record {
   group = record {
-    identity = (0, contains_range 8 0 (omega arith), λ b l. on_squares q b l (image_square 0) (λ s. s) image_identity);
+    identity = (0, contains_range 8 0 (omega arith), λ b l. on_squares b (squares q b l) (image_square 0) (λ s. s) image_identity);
     closed = λ x y c d.
         let lx = range_below 8 x c in
         let ly = range_below 8 y d in
         let z = image_product x y lx ly in
-        (z.0, contains_range 8 z.0 z.1, λ b l. on_squares q b l (λ s. image_square x (image_square y s)) (image_square z.0) z.2);
+        (z.0, contains_range 8 z.0 z.1, λ b l. on_squares b (squares q b l) (λ s. image_square x (image_square y s)) (image_square z.0) z.2);
     inverse = λ x c.
         let z = image_inverse x (range_below 8 x c) in
-        (z.0, contains_range 8 z.0 z.1, λ b l. on_squares q b l (λ s. image_square z.0 (image_square x s)) (λ s. s) z.2);
+        (z.0, contains_range 8 z.0 z.1, λ b l. on_squares b (squares q b l) (λ s. image_square z.0 (image_square x s)) (λ s. s) z.2);
   };
-  keeps_legal = λ x b c l. image_legal q x (range_below 8 x c) b l ∙ l;
-  keeps_over = λ x b c l. image_over q x (range_below 8 x c) b l;
-  keeps_stuck = λ x b c l. image_stuck q x (range_below 8 x c) b l;
-  keeps_tier = λ x b c l. image_tier q x (range_below 8 x c) b l;
+  keeps_legal = λ x b c l. image_legal q x (range_below 8 x c) b (squares q b l) ∙ l;
+  keeps_over = λ x b c l. image_over q x (range_below 8 x c) b (squares q b l);
+  keeps_stuck = λ x b c l. image_stuck q x (range_below 8 x c) b (squares q b l);
+  keeps_tier = λ x b c l. image_tier q x (range_below 8 x c) b (squares q b l);
   keeps_move = λ x b m c l h.
       let lx = range_below 8 x c in (
-        turned q x lx b l m,
-        record { below = image_number q x lx b l m h.below; not_over = image_over q x lx b l ∙ h.not_over; can = image_can q x lx b l m ∙ h.can },
-        image_moved q x lx b l m,
+        turned q x lx b (squares q b l) m,
+        record { below = image_number q x lx b (squares q b l) m h.below; not_over = image_over q x lx b (squares q b l) ∙ h.not_over; can = image_can q x lx b (squares q b l) m ∙ h.can },
+        image_moved q x lx b (squares q b l) m,
       );
 }

@@ -5,7 +5,7 @@ use Rattle.gm_game.specs.declared.position.End.TheVariants.{Tie}
 use Rattle.gm_squares.specs.Squares.{goes_on_board, beside}
 use Rattle.gm_squares.specs.declared.men.Men.{Men}
 use Rattle.gm_squares.specs.Chess.{legal, moved, end_by_last_move, tier, child_tiers, chess_name, start, ending, king_attacks, piece_attacks, in_check, ray, reaches}
-use Rattle.gm_squares.specs.laws.MenFacts.{legal_in, move_in, moved_legal, undone, redone}
+use Rattle.gm_squares.specs.laws.MenFacts.{legal_in, move_in, moved_legal, apart_foe, undone, redone}
 use Rattle.gm_squares.specs.laws.TriedMoves.{moves_few, befores_few}
 
 -- ---- tiers
@@ -61,8 +61,8 @@ lawful q = record {
   moved_tier = λ b m l h. moved_tier b (moved b m) (three_men b h.not_over);
   child_rank = child_rank;
   child_tiers_ascending = λ t. cond_both (eqb t 1) (0 ∷ []) [] IsAscending (λ e. tt) (λ e. tt);
-  undone = λ b m l h. undone q b m (three_men b h.not_over) (move_in q b m h.can);
-  redone = λ t d m l w k e h. redone q d m (legal_in q d l) w;
+  undone = λ b m l h. undone _ _ _ b m (three_men b h.not_over) (move_in q b m h.can);
+  redone = λ t d m l w k e h. redone d m (apart_foe q d (legal_in q d l)) w;
   moves_few = λ b l. moves_few q b l;
   befores_few = λ t d l. befores_few q d l;
   child_tiers_few = λ t. cond_both (eqb t 1) (0 ∷ []) [] (λ (xs : List ℕ). length xs ≤ 16) (λ e. omega arith) (λ e. omega arith);

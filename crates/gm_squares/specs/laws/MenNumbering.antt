@@ -2,8 +2,8 @@
 use Rattle.std.specs.Prelude.{◌≡◌, ◌+◌, ◌<◌, ◌≤◌, ◌*◌, ◌/◌, ◌%◌}
 use Rattle.gm_pieces.specs.Common.{ℕ, zero, suc, Bool, true, false, eqb, eqb-true, nat_tests, refl, sym, ap, ap₂, ◌∙◌, arith, cases_Bool, cond_both, inl, inr, IsNumbered, board_game}
 use Rattle.gm_squares.specs.declared.men.Men.{Men}
-use Rattle.gm_squares.specs.Chess.{turn_of, tier, index, board, size, ending}
-use Rattle.gm_squares.specs.laws.MenFacts.{IsLegal, legal_in, same_men}
+use Rattle.gm_squares.specs.Chess.{turn_of, tier, index, board, size, legal, ending}
+use Rattle.gm_squares.specs.laws.MenFacts.{legal_in, piece_most, same_men}
 
 -- ---- bare kings, and three men
 abbrev bare_index : Men → ℕ
@@ -26,7 +26,7 @@ pub armed_is : (b : Men) → eqb b.piece 64 ≡ false → (tier b ≡ 1) × (ind
 unfolding tier index
 armed_is b e = rw e (refl, refl)
 
-sizes : (size 0 ≡ 4096) × (size 1 ≡ 524288) × (board 0 ≡ bare_board) × (board 1 ≡ armed_board)
+pub sizes : (size 0 ≡ 4096) × (size 1 ≡ 524288) × (board 0 ≡ bare_board) × (board 1 ≡ armed_board)
 unfolding size board
 sizes = (refl, refl, refl, refl)
 
@@ -54,8 +54,21 @@ size_most zero = let s = sizes.0 in omega (arith, s)
 size_most (suc zero) = let s = sizes.1 in omega (arith, s)
 size_most (suc (suc t)) = let s = size_past (suc (suc t)) (omega arith) in omega (arith, s)
 
-index_below : (q : Bool) (b : Men) → IsLegal q b → index b < size (tier b)
-index_below q b h = elim (cases_Bool (eqb b.piece 64)) [
+-- what the numbering needs of a board
+pub record HasIndex (b : Men) : Type 0 where
+  pub king : b.king < 64
+  pub foe : b.foe < 64
+  pub piece : b.piece ≤ 64
+  pub bare : eqb b.piece 64 ≡ true → b.white_moves ≡ true
+
+has_index : (q : Bool) (b : Men) → legal q b ≡ true → HasIndex b
+has_index q b l = let h = legal_in q b l in record { king = h.king; foe = h.foe; piece = piece_most q b l; bare = h.bare }
+
+not_64 : (p : ℕ) → p ≤ 64 → eqb p 64 ≡ false → p < 64
+not_64 p l e = grind (arith, nat_tests, l, e)
+
+pub index_below : (b : Men) → HasIndex b → index b < size (tier b)
+index_below b h = elim (cases_Bool (eqb b.piece 64)) [
   | inl e ↦ (
       let t = bare_is b e in
       let s = ap size t.0 ∙ sizes.0 in
@@ -65,13 +78,13 @@ index_below q b h = elim (cases_Bool (eqb b.piece 64)) [
       let t = armed_is b e in
       let s = ap size t.0 ∙ sizes.1 in
       let k = h.king in let f = h.foe in
-      let p = (h.armed e).below in
+      let p = not_64 b.piece h.piece e in
       let w = turn_small b.white_moves in
       omega (arith, s, t.1, k, f, p, w))
 ]
 
-board_back : (q : Bool) (b : Men) → IsLegal q b → board (tier b) (index b) ≡ b
-board_back q b h = elim (cases_Bool (eqb b.piece 64)) [
+pub board_back : (b : Men) → HasIndex b → board (tier b) (index b) ≡ b
+board_back b h = elim (cases_Bool (eqb b.piece 64)) [
   | inl e ↦ (
       let t = bare_is b e in
       let i = bare_index b in
@@ -82,7 +95,7 @@ board_back q b h = elim (cases_Bool (eqb b.piece 64)) [
       let t = armed_is b e in
       let i = armed_index b in
       let k = h.king in let f = h.foe in
-      let p = (h.armed e).below in
+      let p = not_64 b.piece h.piece e in
       let w = turn_small b.white_moves in
       let turn : i / 262144 ≡ turn_of b.white_moves = omega (arith, k, f, p) in
       ap₂ board t.0 t.1 ∙ ap (λ (g : ℕ → Men). g i) sizes.3
@@ -106,7 +119,7 @@ pub numbered : (q : Bool) → IsNumbered (board_game (ending q))
 numbered q = record {
   tier_fits = λ b l. let t = tier_small b in omega (arith, t);
   size_fits = λ b l. let s = size_most (tier b) in omega (arith, s);
-  index_below = λ b l. index_below q b (legal_in q b l);
-  board_back = λ b l. board_back q b (legal_in q b l);
+  index_below = λ b l. index_below b (has_index q b l);
+  board_back = λ b l. board_back b (has_index q b l);
   index_back = λ t i l k e. index_back t i l;
 }

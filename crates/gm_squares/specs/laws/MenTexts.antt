@@ -5,37 +5,41 @@ use Rattle.gm_squares.specs.Squares.{square_in}
 use Rattle.gm_squares.specs.laws.Texts.{square_plain, square_told}
 use Rattle.gm_squares.specs.declared.men.Men.{Men}
 use Rattle.gm_squares.specs.Chess.{legal, man, from_square, to_square, piece_char, man_char, board_text, step_text, told, ending}
+use Rattle.gm_squares.specs.Kpk.{men_text}
 use Rattle.gm_squares.specs.laws.MenFacts.{IsLegal, legal_in, same_men, from_below, to_below, man_small}
 
 -- ---- the bytes of a text
-abbrev side_char : Bool → ℕ
+abbrev pub side_char : Bool → ℕ
 side_char white_moves = if white_moves then 119 else 98
 
-abbrev bare_text : Men → List ℕ
+abbrev pub bare_text : Men → List ℕ
 bare_text b =
     75 ∷ (97 + b.king % 8) ∷ (49 + b.king / 8) ∷ 32 ∷ 107 ∷ (97 + b.foe % 8) ∷ (49 + b.foe / 8) ∷ 32 ∷ side_char b.white_moves ∷ []
 
-abbrev armed_text : Bool → Men → List ℕ
-armed_text q b =
-    75 ∷ (97 + b.king % 8) ∷ (49 + b.king / 8) ∷ 32 ∷ piece_char q ∷ (97 + b.piece % 8) ∷ (49 + b.piece / 8) ∷ 32 ∷ 107 ∷ (97 + b.foe % 8)
+abbrev pub armed_text : ℕ → Men → List ℕ
+armed_text letter b =
+    75 ∷ (97 + b.king % 8) ∷ (49 + b.king / 8) ∷ 32 ∷ letter ∷ (97 + b.piece % 8) ∷ (49 + b.piece / 8) ∷ 32 ∷ 107 ∷ (97 + b.foe % 8)
     ∷ (49 + b.foe / 8) ∷ 32 ∷ side_char b.white_moves ∷ []
 
-bare_by : (q : Bool) (b : Men) → eqb b.piece 64 ≡ true → board_text q b ≡ bare_text b
+pub bare_by : (letter : ℕ) (b : Men) → eqb b.piece 64 ≡ true → men_text letter b ≡ bare_text b
+bare_by letter b e = rw e refl
+
+pub armed_by : (letter : ℕ) (b : Men) → eqb b.piece 64 ≡ false → men_text letter b ≡ armed_text letter b
+armed_by letter b e = rw e refl
+
+pub bare_is : (letter : ℕ) (b : Men) → b.piece ≡ 64 → men_text letter b ≡ bare_text b
+bare_is letter b e = bare_by letter b (eq-eqb _ _ e)
+
+pub armed_is : (letter : ℕ) (b : Men) → b.piece ≢ 64 → men_text letter b ≡ armed_text letter b
+armed_is letter b n = armed_by letter b (grind (arith, nat_tests))
+
+-- the text of a rook's or queen's board
+text_is : (q : Bool) (b : Men) → board_text q b ≡ men_text (piece_char q) b
 unfolding board_text
-bare_by q b e = rw e refl
-
-armed_by : (q : Bool) (b : Men) → eqb b.piece 64 ≡ false → board_text q b ≡ armed_text q b
-unfolding board_text
-armed_by q b e = rw e refl
-
-pub bare_is : (q : Bool) (b : Men) → b.piece ≡ 64 → board_text q b ≡ bare_text b
-bare_is q b e = bare_by q b (eq-eqb _ _ e)
-
-pub armed_is : (q : Bool) (b : Men) → b.piece ≢ 64 → board_text q b ≡ armed_text q b
-armed_is q b n = armed_by q b (grind (arith, nat_tests))
+text_is q b = refl
 
 -- ---- plain
-side_plain : (w : Bool) → IsPlain (side_char w ∷ [])
+pub side_plain : (w : Bool) → IsPlain (side_char w ∷ [])
 side_plain true = refl
 side_plain false = refl
 
@@ -46,11 +50,11 @@ piece_plain false = refl
 bare_plain : (q : Bool) (b : Men) → IsLegal q b → IsPlain (bare_text b)
 bare_plain q b h = square_plain b.king h.king (square_plain b.foe h.foe (side_plain b.white_moves))
 
-armed_plain : (q : Bool) (b : Men) → IsLegal q b → b.piece < 64 → IsPlain (armed_text q b)
+armed_plain : (q : Bool) (b : Men) → IsLegal q b → b.piece < 64 → IsPlain (armed_text (piece_char q) b)
 armed_plain q b h p = square_plain b.king h.king (and_both _ _ (piece_plain q) (square_plain b.piece p (square_plain b.foe h.foe (side_plain b.white_moves))))
 
 -- ---- a text determines its board
-side_told : (w : Bool) → eqb (side_char w) 119 ≡ w
+pub side_told : (w : Bool) → eqb (side_char w) 119 ≡ w
 side_told true = refl
 side_told false = refl
 
@@ -58,14 +62,14 @@ bare_told : (q : Bool) (b : Men) → IsLegal q b → b.piece ≡ 64 → told (ba
 unfolding told
 bare_told q b h e = same_men (told (bare_text b)) b (sym (h.bare (eq-eqb _ _ e))) (square_told b.king) (sym e) (square_told b.foe)
 
-armed_told : (q : Bool) (b : Men) → told (armed_text q b) ≡ b
+armed_told : (q : Bool) (b : Men) → told (armed_text (piece_char q) b) ≡ b
 unfolding told
-armed_told q b = same_men (told (armed_text q b)) b (side_told b.white_moves) (square_told b.king) (square_told b.piece) (square_told b.foe)
+armed_told q b = same_men (told (armed_text (piece_char q) b)) b (side_told b.white_moves) (square_told b.king) (square_told b.piece) (square_told b.foe)
 
 pub told_text : (q : Bool) (b : Men) → legal q b ≡ true → told (board_text q b) ≡ b
 told_text q b l = elim (cases_Bool (eqb b.piece 64)) [
-  | inl e ↦ ap told (bare_by q b e) ∙ bare_told q b (legal_in q b l) (eqb-true _ _ e)
-  | inr e ↦ ap told (armed_by q b e) ∙ armed_told q b
+  | inl e ↦ ap told (text_is q b ∙ bare_by (piece_char q) b e) ∙ bare_told q b (legal_in q b l) (eqb-true _ _ e)
+  | inr e ↦ ap told (text_is q b ∙ armed_by (piece_char q) b e) ∙ armed_told q b
 ]
 
 -- ---- moves
@@ -96,7 +100,7 @@ man_plain q k =
 step_plain : (q : Bool) (m : ℕ) → IsPlain (step_bytes q m)
 step_plain q m = and_both _ _ (man_plain q (man m)) (square_plain (from_square m) (from_below m) (square_plain (to_square m) (to_below m) refl))
 
-same_number : (l m : ℕ) → man l ≡ man m → from_square l ≡ from_square m → to_square l ≡ to_square m → l ≡ m
+pub same_number : (l m : ℕ) → man l ≡ man m → from_square l ≡ from_square m → to_square l ≡ to_square m → l ≡ m
 unfolding man from_square to_square
 same_number l m e f g = omega (arith, e, f, g)
 
@@ -110,12 +114,12 @@ step_once q m n l k e =
 pub readable : (q : Bool) → AreTexts (ending q) (board_text q) (λ t m. step_text q m)
 readable q = record {
   text_plain = λ b l. elim (cases_Bool (eqb b.piece 64)) [
-    | inl e ↦ ap (λ (t : List ℕ). list_all is_plain t) (bare_by q b e) ∙ bare_plain q b (legal_in q b l)
-    | inr e ↦ ap (λ (t : List ℕ). list_all is_plain t) (armed_by q b e) ∙ armed_plain q b (legal_in q b l) ((legal_in q b l).armed e).below
+    | inl e ↦ ap (λ (t : List ℕ). list_all is_plain t) (text_is q b ∙ bare_by (piece_char q) b e) ∙ bare_plain q b (legal_in q b l)
+    | inr e ↦ ap (λ (t : List ℕ). list_all is_plain t) (text_is q b ∙ armed_by (piece_char q) b e) ∙ armed_plain q b (legal_in q b l) ((legal_in q b l).armed e).below
   ];
   text_fits = λ b l. elim (cases_Bool (eqb b.piece 64)) [
-    | inl e ↦ (let n = ap (λ (t : List ℕ). length t) (bare_by q b e) in omega (arith, n))
-    | inr e ↦ (let n = ap (λ (t : List ℕ). length t) (armed_by q b e) in omega (arith, n))
+    | inl e ↦ (let n = ap (λ (t : List ℕ). length t) (text_is q b ∙ bare_by (piece_char q) b e) in omega (arith, n))
+    | inr e ↦ (let n = ap (λ (t : List ℕ). length t) (text_is q b ∙ armed_by (piece_char q) b e) in omega (arith, n))
   ];
   text_once = λ a b l k e. sym (told_text q a l) ∙ ap told e ∙ told_text q b k;
   step_plain = λ b m l k. ap (λ (t : List ℕ). list_all is_plain t) (step_is q m) ∙ step_plain q m;

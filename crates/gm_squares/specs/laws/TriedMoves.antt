@@ -8,11 +8,11 @@ use Rattle.gm_squares.specs.Chess.{legal, man, from_square, to_square, can_move,
 use Rattle.gm_squares.specs.inner.Runs.{row}
 use Rattle.gm_squares.specs.laws.MenFacts.{king_below, foe_below, piece_most, piece_below, move_in, was_in, to_below, from_below}
 
-at_from : (m k s : ℕ) → man m ≡ k → from_square m ≡ s → 4096 * k + 64 * s + 1 * to_square m ≡ m
+pub at_from : (m k s : ℕ) → man m ≡ k → from_square m ≡ s → 4096 * k + 64 * s + 1 * to_square m ≡ m
 unfolding man from_square to_square
 at_from m k s e f = omega (arith, e, f)
 
-at_to : (m k s : ℕ) → man m ≡ k → to_square m ≡ s → 4096 * k + s + 64 * from_square m ≡ m
+pub at_to : (m k s : ℕ) → man m ≡ k → to_square m ≡ s → 4096 * k + s + 64 * from_square m ≡ m
 unfolding man from_square to_square
 at_to m k s e f = omega (arith, e, f)
 

@@ -3,8 +3,9 @@ use Rattle.std.specs.Prelude.{◌==◌}
 use Rattle.std.specs.Io.Iter.{bytes_remaining}
 use Rattle.gm_play.specs.Dialogue.{without_return}
 use Rattle.gm_json.specs.Asking.{kept_bytes}
+use Rattle.gm_json.proofs.Splitting.{some_of, short_of, full_of, unequal}
 use Rattle.gamesman.specs.Filters.{IsLineFault}
-use Rattle.gamesman.proofs.Filtering.{Amid, begins, one_byte, byte_kept, byte_past, line_done, line_fails, all_done, last_done, last_fails}
+use Rattle.gamesman.proofs.Filtering.{Amid, none_of, begins, one_byte, byte_kept, byte_past, line_done, line_fails, all_done, last_done, last_fails}
 use Rattle.gamesman.proofs.filter.answer_lines.Goals as goal
 
 pub loop-byte-init : goal.loop-byte-init
@@ -33,7 +34,7 @@ loop-byte-preserved-then-not-is_full g c =
     let b = c.in-Ok.byte in
     let kept = c.loop-byte.line.items in
     let other : (b == 10) ≡ false = search rules in
-    let short : length kept < kept_bytes = grind (arith, c.is_full.ensures.value, c.is_full.ensures.fits, c.if-not-is_full.true) in
+    let short : length kept < kept_bytes = short_of _ _ _ c.is_full.ensures.value c.is_full.ensures.fits c.if-not-is_full.true in
     let grown : c.push.new.self.items ≡ kept ++ b ∷ [] = search rules in
     byte_kept IsText c.loop-byte.number kept b _ _ _ _ _ c.loop-byte.invariant (one_byte _ _ c.in-Some.byte b c.in-Ok.is c.in-Some.ensures.steps)
     c.push.new.self.items other short grown
@@ -43,8 +44,8 @@ loop-byte-preserved g c =
     let IsText = IsTextFor (game_spec g.G.Game.rules g.G.Shown.shown g.G.Shown.move_shown g.G.Pictured.picture) c.args.question in
     let b = c.in-Ok.byte in
     let kept = c.loop-byte.line.items in
-    let other : (b == 10) ≡ false = search rules in
-    let full : kept_bytes ≤ length kept = grind (arith, c.is_full.ensures.value, c.is_full.ensures.fits, c.if-not-is_full.false) in
+    let other : (b == 10) ≡ false = unequal b 10 c.if-byte-eq10.false in
+    let full : kept_bytes ≤ length kept = full_of _ _ _ c.is_full.ensures.value c.is_full.ensures.fits c.if-not-is_full.false in
     byte_past IsText c.loop-byte.number kept b _ _ _ _ _ c.loop-byte.invariant (one_byte _ _ c.in-Some.byte b c.in-Ok.is c.in-Some.ensures.steps) kept other
     full refl
 
@@ -68,7 +69,7 @@ returns-in_err-answer_line-2 g c =
     let IsText = IsTextFor (game_spec g.G.Game.rules g.G.Shown.shown g.G.Shown.move_shown g.G.Pictured.picture) c.args.question in
     let IsNone = IsOfNone g.G.Game.rules g.G.Shown.shown g.G.Shown.move_shown in
     let kept = c.loop-byte.line.items in
-    let some : 0 < length kept = grind (arith, c.is_empty.ensures, c.if-not-is_empty.true) in
+    let some : 0 < length kept = some_of _ _ c.is_empty.ensures c.if-not-is_empty.true in
     let w1 = g.O.Write.contents c.loop-byte.output in
     let w2 = g.O.Write.contents c.answer_line-then-not-is_empty.new.output in
     let fault = c.in_err-answer_line-2.field-0.0 in
@@ -82,7 +83,7 @@ pub returns-in_ok-answer_line-2 : goal.returns-in_ok-answer_line-2
 returns-in_ok-answer_line-2 g c =
     let IsText = IsTextFor (game_spec g.G.Game.rules g.G.Shown.shown g.G.Shown.move_shown g.G.Pictured.picture) c.args.question in
     let kept = c.loop-byte.line.items in
-    let some : 0 < length kept = grind (arith, c.is_empty.ensures, c.if-not-is_empty.true) in
+    let some : 0 < length kept = some_of _ _ c.is_empty.ensures c.if-not-is_empty.true in
     let w1 = g.O.Write.contents c.loop-byte.output in
     let w2 = g.O.Write.contents c.answer_line-then-not-is_empty.new.output in (
       refl,
@@ -95,5 +96,5 @@ pub returns-else-not-is_empty : goal.returns-else-not-is_empty
 returns-else-not-is_empty g c =
     let IsText = IsTextFor (game_spec g.G.Game.rules g.G.Shown.shown g.G.Shown.move_shown g.G.Pictured.picture) c.args.question in
     let kept = c.loop-byte.line.items in
-    let none : length kept ≡ 0 = grind (arith, c.is_empty.ensures, c.if-not-is_empty.false) in
+    let none : length kept ≡ 0 = none_of _ _ c.is_empty.ensures c.if-not-is_empty.false in
     (refl, all_done IsText c.loop-byte.number kept _ _ _ _ c.loop-byte.invariant c.in-None.ensures.steps none)

@@ -1,4 +1,4 @@
-use Rattle.gamesman.proofs.Lower.{Bool, None, Some, inr, sym, ap, subst, IfOk-weaker, OutOfMemory, game_spec, AreChosen, IsUnsearched}
+use Rattle.gamesman.proofs.Lower.{◌≡◌, Bool, None, Some, inl, inr, sym, ap, subst, IfOk-weaker, OutOfMemory, game_spec, AreChosen, IsUnsearched}
 use Rattle.std.proofs.Common.{ap₂}
 use Rattle.gm_command.specs.declared.requests.Report.{Report}
 use Rattle.gm_find.specs.declared.sought.Choice.{Choice}
@@ -41,7 +41,10 @@ returns-in-Random g c =
     let r = g.G.Game.rules in
     let asked = c.args.asked in
     let tiers = c.args.known.now.tiers.now in
-    let at_once = ap₂ (λ (report : Report) (choice : Choice). limit_by_tier report choice) (sym c.in-Lines.is) (sym c.in-Random.is) in
+    let at_once : None ≡ limit_by_tier asked.report asked.choice = elim c.in-Random.is [
+      | inl random ↦ let (n, seed, is) = random in ap₂ (λ (report : Report) (choice : Choice). limit_by_tier report choice) (sym c.in-Lines.is) (sym is)
+      | inr sorted ↦ let (order, n, is) = sorted in ap₂ (λ (report : Report) (choice : Choice). limit_by_tier report choice) (sym c.in-Lines.is) (sym is)
+    ] in
     let told = text_told c.lines_at_once-lines.result (λ v. v.items) (λ e. OutOfMemory e) (IsFoundOf spec asked) (IsUnsearched r asked.tier) _ _
     c.put_text-in-Random.result (λ e. tt) (λ e. inr tt)
     (IfOk-weaker c.lines_at_once-lines.result _ _

@@ -1,12 +1,13 @@
 use Rattle.gamesman.proofs.Lower.{ap, ◌∙◌, ◌++◌, on_ok_weaker, game_spec}
 use Rattle.serde_json.proofs.Views.{view-Object}
 use Rattle.gm_json.specs.Words.{line_of}
+use Rattle.gamesman.specs.Listing.{data_of}
 use Rattle.gamesman.proofs.Entries.{entry_no_float}
 use Rattle.gamesman.proofs.listing.push_entry.Goals as goal
 
 pub push_line-requires : goal.push_line-requires
 push_line-requires g c =
-    entry_no_float _ c.args.name.now (game_spec g.G.Game.rules g.G.Shown.shown g.G.Shown.move_shown g.G.Pictured.picture)
+    entry_no_float _ (data_of c.args.entry.now) (game_spec g.G.Game.rules g.G.Shown.shown g.G.Shown.move_shown g.G.Pictured.picture)
     (view-Object c.put_entry.new.members ∙ c.in_ok-put_entry.ensures)
 
 pub returns : goal.returns

@@ -7,7 +7,7 @@ use Rattle.gm_command.proofs.commands.gamesman.Goals as goal
 
 pub returns : goal.returns
 returns c =
-    let about = ap app_of_fields c.about.ensures ∙ c.new.ensures.app in
+    let about = ap app_of_fields c.after_help.ensures ∙ ap app_of_fields c.about.ensures ∙ c.new.ensures.app in
     let version = ap app_of_fields c.version.ensures ∙ ap (λ (a : App). record a { top = record a.top { has_version = true } }) about in
     let required = ap app_of_fields c.subcommand_required.ensures ∙ ap (λ (a : App). record a { top = record a.top { subcommand_required = true } }) version in
     IfOk-weaker c.subcommands.result _ _

@@ -1,5 +1,8 @@
 use Rattle.gm_find.proofs.Lower.{is_some, Position}
-use Rattle.gm_find.specs.Founds.{IsKnownAt}
+use Rattle.std.proofs.lemmas.List.Elements.{All-take}
+use Rattle.std.proofs.lemmas.List.Sorted.{All-permutation}
+use Rattle.gm_find.specs.declared.found.Found.{Found}
+use Rattle.gm_find.specs.Founds.{IsFound, IsKnownAt}
 use Rattle.gm_find.proofs.Picking.{picked_all}
 use Rattle.gm_find.proofs.Telling.{all_known}
 use Rattle.gm_find.proofs.choice.find_some.Goals as goal
@@ -13,3 +16,8 @@ look_up-requires g c =
     c.in_ok-all-in-Random.ensures in
     rw c.as_slice-in-Random.ensures.value
     (picked_all P c.as_slice.result.now c.in_ok-some-in-Random.some.items c.in_ok-some-in-Random.ensures.picked (rw c.as_slice.ensures.value each))
+
+pub returns-in_ok-put_in_order-in-Sorted-clause-each : goal.returns-in_ok-put_in_order-in-Sorted-clause-each
+returns-in_ok-put_in_order-in-Sorted-clause-each g c =
+    let P : Found → Type 0 = IsFound g.G.Game.rules in
+    rw c.truncate.ensures.items (All-take P _ _ (All-permutation P _ _ c.in_ok-put_in_order-in-Sorted.ensures.same c.in_ok-all-in-Sorted.ensures.each))

@@ -1,5 +1,5 @@
 use Rattle.gm_find.proofs.Lower.{sym, subst, ◌∙◌, is_some, IsFirst, IsMatch, all_positions}
-use Rattle.gm_find.proofs.Telling.{all_known, both_told}
+use Rattle.gm_find.proofs.Telling.{all_known, all_told}
 use Rattle.gm_find.proofs.found.find.Goals as goal
 
 pub look_up-requires : goal.look_up-requires
@@ -11,8 +11,10 @@ look_up-requires g c =
 
 pub returns : goal.returns
 returns g c =
-    both_told c.look_up.result _ _ _ (λ v positions each. record {
+    all_told c.look_up.result _ _ _ _ (λ v positions each counted. record {
       positions = subst (IsFirst (IsMatch g.G.Game.rules c.args.sought (is_some c.args.reached)) c.args.limit
           (all_positions g.G.Game.rules c.args.known.now.tiers.now)) (sym (positions ∙ c.as_slice.ensures.value)) c.in_ok-positions.ensures;
       each = each;
+      counted = counted;
     }) c.look_up.ensures.positions c.look_up.ensures.each
+    c.look_up.ensures.counted

@@ -1,6 +1,7 @@
 use Rattle.gm_find.proofs.Lower.{◌∷◌, [], ◌∙◌, take_more, take_all, at, IsFound, found_position, refl}
 use Rattle.std.proofs.lemmas.List.{map-append}
 use Rattle.std.proofs.lemmas.List.Elements.{All-push}
+use Rattle.gm_find.specs.Founds.{HasTriesAsked}
 use Rattle.gm_find.proofs.found.look_up.Goals as goal
 
 pub loop-p-preserved : goal.loop-p-preserved
@@ -18,6 +19,7 @@ loop-p-preserved g c =
         c.found_at.ensures.position,
       ) refl;
       each = rw c.in_ok-push.ensures.items (All-push (IsFound g.G.Game.rules) list x c.loop-p.invariant.each c.found_at.ensures.found);
+      counted = rw c.in_ok-push.ensures.items (All-push (HasTriesAsked c.args.tries) list x c.loop-p.invariant.counted c.found_at.ensures.counted);
     }
 
 pub invariant_of-known : goal.invariant_of-known
@@ -29,4 +31,5 @@ pub returns : goal.returns
 returns g c = record {
   positions = c.loop-p.invariant.positions ∙ take_all c.loop-p.p-index c.args.positions.now c.loop-p-test.false;
   each = c.loop-p.invariant.each;
+  counted = c.loop-p.invariant.counted;
 }

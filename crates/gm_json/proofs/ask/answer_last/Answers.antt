@@ -2,6 +2,7 @@ use Rattle.gm_json.proofs.Lower.{◌≡◌, ◌<◌, length, arith, rules, on_ok
 use Rattle.std.proofs.KnownBytes.{Keeps-refl}
 use Rattle.gm_json.proofs.Serving.{all_served, last_done, last_failed, last_refused}
 use Rattle.gm_json.proofs.Exits.{passed, err_kind}
+use Rattle.gm_json.proofs.Splitting.{some_of}
 use Rattle.gm_json.proofs.ask.answer_last.Goals as goal
 
 pub returns-then-is_empty-clause-ok : goal.returns-then-is_empty-clause-ok
@@ -13,14 +14,14 @@ returns-then-is_empty-clause-ok g c r0 r1 r2 w0 h same end =
 pub returns-in_err-take_answer-clause-err : goal.returns-in_err-take_answer-clause-err
 returns-in_err-take_answer-clause-err g c r0 r1 r2 w0 h same =
     let e = c.in_err-take_answer.field-0.0 in
-    let some : 0 < length c.args.hand.now.line.items = grind (arith, c.is_empty.ensures, c.if-is_empty.false) in
+    let some : 0 < length c.args.hand.now.line.items = some_of _ _ c.is_empty.ensures c.if-is_empty.false in
     passed c.from_residual.result _ e c.from_residual.ensures.1
     (last_refused (IsAnswer g.G.Game.rules g.G.Shown.shown g.G.Shown.move_shown c.args.asked c.args.tiers.now) c.args.hand.now.number
     c.args.hand.now.line.items r0 r1 r2 w0 _ h same _ some e c.in_err-take_answer.ensures.kind (Keeps-refl _))
 
 pub returns-clause-ok : goal.returns-clause-ok
 returns-clause-ok g c r0 r1 r2 w0 h same end =
-    let some : 0 < length c.args.hand.now.line.items = grind (arith, c.is_empty.ensures, c.if-is_empty.false) in
+    let some : 0 < length c.args.hand.now.line.items = some_of _ _ c.is_empty.ensures c.if-is_empty.false in
     on_ok_weaker c.flush.result
     (last_done (IsAnswer g.G.Game.rules g.G.Shown.shown g.G.Shown.move_shown c.args.asked c.args.tiers.now) c.args.hand.now.number
     c.args.hand.now.line.items r0 r1 r2 w0 _ h same _ some c.args.hand.now.answers.items c.take_answer.new.hand.answers.items
@@ -29,7 +30,7 @@ returns-clause-ok g c r0 r1 r2 w0 h same end =
 
 pub returns-clause-err : goal.returns-clause-err
 returns-clause-err g c r0 r1 r2 w0 h same =
-    let some : 0 < length c.args.hand.now.line.items = grind (arith, c.is_empty.ensures, c.if-is_empty.false) in
+    let some : 0 < length c.args.hand.now.line.items = some_of _ _ c.is_empty.ensures c.if-is_empty.false in
     err_kind c.flush.result IsAskOutputError _ _
     (λ e k part. last_failed (IsAnswer g.G.Game.rules g.G.Shown.shown g.G.Shown.move_shown c.args.asked c.args.tiers.now) c.args.hand.now.number
     c.args.hand.now.line.items r0 r1 r2 w0 _ h same _ some e c.args.hand.now.answers.items

@@ -1,6 +1,7 @@
 use Rattle.gm_json.proofs.Lower.{◌≡◌, ◌≤◌, ◌<◌, ◌++◌, ◌∷◌, [], true, false, length, refl, arith, rules, ◌==◌, kept_bytes, IsAnswer}
 use Rattle.gm_json.proofs.Serving.{byte_kept, byte_past, line_done, line_broken}
 use Rattle.gm_json.proofs.Exits.{err_map, ok_three}
+use Rattle.gm_json.proofs.Splitting.{short_of, full_of, unequal}
 use Rattle.gm_json.proofs.ask.take_byte.Goals as goal
 
 pub returns-then-byte-eq10-clause-ok : goal.returns-then-byte-eq10-clause-ok
@@ -28,13 +29,13 @@ returns-then-not-is_full-clause-ok g c ahead r0 r1 w0 h =
     let kept = c.args.hand.now.line.items in
     let grown : c.push.new.self.items ≡ kept ++ c.args.byte ∷ [] = search rules in
     let other : (c.args.byte == 10) ≡ false = search rules in
-    let short : length kept < kept_bytes = grind (arith, c.is_full.ensures.value, c.is_full.ensures.fits, c.if-not-is_full.true) in
+    let short : length kept < kept_bytes = short_of _ _ _ c.is_full.ensures.value c.is_full.ensures.fits c.if-not-is_full.true in
     byte_kept says c.args.hand.now.number kept c.args.hand.now.answers.items ahead c.args.byte r0 r1 w0 _ h c.push.new.self.items other short grown
 
 pub returns-else-not-is_full-clause-ok : goal.returns-else-not-is_full-clause-ok
 returns-else-not-is_full-clause-ok g c ahead r0 r1 w0 h =
     let says = IsAnswer g.G.Game.rules g.G.Shown.shown g.G.Shown.move_shown c.args.asked c.args.tiers.now in
     let kept = c.args.hand.now.line.items in
-    let other : (c.args.byte == 10) ≡ false = search rules in
-    let full : kept_bytes ≤ length kept = grind (arith, c.is_full.ensures.value, c.is_full.ensures.fits, c.if-not-is_full.false) in
+    let other : (c.args.byte == 10) ≡ false = unequal c.args.byte 10 c.if-byte-eq10.false in
+    let full : kept_bytes ≤ length kept = full_of _ _ _ c.is_full.ensures.value c.is_full.ensures.fits c.if-not-is_full.false in
     byte_past says c.args.hand.now.number kept c.args.hand.now.answers.items ahead c.args.byte r0 r1 w0 _ h kept other full refl

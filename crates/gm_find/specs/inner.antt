@@ -1,0 +1,2 @@
+-- What no promise rests on: words that only proofs cite.
+pub mod Tallies
