@@ -34,8 +34,6 @@ SHARED = (
 
 # Files of specs/ that no promise rests on, and that are not in specs/inner, with the reason.
 BESIDE = {
-    "gm_connect.specs.ConnectPicture": "the pictures of games that the program doesn't have",
-    "gm_numbers.specs.NumbersPictures": "the pictures of games that the program doesn't have",
     "gm_patterns.specs.PatternTables": "tests that a new game has to pass",
     "gm_pieces.specs.SmallTables": "tests that a new game has to pass",
     "gm_solver.specs.Boards": "what callers with workers of their own see",
@@ -222,7 +220,7 @@ def promises():
 
 def commands():
     """The commands, each with the definition of its answer, and how the equations begin that are its own."""
-    questions = {"query": "(Value false)", "query --json": "(Value true)", "moves": "(Moves", "why": "(Why false)", "why --json": "(Why true)", "line": "(Line",
+    questions = {"query": "(Value false)", "query --json": "(Value true)", "moves": "(Moves", "moves --replies": "(Replies", "why": "(Why false)", "why --json": "(Why true)", "line": "(Line",
                  "show": "(Show", "show --json": "Board", "show --svg": "(Diagram"}
     from_tables = {"query -` and `moves -": "(Filter", "solve": "(Solve", "at": "(At", "find": "(Find", "counts": "(Counts", "longest": "(Longest",
                    "ask": "(Ask", "analyse": "Analyse", "play": "(Play"}

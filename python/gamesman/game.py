@@ -19,6 +19,12 @@ from .process import Asker, program_of, run, run_with_progress
 PLAIN = re.compile(r"(?!@\d+ \d+\Z|\{)[ -~]{0,1024}")
 NOT_PLAIN = b"\xff"
 
+# Tiers and indexes are numbers below this one.
+NUMBERS = 2**64
+
+# So many places are asked for by one line at most. With twenty digits each they have room in the longest line that is read as an object.
+BATCH = 2048
+
 
 def games(program: Optional[str] = None) -> List[str]:
     """Returns the names of all games."""
@@ -43,6 +49,22 @@ def bytes_of(text: str) -> bytes:
         return text.encode() if PLAIN.fullmatch(text) else NOT_PLAIN
     except TypeError:
         raise TypeError(f"the text of a position is a str, and not {type(text).__name__}") from None
+
+
+def batches(indexes: Iterable[int], most: int) -> Iterator[List[int]]:
+    """Cuts indexes into runs of at most so many. A number that can't be an index is a run of its own, which has one answer."""
+    batch: List[int] = []
+    for index in indexes:
+        alone = not 0 <= index < NUMBERS
+        if batch and (alone or len(batch) == most):
+            yield batch
+            batch = []
+        batch.append(index)
+        if alone:
+            yield batch
+            batch = []
+    if batch:
+        yield batch
 
 
 class Game:
@@ -125,15 +147,29 @@ class Game:
         """Returns the texts of the legal positions with these indexes of a tier, in their order, by one process.
 
         The first index that has none raises NoSuchPlace."""
-        for place, line in self._lines((f"@{tier:d} {index:d}" for index in indexes), ("--values",), str.encode):
-            if line.startswith(ERROR):
-                raise NoSuchPlace(f"{self.name} has no legal position with the index {place.partition(' ')[2]} of tier {tier}")
+        for _, line in self._places(tier, indexes, ("--values",)):
             yield position_in(line)
+
+    def positions_at(self, tier: int, indexes: Iterable[int]) -> Iterator[Position]:
+        """Returns the legal positions with these indexes of a tier, canonical or not, in their order, by one process.
+
+        The first index that has none raises NoSuchPlace."""
+        for _, line in self._places(tier, indexes, ()):
+            yield Position(self, line)
 
     def index_of(self, text: str) -> Tuple[int, int]:
         """Returns the tier and the index of the canonical position of this one: where its record is stored."""
-        canonical: Dict[str, Any] = self._asked(text, "--values", "--with", "canonical")["canonical"]
-        return canonical["tier"], canonical["index"]
+        return next(self.indexes_of([text]))
+
+    def indexes_of(self, texts: Iterable[str]) -> Iterator[Tuple[int, int]]:
+        """Returns what `index_of` does for each of these texts, in their order, by one process.
+
+        The first text that is none raises NoSuchPosition."""
+        for text, line in self._lines(texts, ("--values", "--with", "canonical")):
+            if line.startswith(ERROR):
+                raise self._none(text)
+            canonical: Dict[str, Any] = json.loads(line)["canonical"]
+            yield canonical["tier"], canonical["index"]
 
     def at(self, tier: int, index: int) -> Position:
         """Returns the canonical position with this index of this tier."""
@@ -160,6 +196,9 @@ class Game:
         min_moves: Optional[int] = None,
         min_tries: Optional[int] = None,
         sort: Optional[str] = None,
+        spread: bool = False,
+        per_move: Optional[int] = None,
+        orient: Optional[int] = None,
         reached: bool = False,
         limit: Optional[int] = None,
         random: Optional[int] = None,
@@ -168,12 +207,13 @@ class Game:
         """Returns the canonical positions of a value, tier by tier in the order of solving, by index within a tier. They are gone through once.
 
         The options are those of `gamesman find`: `remoteness` is a number or a pair, as `(5, 9)`; `only_move`, `only_fastest` and `whole_line` are for puzzles;
-        `random` chooses so many, the same for the same `seed`; `sort` is `index`, `long` or `hard`."""
+        `random` chooses so many, the same for the same `seed`; `sort` is `index`, `long` or `hard`; with `spread` none is met along
+        best play from another, at most `per_move` have one best move, and `orient` is the seed by which symmetric ones are drawn in their place."""
         if value not in VALUES.values():
             raise ValueError(f"a value is win, tie, draw or lose, and not {value!r}")
         flags = words_of(only_move=only_move, only_fastest=only_fastest, whole_line=whole_line, distinct=distinct, reached=reached, tries=sort == "hard")
         numbers = words_of(remoteness=remoteness, tier=tier, min_moves=min_moves, min_tries=min_tries, sort=sort, limit=limit, random=random, seed=seed)
-        return Found(self, ["--value", value, *flags, *numbers])
+        return Found(self, ["--value", value, *flags, *numbers, *words_of(spread=spread, per_move=per_move, orient=orient)])
 
     def longest(self, limit: Optional[int] = None, reached: bool = False) -> Iterator[Position]:
         """Returns the longest wins and then the longest losses, so many of each at most."""
@@ -246,19 +286,35 @@ class Game:
             found = self._askers[words] = Asker([self.program, "ask", self.name, *words, *self._kept()])
         return found
 
-    def _lines(self, texts: Iterable[str], words: Tuple[str, ...], line_of: Callable[[str], bytes] = bytes_of) -> Iterator[Tuple[str, str]]:
+    def _lines(self, texts: Iterable[str], words: Tuple[str, ...]) -> Iterator[Tuple[str, str]]:
         """Asks for texts, and returns each with the line that answers it."""
         asked: List[str] = []
 
         def lines() -> Iterator[bytes]:
             for text in texts:
                 asked.append(text)
-                yield line_of(text)
+                yield bytes_of(text)
 
         for answers in self._asker(words).ask(lines()):
             some = asked[: len(answers)]
             del asked[: len(answers)]
             yield from zip(some, b"".join(answers).decode().split("\n"))
+
+    def _places(self, tier: int, indexes: Iterable[int], words: Tuple[str, ...]) -> Iterator[Tuple[int, str]]:
+        """Asks for the places with these indexes of a tier, many by one line, and returns each index with the line that answers it. The first that is no legal
+        position's raises NoSuchPlace."""
+        asked: List[List[int]] = []
+
+        def lines() -> Iterator[Tuple[bytes, int]]:
+            for batch in batches(indexes, BATCH if 0 <= tier < NUMBERS else 1):
+                asked.append(batch)
+                yield f'{{"tier":{tier:d},"indexes":[{",".join(f"{index:d}" for index in batch)}]}}'.encode(), len(batch)
+
+        for answers in self._asker(words).ask_batches(lines()):
+            for index, line in zip(asked.pop(0), b"".join(answers).decode().split("\n")):
+                if line.startswith(ERROR):
+                    raise NoSuchPlace(f"{self.name} has no legal position with the index {index} of tier {tier}")
+                yield index, line
 
     def _line(self, text: str, *words: str) -> str:
         """Asks for one position by a process with these words, and returns the line that answers it."""

@@ -142,7 +142,7 @@ class Questions:
 
 
 class Asker:
-    """A running `gamesman ask`. Each line that it is given is answered by one line.
+    """A running `gamesman ask`. Each line that it is given is answered by one line, and an object that asks for many places by one for each.
 
     All that was asked is read before more is written, so that neither side ever waits for the other. Threads may share it."""
 
@@ -188,21 +188,29 @@ class Asker:
 
     def ask(self, lines: Iterable[bytes]) -> Iterator[List[bytes]]:
         """Answers lines, as many at once as `CHUNK` has room for. While the caller looks at the answers to some, the next are being answered."""
+        return self._answers((chunk, len(chunk)) for chunk in chunks(lines))
+
+    def ask_batches(self, lines: Iterable[Tuple[bytes, int]]) -> Iterator[List[bytes]]:
+        """Answers lines of which each has so many answers, one line at once. While the caller looks at the answers to one, the next is being answered."""
+        return self._answers(([line], number) for line, number in lines)
+
+    def _answers(self, runs: Iterable[Tuple[List[bytes], int]]) -> Iterator[List[bytes]]:
+        """Answers runs of lines, each of which has so many answers."""
         before: Optional[Questions] = None
-        for chunk in chunks(lines):
-            questions = self._write(chunk)
+        for lines, number in runs:
+            questions = self._write(lines, number)
             if before:
                 yield self._read(before)
             before = questions
         if before:
             yield self._read(before)
 
-    def _write(self, lines: Sequence[bytes]) -> Questions:
+    def _write(self, lines: Sequence[bytes], number: int) -> Questions:
         with self._lock:
             self.ready()
             self._read_unread()
             assert self._process and self._process.stdin
-            questions = Questions(len(lines))
+            questions = Questions(number)
             try:
                 self._process.stdin.write(b"\n".join(lines) + b"\n")
                 self._process.stdin.flush()

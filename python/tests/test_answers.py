@@ -7,6 +7,7 @@ from typing import Any, Dict, List, Set
 
 from common import WithRoom, solved
 from gamesman import Folder, Game, NoSuchPlace, NoSuchPosition, Position, Record
+from gamesman.game import BATCH, batches
 from lib.paths import GAMESMAN
 
 GAMES = ("wheel", "tactix-3-misere", "tictactoe", "threemens", "achi", "mutorere")
@@ -96,6 +97,9 @@ class Answers(WithRoom):
                 texts[right.game.tier(text)][right.game.index(text)] = text
             for tier, found in texts.items():
                 self.assertEqual(dict(zip(found, game.texts_of(tier, found))), found)
+                self.assertEqual([it.text for it in game.positions_at(tier, found)], list(found.values()))
+                some = [(right.game.tier(right.least[it]), right.game.index(right.least[it])) for it in found.values()]
+                self.assertEqual(list(game.indexes_of(found.values())), some)
                 free = next(index for index in range(right.game.size(tier) + 1) if index not in found)
                 for place in ((tier, free), (tier, -1), (-1, 0), (2**64, 0)):
                     with self.assertRaises(NoSuchPlace):
@@ -105,6 +109,28 @@ class Answers(WithRoom):
                 self.assertEqual(game.index_of(text), (right.game.tier(least), right.game.index(least)))
             with self.assertRaises(NoSuchPosition):
                 game.position(f"@{right.game.tier(right.game.start)} {right.game.index(right.game.start)}")
+
+    def test_places_up_to_one_that_is_none(self) -> None:
+        """Those before it are given, in the same line and in others."""
+        for game, right in self.games():
+            tier = right.game.tier(right.game.start)
+            index = right.game.index(right.game.start)
+            for number in (0, 1, BATCH - 1, BATCH, BATCH + 1, 3 * BATCH):
+                for none in (right.game.size(tier), -1, 2**64):
+                    texts = game.texts_of(tier, [index] * number + [none] + [index] * 2)
+                    self.assertEqual([next(texts) for _ in range(number)], [right.game.start] * number)
+                    with self.assertRaises(NoSuchPlace):
+                        next(texts)
+            self.assertEqual(list(game.texts_of(tier, [])), [])
+            self.assertEqual(len(list(game.positions_at(tier, [index] * (2 * BATCH + 1)))), 2 * BATCH + 1)
+
+    def test_batches(self) -> None:
+        self.assertEqual(list(batches([], 2)), [])
+        self.assertEqual(list(batches([1, 2, 3, 4], 2)), [[1, 2], [3, 4]])
+        self.assertEqual(list(batches([1, -1, 2, 3, 4, 2**64], 2)), [[1], [-1], [2, 3], [4], [2**64]])
+        self.assertEqual(list(batches([5, 6], 1)), [[5], [6]])
+        longest = '{"tier":%d,"indexes":[%s]}' % (2**64 - 1, ",".join([str(2**64 - 1)] * BATCH))
+        self.assertLessEqual(len(longest), 65536)
 
     def test_frames(self) -> None:
         for game, right in self.games():

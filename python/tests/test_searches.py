@@ -41,6 +41,7 @@ class Searches(WithRoom):
             ({"min_tries": 1, "sort": "long"}, ["--min-tries", "1", "--sort", "long"]),
             ({"sort": "hard", "limit": 9}, ["--tries", "--sort", "hard", "--limit", "9"]),
             ({"random": 9, "seed": 0}, ["--random", "9", "--seed", "0"]),
+            ({"spread": True, "per_move": 2}, ["--spread", "--per-move", "2"]),
         ):
             with self.subTest(words=words), Game("tictactoe", program=GAMESMAN) as game:
                 call: Callable[..., Any] = game.find

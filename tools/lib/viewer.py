@@ -60,6 +60,9 @@ TABLES = (
     ("ADDS", "adds", "how many men each move adds"),
     ("TURNS", "turn", "how the board is turned for the second player"),
     ("ROWS", "rows", "the rows that end it, by their shapes or their points"),
+    ("DROPS", "drops", "whether a man falls to the lowest empty place of a column"),
+    ("HEAPS", "heaps", "the heaps of its start"),
+    ("BARS", "bar", "the rows of the bar of its start"),
 )
 
 

@@ -9,7 +9,7 @@ from lib.paths import TOOLS
 from lib.programs import SECONDS, told
 
 SOURCE = os.path.join(TOOLS, "solver/patterns.cpp")
-GAMES = "tictactoe-misere notakto hex-3 hexapawn picaria toads domineering-4 kayles".split()
+GAMES = "tictactoe-misere notakto hex-3 hexapawn nineholes picaria toads domineering-4 cram-4 kayles".split()
 
 
 def said(answer):

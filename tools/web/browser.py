@@ -1,10 +1,12 @@
 """The page with all games and that of one game, opened from their files in Chromium: looks, names, addresses, keys, typing, play, puzzles, answers, and no
 request; what players do (uses.js); and both pages without WebAssembly."""
+import json
 import os
 import re
 import time
 import urllib.parse
 
+from lib.programs import told
 from page import chromium
 from page.looks import CONTRAST, NAMELESS
 
@@ -18,6 +20,11 @@ SOME = """(async () => {
 SHOWN = """(async text => {
   const row = await find(text);
   return [rows[row][1], rows[row].moves.map(m => [m.name, m.worth, rows[m.to][0]])];
+})"""
+REPLIES = """(async text => {
+  const { moves } = rows[await find(text)];
+  for (const m of moves) await find(rows[m.to][0]);
+  return moves.map(repliesTo).map((it, k) => it && [moves[k].name, it.kept, it.all, it.soon]);
 })"""
 HERE = os.path.dirname(os.path.abspath(__file__))
 OVER = "document.documentElement.scrollWidth > document.documentElement.clientWidth"
@@ -33,7 +40,7 @@ FRESH = """(async () => {
 # (wide, high, the size of letters in per cent)
 SIZES = ((1280, 960, 100), (360, 780, 100), (1280, 960, 200), (640, 480, 100))
 PRESSED = ("button", "link", "textbox", "combobox", "option")
-GAMES = "tictactoe dao mutorere hare tactix-4 countdown dodgem".split()
+GAMES = "tictactoe dao mutorere hare tactix-4 countdown dodgem connect4-4x4 nim chomp".split()
 
 
 def worth(value, left):
@@ -201,6 +208,10 @@ class Tried:
                 shown = self.js(f"{SHOWN}({text!r})")
                 moves = [[m["move"], worth(m["moveValue"], m["moveRemoteness"]), m["position"]] for m in line["moves"]]
                 self.want(f"{game} {text}", shown, [worth(line["positionValue"], line["remoteness"]), moves])
+            for text in texts[:3]:
+                replied = map(json.loads, told("moves", game, text, "--replies", "--json").splitlines())
+                wanted = [None if it["moveValue"] == "win" or not it["replies"] else [it["move"], it["keeping"], it["replies"], it["losesIn"]] for it in replied]
+                self.want(f"{game} {text}: the replies", self.js(f"{REPLIES}({text!r})"), wanted)
 
     def times(self):
         for game in ("dao", "tactix-4"):

@@ -35,8 +35,8 @@
     await play(moves.find(m => m.name === name) ?? moves[0]);
     await soon("a move", () => at > before);
   };
-  // A game for each kind of board: crosses, cells, letters, chess, counters, numbers, and a board that is turned.
-  const KINDS = ["tictactoe", "dao", "hare", "krk", "tactix-3", "countdown", "dodgem"];
+  // A game for each kind of board: crosses, cells, letters, chess, counters, numbers, a board that is turned, columns, heaps, and a bar.
+  const KINDS = ["tictactoe", "dao", "hare", "krk", "tactix-3", "countdown", "dodgem", "connect4-4x4", "nim", "chomp"];
 
   // Editing leaves men and mover as they are, with either side to move.
   async function editing(game, steps) {
@@ -254,6 +254,35 @@
     }
     await typed("Kc2 Kb7 ka1 w");
     want("two kings", $("why").textContent, "There is more than one White king.");
+  };
+  parts["columns, heaps and a bar"] = async () => {
+    const pressed = async (k, text) => {
+      const before = at;
+      press(k);
+      await soon(`a press on ${k}`, () => at > before);
+      want(`the position after a press on ${k}`, textAt(at), text);
+    };
+    await opened("#connect4-4x4");
+    await pressed(2, "..............o.");
+    await pressed(14, "..........o...x.");
+    await opened("#connect4-4x4/........xxx.oooo");
+    want("the four that ended it", document.querySelectorAll("#board .ended circle").length, 4);
+    await opened("#nim");
+    await pressed(9, "1 3 5 0");
+    await pressed(7, "1 3 3 0");
+    await typed("1357");
+    want("a text without spaces", textAt(at), "1 3 5 7");
+    await typed("1 3 5 8");
+    want("the reason of a large heap", $("why").textContent, "A position is 4 numbers, at most 1, 3, 5, 7.");
+    await opened("#chomp");
+    await pressed(17, "7 7 3 3");
+    $("edit").click();
+    await soon("editing", () => editor !== null);
+    for (const [k, text] of [[2, "2 2 2 2"], [27, "7 7 7 7"], [27, "7 7 7 6"]]) {
+      press(k);
+      want(`the bar after a press on ${k}`, editor.text, text);
+    }
+    $("cancel").click();
   };
   parts["the title, the link, the help"] = async () => {
     await opened("#dao//a1-a3");

@@ -111,7 +111,7 @@ fn compare_tiers<G: Game, R: Host + Print>(
 
 // Compares the files of a game.
 fn compare<G: Game, R: Host + Print>(rt: &R, moves: u32, folder: &mut FolderStore) -> Done {
-    let order = TierOrder::<G>::from_initial(rt.alloc()).ok()?;
+    let order = TierOrder::from_initial::<G>(rt.alloc()).ok()?;
     let mut tables: Tables<G> = Tables::new(rt.alloc());
     let said = compare_tiers(rt, order.tiers(), moves, folder, &mut tables);
     drop((order, tables));

@@ -76,7 +76,7 @@ fn judged<G: Game>(alloc: Global, tables: &Tables<G>, tier: u64, file: &[u8]) ->
 
 // Returns the tables of all tiers of a game, each solved by one thread.
 fn solve_all<G: Game>(alloc: Global) -> Option<Tables<G>> {
-    let order = TierOrder::<G>::from_initial(alloc).ok()?;
+    let order = TierOrder::from_initial::<G>(alloc).ok()?;
     let mut tables: Tables<G> = Tables::new(alloc);
     let is_solved = hold_all(alloc, &mut tables, order.tiers());
     drop(order);

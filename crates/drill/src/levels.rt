@@ -152,5 +152,5 @@ pub fn finish_zero<R: Host + Print>(rt: &R) -> Done {
 /// Puts the tiers of Tac Tix on 2 by 2 in order.
 pub fn order<R: Host + Print>(rt: &R) -> Done {
     let alloc = rt.alloc();
-    say_twice!(rt, number_of(TierOrder::<Four>::from_initial(alloc)))
+    say_twice!(rt, number_of(TierOrder::from_initial::<Four>(alloc)))
 }

@@ -87,7 +87,7 @@ fn solve_tiers<G: Shared, R: Host + Print>(rt: &R, tiers: &[u64], tables: &mut T
 
 // Solves this many of the first tiers of a game.
 fn solve_first<G: Shared, R: Host + Print>(rt: &R, count: usize) -> Done {
-    let order = TierOrder::<G>::from_initial(rt.alloc()).ok()?;
+    let order = TierOrder::from_initial::<G>(rt.alloc()).ok()?;
     let tiers = order.tiers();
     let first = tiers.get(..count).unwrap_or(tiers);
     let mut tables: Tables<G> = Tables::new(rt.alloc());

@@ -1,6 +1,5 @@
 //! The lines that a drill prints: `answer` is the result of the call; `before` and `after` are the state before and after it, which
 //! a refused call must not change; `again` is the result of a second call.
-use gm_game::game::Game;
 use gm_tiers::order::TierOrder;
 
 /// What remains of a drill that succeeded.
@@ -33,7 +32,7 @@ impl<T: Drop> Counted for Vec<T> {
     }
 }
 
-impl<G: Game> Counted for TierOrder<G> {
+impl Counted for TierOrder {
     fn count(&self) -> u64 {
         self.tiers().len() as u64
     }

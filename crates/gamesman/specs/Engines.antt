@@ -8,6 +8,8 @@ use Rattle.gm_page.specs.Scripts.{script_line}
 use Rattle.gamesman.specs.declared.fault.Fault.{Fault}
 use Rattle.gamesman.specs.declared.fault.Fault.TheVariants.{NoSuchPosition, OutOfMemory, EngineNotRead, NotAnEngine}
 use Rattle.gamesman.specs.Games.{GameSpec, countdown_spec, takeaway_spec, wheel_spec, nine_spec, mutorere_spec, dao_spec, hare_spec, pong_spec, shisima_spec, tapatan_spec, dodgem_spec, chess_spec, tactix_spec}
+use Rattle.gamesman.specs.Games.{connect_spec, nine_holes_spec, picaria_spec, tictactoe_misere_spec, notakto_spec, kpk_spec, hexapawn_spec, toads_spec, hex_three_spec}
+use Rattle.gamesman.specs.Games.{domineering_four_spec, cram_four_spec, kayles_spec, nim_spec, chomp_spec}
 use Rattle.gamesman.specs.Outputs.{IsWritten}
 use Rattle.gamesman.specs.Refusals.{IsRefused}
 use Rattle.gamesman.specs.Told.{IsTold}
@@ -41,18 +43,27 @@ game_line g = script_line (game_tree g.rules g.shown g.picture)
 abbrev pub line_games : List GameSpec
 line_games = nine_spec 9 ∷ dao_spec ∷ nine_spec 8 ∷ nine_spec 6 ∷ []
 
+abbrev pub row_games : List GameSpec
+row_games = connect_spec 4 4 ∷ nine_holes_spec ∷ picaria_spec ∷ tictactoe_misere_spec ∷ notakto_spec ∷ []
+
 abbrev pub board_games : List GameSpec
 board_games = mutorere_spec ∷ hare_spec ∷ shisima_spec ∷ pong_spec ∷ tapatan_spec ∷ dodgem_spec ∷ chess_spec false ∷ chess_spec true ∷ []
+
+abbrev pub chase_games : List GameSpec
+chase_games = kpk_spec ∷ hexapawn_spec ∷ toads_spec ∷ hex_three_spec ∷ []
 
 abbrev pub tactix_games : List GameSpec
 tactix_games = tactix_spec 4 false ∷ tactix_spec 4 true ∷ tactix_spec 3 false ∷ tactix_spec 3 true ∷ tactix_spec 2 false ∷ tactix_spec 2 true
     ∷ tactix_spec 1 false ∷ tactix_spec 1 true ∷ []
 
+abbrev pub taking_games : List GameSpec
+taking_games = domineering_four_spec ∷ cram_four_spec ∷ kayles_spec ∷ nim_spec false ∷ nim_spec true ∷ chomp_spec ∷ []
+
 abbrev pub number_games : List GameSpec
 number_games = countdown_spec ∷ takeaway_spec ∷ wheel_spec ∷ []
 
 abbrev pub engine_games : List GameSpec
-engine_games = line_games ++ board_games ++ tactix_games ++ number_games
+engine_games = line_games ++ row_games ++ board_games ++ chase_games ++ tactix_games ++ taking_games ++ number_games
 
 -- the page of all games with this engine
 abbrev pub games_page : List ℕ → List ℕ

@@ -7,7 +7,7 @@ use Rattle.gm_tiers.specs.Orders.{IsTierOrder}
 use Rattle.gm_play.specs.Sessions.{AppendsPart}
 use Rattle.gm_find.specs.declared.found.Found.{Found}
 use Rattle.gm_find.specs.declared.sought.Choice.{Choice}
-use Rattle.gm_find.specs.declared.sought.Choice.TheVariants.{First, Random, Sorted}
+use Rattle.gm_find.specs.declared.sought.Choice.TheVariants.{First, Random, Sorted, Apart}
 use Rattle.gm_find.specs.Founds.{AreFound, AreChosen}
 use Rattle.gm_find.specs.Rows.{found_row}
 use Rattle.gm_json.specs.Founds.{found_line}
@@ -89,6 +89,7 @@ abbrev pub first_limit : Choice → Option ℕ
 first_limit (First n) = Some n
 first_limit (Random n seed) = None
 first_limit (Sorted order n) = None
+first_limit (Apart order k n seed turn) = None
 
 -- the limit for positions that are written tier by tier; no limit if all are written at once: a sheet, or positions chosen by chance or sorted
 abbrev pub limit_by_tier : Report → Choice → Option ℕ

@@ -4,16 +4,18 @@ use Rattle.gm_game.specs.declared.position.Position.{Position}
 use Rattle.gm_game.specs.Rules.{Rules}
 use Rattle.gm_play.specs.PlayTexts.{IsAnswerText, AreMoveRows, IsLineText, IsReadAs}
 use Rattle.gm_play.specs.PlaceTexts.{IsPositionText}
+use Rattle.gm_play.specs.Replies.{IsRepliesText}
 use Rattle.gm_play.specs.Why.{IsWhyText}
 use Rattle.gm_draw.specs.Pictures.{drawn}
 use Rattle.gm_json.specs.Answers.{IsPositionJson, value_asked}
 use Rattle.gm_json.specs.Boards.{IsBoardJson}
 use Rattle.gm_json.specs.Lines.{IsLineJson}
 use Rattle.gm_json.specs.Moves.{IsMovesJson}
+use Rattle.gm_json.specs.RepliesLines.{IsRepliesJson}
 use Rattle.gm_json.specs.Whys.{IsWhyJson}
 use Rattle.gm_page.specs.ShowTexts.{IsShowText, IsDiagram}
 use Rattle.gm_command.specs.declared.requests.Question.{Question}
-use Rattle.gm_command.specs.declared.requests.Question.TheVariants.{Value, Moves, Why, Line, Show, Board, Diagram}
+use Rattle.gm_command.specs.declared.requests.Question.TheVariants.{Value, Moves, Replies, Why, Line, Show, Board, Diagram}
 use Rattle.gamesman.specs.Games.{GameSpec}
 use Rattle.gamesman.specs.Outputs.{IsTextLine}
 
@@ -46,6 +48,8 @@ abbrev pub IsTextFor : GameSpec → Question → List ℕ → List ℕ → Type 
 IsTextFor g (Value true) position out = IsValueLine g.rules g.shown g.move_shown false position out
 IsTextFor g (Value false) position out = IsQueryLine g.rules g.shown g.move_shown position out
 IsTextFor g (Moves distinct json) position out = IsMovesText g.rules g.shown g.move_shown position distinct json out
+IsTextFor g (Replies distinct true) position out = IsRepliesJson g.rules g.shown g.move_shown distinct position out
+IsTextFor g (Replies distinct false) position out = IsRepliesText g.rules g.shown g.move_shown distinct position out
 IsTextFor g (Why true) position out = IsWhyJson g.rules g.shown g.move_shown position out
 IsTextFor g (Why false) position out = IsWhyText g.rules g.shown g.move_shown position out
 IsTextFor g (Line limit true) position out = IsLineJson g.rules g.shown g.move_shown position limit out

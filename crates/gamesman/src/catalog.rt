@@ -34,7 +34,7 @@ pub const ROWS: [Row; 18] = rows! {
 };
 
 /// The games that only `list --all` prints.
-pub const LATER_ROWS: [Row; 17] = rows! {
+pub const LATER_ROWS: [Row; 34] = rows! {
     { "ponghauki", PongHauKi, "Chases and blockades", Draw, None, 30 }
     { "shisima", Shisima, "Rows of three and four", Draw, None, 1_600 }
     { "takeaway", Takeaway, "Numbers", Lose, Some(6), 13 }
@@ -44,12 +44,29 @@ pub const LATER_ROWS: [Row; 17] = rows! {
     { "kqk", Kqk, "Endings of chess", Win, Some(13), 372_064 }
     { "foxhounds", FoxHounds, "Chases and blockades", Lose, Some(44), 2_013_760 }
     { "tictactoe-misere", TicTacToeMisere, "Rows of three and four", Tie, Some(9), 5_478 }
+    { "tictactoe-4", TicTacToe4, "Rows of three and four", Tie, Some(16), 9_722_020 }
     { "notakto", Notakto, "Rows of three and four", Win, Some(6), 512 }
     { "hex-3", Hex3, "Filling a board", Win, Some(5), 5_514 }
+    { "hex-4", Hex4, "Filling a board", Win, Some(9), 9_386_892 }
+    { "sim", Sim, "Rows of three and four", Lose, Some(15), 2_254_102 }
     { "hexapawn", Hexapawn, "Chases and blockades", Lose, Some(6), 2_487 }
+    { "hexapawn-4", Hexapawn4, "Chases and blockades", Win, Some(11), 756_384 }
+    { "nineholes", NineHoles, "Rows of three and four", Draw, None, 3_910 }
     { "picaria", Picaria, "Rows of three and four", Draw, None, 3_870 }
+    { "clobber", Clobber, "Chases and blockades", Win, Some(11), 10_165_778 }
     { "toads", Toads, "Chases and blockades", Win, Some(21), 11_550 }
+    { "kono", Kono, "Chases and blockades", Draw, None, 38_301_786 }
     { "domineering-4", Domineering4, "Filling a board", Win, Some(7), 32_768 }
+    { "domineering-5", Domineering5, "Filling a board", Lose, Some(12), 16_777_216 }
+    { "cram-4", Cram4, "Filling a board", Lose, Some(8), 32_768 }
+    { "cram-5", Cram5, "Filling a board", Lose, Some(12), 16_777_216 }
     { "kayles", Kayles, "Taking counters", Win, Some(11), 4_096 }
     { "kpk", Kpk, "Endings of chess", Win, Some(43), 1_158_448 }
+    { "connect4-4x4", Connect4x4, "Rows of three and four", Tie, Some(16), 176_500 }
+    { "connect4-5x4", Connect5x4, "Rows of three and four", Tie, Some(20), 4_352_290 }
+    { "connect4-4x5", Connect4x5, "Rows of three and four", Tie, Some(20), 2_179_983 }
+    { "connect4-4x6", Connect4x6, "Rows of three and four", Tie, Some(24), 25_128_012 }
+    { "nim", Nim, "Taking counters", Lose, Some(16), 384 }
+    { "nim-misere", NimMisere, "Taking counters", Lose, Some(15), 384 }
+    { "chomp", Chomp, "Taking counters", Win, Some(18), 330 }
 };

@@ -32,16 +32,20 @@ use std::fs::Files;
 use std::io::Write;
 use std::thread::Threads;
 
-// Returns the finding for what an entry is found to be, and the table if it is right.
-fn finding_of<G: Game>(inspected: Inspected<G>) -> (Finding, Option<Table<G>>)
-    ensures finding { result.0 ≡ finding_for inspected }
-    ensures table { result.1 ≡ table_found inspected }
+// Returns the finding for what an entry is found to be. Then `table` has the table if it is right.
+fn finding_of<G: Game>(inspected: Inspected<G>, table: &mut Option<Table<G>>) -> Finding
+    ensures finding { result ≡ finding_for inspected }
+    ensures table { table.new ≡ table_found inspected }
 {
+    *table = None;
     match inspected {
-        Inspected::Right(table) => (Finding::Right, Some(table)),
-        Inspected::Missing => (Finding::Missing, None),
-        Inspected::NoFile(why) => (Finding::NoFile(why), None),
-        Inspected::NoTable(why) => (Finding::NoTable(why), None),
+        Inspected::Right(right) => {
+            *table = Some(right);
+            Finding::Right
+        }
+        Inspected::Missing => Finding::Missing,
+        Inspected::NoFile(why) => Finding::NoFile(why),
+        Inspected::NoTable(why) => Finding::NoTable(why),
     }
 }
 
@@ -56,28 +60,30 @@ fn why_unread(tier: u64, error: BuildError) -> Fault
     }
 }
 
-// Checks a tier's entry. Returns the finding, with the tier's table if it is right. The tables of the right tiers before it are given.
+// Checks a tier's entry, and returns the finding. Then `table` has the tier's table if it is right. The tables of the right tiers before it are given.
 fn find<G: Game + Send + Sync, R: Threads + Files + Sync, S: Store>(
     rt: &R,
     alloc: Global,
     tier: u64,
     tables: &Tables<G>,
     store: &mut S,
-) -> Result<(Finding, Option<Table<G>>), Fault>
+    table: &mut Option<Table<G>>,
+) -> Result<Finding, Fault>
     requires small { G.rules.tier_size tier ≤ TIER_SIZE }
     requires few { S.failed store.old < u64.MAX }
-    ensures found { IfOk result (λ f. IsFinding G.rules tables.now (store_view S.READS (S.texts store.old)) tier f.0) }
-    ensures table { IfOk result (λ f. IsTableFor tier f.0 f.1) }
+    ensures found { IfOk result (IsFinding G.rules tables.now (store_view S.READS (S.texts store.old)) tier) }
+    ensures table { IfOk result (λ f. IsTableFor tier f table.new) }
     ensures unread { IfErr result (IsUnreadAt tier) }
     ensures tables { AreTables G.rules tables.now }
     ensures same { IsTrue S.READS → AreSame (S.texts store.old) (S.texts store.new) }
     ensures count { OnOk result (S.failed store.new ≡ S.failed store.old) }
 {
     if !tables.has_children(tier) {
-        return Ok((Finding::NotChecked, None));
+        *table = None;
+        return Ok(Finding::NotChecked);
     }
     match inspect_tier(rt, alloc, tier, tables, store) {
-        Ok(inspected) => Ok(finding_of(inspected)),
+        Ok(inspected) => Ok(finding_of(inspected, table)),
         Err(error) => Err(why_unread(tier, error)),
     }
 }
@@ -122,9 +128,10 @@ fn check_tier<G: Game + Send + Sync, R: Host, S: Store, O: Write, E: Write + Sen
     ensures same { IsTrue S.READS → AreSame (S.texts store.old) (S.texts store.new) }
     ensures count { OnOk result (S.failed store.new ≡ S.failed store.old) }
 {
-    let found = find(rt, rt.alloc(), tier, tables, store);
+    let mut table = None;
+    let found = find(rt, rt.alloc(), tier, tables, store, &mut table);
     teller.clear();
-    let (finding, table) = found?;
+    let finding = found?;
     let line = finding.line_in(rt.alloc(), tier, json)?;
     put(output, line.as_slice())?;
     hold(tier, finding, table, tables)?;
@@ -157,11 +164,14 @@ fn check_tiers<G: Game + Send + Sync, R: Host, S: Store, O: Write, E: Write + Se
 }
 
 // Returns the order of the game's tiers.
-fn order_of<G: Game>(alloc: Global) -> Result<TierOrder<G>, Fault>
+fn order_of<G: Game>(alloc: Global) -> Result<TierOrder, Fault>
     ensures order { IfOk result (IsTierOrder G.rules) }
     ensures unbuilt { IfErr result (IsUnbuilt G.rules G.rules.initial.tier) }
 {
-    Ok(TierOrder::from_initial(alloc)?)
+    match TierOrder::from_initial::<G>(alloc) {
+        Ok(order) => Ok(order),
+        Err(error) => Err(Fault::from(error)),
+    }
 }
 
 /// Prints for each tier the finding on its text in a store, in the order of tiers, as a line of JSON or of words. The status is 0 if all texts are right, and
@@ -178,11 +188,16 @@ pub fn check<G: Game + Send + Sync, R: Host, S: Store, O: Write, E: Write + Send
     ensures { IsCheckedBy G.rules (store_view S.READS (S.texts store.old)) json (O.contents output.old) (O.contents output.new) result }
 {
     let alloc = rt.alloc();
-    let order = order_of::<G>(alloc)?;
+    let order = match order_of::<G>(alloc) {
+        Ok(order) => order,
+        Err(fault) => return Err(fault),
+    };
     let mut tables: Tables<G> = Tables::new(alloc);
     let teller = Teller::new::<G>(alloc, rt, errors, telling, order.tiers())?;
     let checked = check_tiers(rt, order.tiers(), json, store, &mut tables, output, &teller);
-    drop((order, tables, teller));
+    drop(teller);
+    drop(tables);
+    drop(order);
     checked
 }
 

@@ -13,10 +13,12 @@ use gm_json::asked::{Asked, With};
 use gm_json::board::board_json;
 use gm_json::line::line_json;
 use gm_json::moves::moves_json;
+use gm_json::replies::replies_json;
 use gm_json::why::why_json;
 use gm_page::show::{diagram_text, show_text};
 use gm_play::known::Known;
 use gm_play::place_texts::position_text;
+use gm_play::replies::replies_text;
 use gm_play::texts::{line_text, moves_text};
 use gm_play::why::why_text;
 use std::alloc::{AllocError, Global};
@@ -34,6 +36,11 @@ pub fn text_for<G: Pictured>(
         Question::Value { json: true } => value_json(alloc, known, false),
         Question::Value { .. } => value_line(alloc, known),
         Question::Moves { distinct, json } => moves_for(alloc, known, distinct, json),
+        Question::Replies {
+            distinct,
+            json: true,
+        } => replies_json(alloc, known, distinct),
+        Question::Replies { distinct, .. } => replies_text(alloc, known, distinct),
         Question::Why { json: true } => why_json(alloc, known),
         Question::Why { .. } => why_text(alloc, known),
         Question::Line { limit, json: true } => line_json(alloc, known, limit),

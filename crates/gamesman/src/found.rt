@@ -34,12 +34,13 @@ use gm_table::tables::Tables;
 use std::alloc::{AllocError, Global};
 use std::io::Write;
 
-/// Writes the positions that a search finds. They are written tier by tier as they are found, except that a sheet and positions
-/// that are chosen by chance or sorted are written when all are found.
+/// Writes the positions that a search finds, and notes whether there is a line of any. They are written tier by tier as they are found, except that a sheet and
+/// positions that are chosen by chance, sorted or apart are written when all are found.
 pub fn write_found<G: Pictured, O: Write>(
     alloc: Global,
     built: &Built<G>,
     asked: PositionSearch,
+    any: &mut bool,
     output: &mut O,
 ) -> Result<u8, Fault>
     requires order { IsOrderFrom G.Game.rules (first_of G.Game.rules asked.tier) built.now.order }
@@ -55,14 +56,14 @@ pub fn write_found<G: Pictured, O: Write>(
                 tables,
                 tiers: &[tier],
             };
-            write_in(alloc, &known, asked, reached.as_ref(), output)
+            write_in(alloc, &known, asked, reached.as_ref(), any, output)
         }
         None => {
             let known = KnownTiers {
                 tables,
                 tiers: built.order.tiers(),
             };
-            write_in(alloc, &known, asked, reached.as_ref(), output)
+            write_in(alloc, &known, asked, reached.as_ref(), any, output)
         }
     };
     drop(reached);
@@ -75,6 +76,7 @@ fn write_in<G: Pictured, O: Write>(
     known: &KnownTiers<'_, G>,
     asked: PositionSearch,
     reached: Option<&Reached<G>>,
+    any: &mut bool,
     output: &mut O,
 ) -> Result<u8, Fault>
     requires tiers { AreTiersFor G.Game.rules asked.tier known.now.tiers.now }
@@ -89,13 +91,22 @@ fn write_in<G: Pictured, O: Write>(
         }
         Report::Lines(form) => match asked.choice {
             Choice::First(limit) => {
-                write_by_tier(alloc, known, asked, reached, form, limit, output)
+                write_by_tier(alloc, known, asked, reached, form, limit, any, output)
             }
-            Choice::Random { .. } | Choice::Sorted { .. } => {
+            Choice::Random { .. } | Choice::Sorted { .. } | Choice::Apart { .. } => {
                 let lines = lines_at_once(alloc, known, asked, reached, form);
+                *any = has_lines(&lines);
                 put_text(output, lines)
             }
         },
+    }
+}
+
+// Tests whether there are lines.
+fn has_lines(lines: &Result<Vec<u8>, AllocError>) -> bool {
+    match lines {
+        Ok(text) => !text.is_empty(),
+        Err(_) => false,
     }
 }
 
@@ -107,6 +118,7 @@ fn write_by_tier<G: Pictured, O: Write>(
     reached: Option<&Reached<G>>,
     form: LineForm,
     limit: usize,
+    any: &mut bool,
     output: &mut O,
 ) -> Result<u8, Fault>
     requires tiers { AreTiersFor G.Game.rules asked.tier known.now.tiers.now }
@@ -128,6 +140,7 @@ fn write_by_tier<G: Pictured, O: Write>(
             left,
             output,
         )?;
+        *any |= many > 0;
         left = left.saturating_sub(many);
         if left == 0 {
             return Ok(DONE);

@@ -132,7 +132,10 @@ fn known_tier<G: Pictured>(alloc: Global, tier: u64) -> Result<(), Fault>
     ensures reached { OnOk result (IsReached G.Game.rules tier) }
     ensures refused { IfErr result (IsUnknown G.Game.rules tier) }
 {
-    let order = TierOrder::<G>::from_initial(alloc)?;
+    let order = match TierOrder::from_initial::<G>(alloc) {
+        Ok(order) => order,
+        Err(error) => return Err(Fault::from(error)),
+    };
     if order.tiers().contains(&tier) {
         Ok(())
     } else {

@@ -114,9 +114,11 @@ pub fn reached_from_start<G: Shown>(
 ) -> Result<Option<Reached<G>>, AllocError>
     ensures { IfOk result (λ reached. is_some reached ≡ asked) }
 {
-    if asked {
-        Ok(Some(Reached::from_start(alloc)?))
-    } else {
-        Ok(None)
+    if !asked {
+        return Ok(None);
+    }
+    match Reached::from_start(alloc) {
+        Ok(reached) => Ok(Some(reached)),
+        Err(refused) => Err(refused),
     }
 }

@@ -69,7 +69,7 @@ impl<'a> BuildOptions<'a> {
             progress,
         } = self;
         let alloc = rt.alloc();
-        let order = match TierOrder::<G>::from_tier(alloc, first) {
+        let order = match TierOrder::from_tier::<G>(alloc, first) {
             Ok(order) => order,
             Err(error) => return Err(Fault::from(error)),
         };
@@ -94,7 +94,8 @@ impl<'a> BuildOptions<'a> {
         teller.clear();
         drop(teller);
         let met_another = shelf.met_another();
-        drop((order, shelf));
+        drop(shelf);
+        drop(order);
         match built {
             Ok(built) => Ok(built),
             Err(error) => Err(why_not(error, met_another)),

@@ -11,7 +11,7 @@ ghost use Rattle.gm_backward.specs.inner.Tiling.{IsLaterPlace};
 use crate::cuts::Cuts;
 use crate::error::SolveError;
 use crate::first_shards::begin_in_turn;
-use crate::levels::{fresh, next_level, table_of};
+use crate::levels::{end_of_phase, fresh, next_level, table_of};
 use crate::starts::starts;
 use crate::tiles::{Tiles, records_of};
 use gm_frontier::last::Last;
@@ -19,12 +19,13 @@ use gm_game::game::Game;
 use gm_game::limits::TIER_SIZE;
 use gm_table::table::Table;
 use gm_table::tables::Tables;
-use std::alloc::{AllocError, Global};
+use std::alloc::Global;
 
 // Returns a tier of one shard before its first level.
-fn begin<G: Game>(alloc: Global, tier: u64) -> Result<Tiles<G>, AllocError>
+fn begin<G: Game>(alloc: Global, tier: u64) -> Result<Tiles<G>, SolveError>
     requires { G.rules.tier_size tier ≤ TIER_SIZE }
-    ensures { IfOk result (λ tiles. place_of tiles.shards.a ≡ place_at tier WinLose 0) }
+    ensures place { IfOk result (λ tiles. place_of tiles.shards.a ≡ place_at tier WinLose 0) }
+    ensures error { IfErr result (IsError G.rules tier) }
 {
     let starts = starts::<G>(alloc, tier, 0, G::tier_size(tier))?;
     begin_in_turn(alloc, tier, Cuts::of_one::<G>(tier), starts.as_slice())
@@ -44,8 +45,8 @@ fn finish_levels<G: Game>(
     let mut tiles = tiles;
     loop {
         let runs = fresh(alloc, &tiles)?;
-        let (level, last) = next_level(alloc, tables, &tiles, &runs)?;
-        if let Some(last) = last {
+        let level = next_level(alloc, tables, &tiles, &runs)?;
+        if let Some(last) = end_of_phase(tables, &tiles, &level) {
             return Ok((tiles, last));
         }
         tiles = tiles.run_in_order(&level)?;

@@ -56,6 +56,7 @@ struct Crew<
     'a,
     'b,
     'c,
+    'd,
     G: Game,
     A: PieceLedger,
     B: PieceLedger,
@@ -67,7 +68,7 @@ struct Crew<
     O: Observer,
 > {
     context: &'a SolveContext<'c, R, T, S, O>,
-    board: &'a PieceBoard<G, A, B, C, D>,
+    board: &'a PieceBoard<'d, G, A, B, C, D>,
     job: &'a LevelJob<'b, G>,
     slots: &'a [Mutex<WorkerSlot<A, B, C, D>>],
     ghost tiles_are: { (k : ℕ) → k < 4 → for_shard k A.spot B.spot C.spot D.spot ≡ tile_at G.rules job.now.level.now.place job.now.cuts k },
@@ -79,6 +80,7 @@ impl<
     'a,
     'b,
     'c,
+    'd,
     G: Game,
     A: PieceLedger,
     B: PieceLedger,
@@ -88,7 +90,7 @@ impl<
     T: Gate,
     S: Source,
     O: Observer,
-> Crew<'a, 'b, 'c, G, A, B, C, D, R, T, S, O> {
+> Crew<'a, 'b, 'c, 'd, G, A, B, C, D, R, T, S, O> {
     // Delivers the pairs of a piece to a shard. If the gate asks for it, each is delivered between its own two calls and under the lock, up to a pair that is
     // too far; otherwise all are delivered while the lock is held once. The gate is called while no lock is held.
     fn deliver(

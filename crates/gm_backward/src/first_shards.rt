@@ -1,13 +1,15 @@
 //! The shards of a tier before its first level, one for each of its four tiles.
-ghost use Rattle.std.specs.Prelude.{◌≡◌, ◌+◌, ◌<◌, length, IfOk};
+ghost use Rattle.std.specs.Prelude.{◌≡◌, ◌+◌, ◌<◌, length, IfOk, IfErr};
 ghost use Rattle.gm_game.specs.declared.position.Phase.TheVariants.{WinLose};
 ghost use Rattle.gm_frontier.specs.Levels.{place_at};
 ghost use Rattle.gm_counters.specs.inner.Begin.{AreStarts};
 ghost use Rattle.gm_counters.specs.Steps.{place_of};
+ghost use Rattle.gm_backward.specs.Solving.{IsError};
 ghost use Rattle.gm_backward.specs.inner.Cuts.{AreCuts};
 ghost use Rattle.gm_backward.specs.inner.Tiling.{IsTile, AreTwo};
 
 use crate::cuts::Cuts;
+use crate::error::SolveError;
 use crate::tiles::Tiles;
 use gm_counters::ordered::OrderedShard;
 use gm_counters::status::Start;
@@ -32,15 +34,14 @@ fn begin_tile<G: Game>(
 {
     let size = G::tier_size(tier);
     let (lo, hi) = cuts.range(size, k);
-    let shard = OrderedShard::begin(alloc, tier, lo, &starts[lo as usize..hi as usize])?;
-    Ok(shard)
+    OrderedShard::begin(alloc, tier, lo, &starts[lo as usize..hi as usize])
 }
 
-/// Two shards of a tier before its first level.
-pub(crate) type ShardPair<G> = (OrderedShard<G>, OrderedShard<G>);
+// Two shards of a tier before its first level.
+type ShardPair<G> = (OrderedShard<G>, OrderedShard<G>);
 
-/// Makes the shards of tiles k and k + 1.
-pub(crate) fn begin_two<G: Game>(
+// Makes the shards of tiles k and k + 1.
+fn begin_two<G: Game>(
     alloc: Global,
     tier: u64,
     cuts: Cuts,
@@ -53,8 +54,12 @@ pub(crate) fn begin_two<G: Game>(
     requires tiles { k < 3 }
     ensures { IfOk result (λ two. AreTwo G.rules tier cuts k two.0 two.1) }
 {
-    let low = begin_tile(alloc, tier, cuts, k, starts)?;
-    let high = begin_tile(alloc, tier, cuts, k + 1, starts)?;
+    let Ok(low) = begin_tile(alloc, tier, cuts, k, starts) else {
+        return Err(AllocError);
+    };
+    let Ok(high) = begin_tile(alloc, tier, cuts, k + 1, starts) else {
+        return Err(AllocError);
+    };
     Ok((low, high))
 }
 
@@ -95,24 +100,46 @@ fn begin_two_by<G: Game + Send + Sync, R: Threads + Sync>(
     }
 }
 
-/// Makes the shards of all four tiles, by four threads.
+// Returns a tier before its first level, of the shards of its tiles.
+fn tiles_of<G: Game>(
+    tier: u64,
+    cuts: Cuts,
+    low: Result<ShardPair<G>, AllocError>,
+    high: Result<ShardPair<G>, AllocError>,
+) -> Result<Tiles<G>, SolveError>
+    requires cuts { AreCuts G.rules tier cuts }
+    requires low { IfOk low (λ two. AreTwo G.rules tier cuts 0 two.0 two.1) }
+    requires high { IfOk high (λ two. AreTwo G.rules tier cuts 2 two.0 two.1) }
+    ensures place { IfOk result (λ tiles. place_of tiles.shards.a ≡ place_at tier WinLose 0) }
+    ensures error { IfErr result (IsError G.rules tier) }
+{
+    let Ok((a, b)) = low else {
+        return Err(SolveError::OutOfMemory);
+    };
+    let Ok((c, d)) = high else {
+        return Err(SolveError::OutOfMemory);
+    };
+    Ok(Tiles {
+        shards: Four { a, b, c, d },
+        cuts,
+    })
+}
+
+/// Returns a tier before its first level, of the shards of its tiles, made by four threads.
 pub(crate) fn begin_four<G: Game + Send + Sync, R: Threads + Sync>(
     rt: &R,
     alloc: Global,
     tier: u64,
     cuts: Cuts,
     starts: &[Start],
-) -> (
-    Result<ShardPair<G>, AllocError>,
-    Result<ShardPair<G>, AllocError>,
-)
+) -> Result<Tiles<G>, SolveError>
     requires starts { AreStarts G.rules tier 0 starts.now }
     requires whole { length starts.now ≡ G.rules.tier_size tier }
     requires cuts { AreCuts G.rules tier cuts }
-    ensures low { IfOk result.0 (λ two. AreTwo G.rules tier cuts 0 two.0 two.1) }
-    ensures high { IfOk result.1 (λ two. AreTwo G.rules tier cuts 2 two.0 two.1) }
+    ensures place { IfOk result (λ tiles. place_of tiles.shards.a ≡ place_at tier WinLose 0) }
+    ensures error { IfErr result (IsError G.rules tier) }
 {
-    join(
+    let (low, high) = join(
         rt,
         || -> Result<ShardPair<G>, AllocError>
             requires { AreStarts G.rules tier 0 starts.now × (length starts.now ≡ G.rules.tier_size tier)
@@ -124,32 +151,8 @@ pub(crate) fn begin_four<G: Game + Send + Sync, R: Threads + Sync>(
                 × AreCuts G.rules tier cuts }
             ensures { IfOk result (λ two. AreTwo G.rules tier cuts 2 two.0 two.1) }
         { begin_two_by(rt, alloc, tier, cuts, 2, starts) },
-    )
-}
-
-/// Returns a tier before its first level, of the shards of its tiles.
-pub(crate) fn tiles_of<G: Game>(
-    tier: u64,
-    cuts: Cuts,
-    low: Result<ShardPair<G>, AllocError>,
-    high: Result<ShardPair<G>, AllocError>,
-) -> Result<Tiles<G>, AllocError>
-    requires cuts { AreCuts G.rules tier cuts }
-    requires low { IfOk low (λ two. AreTwo G.rules tier cuts 0 two.0 two.1) }
-    requires high { IfOk high (λ two. AreTwo G.rules tier cuts 2 two.0 two.1) }
-    ensures { IfOk result (λ tiles. place_of tiles.shards.a ≡ place_at tier WinLose 0) }
-{
-    let ((a, b), (c, d)) = match (low, high) {
-        (Ok(low), Ok(high)) => (low, high),
-        (low, high) => {
-            drop((low, high));
-            return Err(AllocError);
-        }
-    };
-    Ok(Tiles {
-        shards: Four { a, b, c, d },
-        cuts,
-    })
+    );
+    tiles_of(tier, cuts, low, high)
 }
 
 /// Returns a tier before its first level, of the shards of its tiles, made by this thread.
@@ -158,11 +161,12 @@ pub(crate) fn begin_in_turn<G: Game>(
     tier: u64,
     cuts: Cuts,
     starts: &[Start],
-) -> Result<Tiles<G>, AllocError>
+) -> Result<Tiles<G>, SolveError>
     requires starts { AreStarts G.rules tier 0 starts.now }
     requires whole { length starts.now ≡ G.rules.tier_size tier }
     requires cuts { AreCuts G.rules tier cuts }
-    ensures { IfOk result (λ tiles. place_of tiles.shards.a ≡ place_at tier WinLose 0) }
+    ensures place { IfOk result (λ tiles. place_of tiles.shards.a ≡ place_at tier WinLose 0) }
+    ensures error { IfErr result (IsError G.rules tier) }
 {
     let low = begin_two(alloc, tier, cuts, 0, starts);
     let high = begin_two(alloc, tier, cuts, 2, starts);

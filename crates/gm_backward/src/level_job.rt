@@ -3,11 +3,8 @@ ghost use Rattle.std.specs.Prelude.{◌≡◌, ◌<◌, ◌≤◌};
 ghost use Rattle.gm_backward.specs.inner.Cuts.{AreCuts};
 
 use crate::cuts::Cuts;
-use crate::error::SolveError;
-use gm_counters::ordered::OrderedShard;
 use gm_frontier::level::Level;
 use gm_game::game::Game;
-use gm_locks::four::Four;
 
 /// A level, the number of notes in a piece of it, and the cuts of its tier.
 #[derive(Drop)]
@@ -18,6 +15,3 @@ pub struct LevelJob<'a, G: Game> {
     ghost some: { 0 < notes },
     ghost cuts_are: { AreCuts G.rules level.now.place.tier cuts },
 }
-
-/// The shards at the end of a level, after the workers and the coordinator, and the number of pairs that the workers delivered.
-pub type LevelEnd<G> = Result<(Four<OrderedShard<G>>, u64), SolveError>;

@@ -1,5 +1,5 @@
 //! The levels of both phases of a tier.
-ghost use Rattle.std.specs.Prelude.{◌≡◌, ◌≤◌, IfSome, IfNone, IfOk, IfErr};
+ghost use Rattle.std.specs.Prelude.{◌≡◌, ◌≤◌, IfSome, IfNone, IfOk};
 ghost use Rattle.gm_game.specs.declared.position.Phase.TheVariants.{Ties};
 ghost use Rattle.gm_frontier.specs.Counts.{IsNumberBefore};
 ghost use Rattle.gm_frontier.specs.Levels.{AreTiles};
@@ -7,12 +7,8 @@ ghost use Rattle.gm_table.specs.Solving.{IsTooFar, AreDeliveries};
 ghost use Rattle.gm_game.specs.Records.{IsTrueTable};
 ghost use Rattle.gm_table.specs.Tables.{AreHeld, IsTable};
 ghost use Rattle.gm_counters.specs.Steps.{place_of};
-ghost use Rattle.gm_backward.specs.Solving.{IsError};
-ghost use Rattle.gm_backward.specs.inner.Tiling.{IsFreshRun};
 
-use crate::error::SolveError;
 use crate::tiles::Tiles;
-use gm_counters::ordered::OrderedShard;
 use gm_frontier::last::Last;
 use gm_frontier::level::Level;
 use gm_frontier::run::Run;
@@ -23,48 +19,47 @@ use gm_table::table::Table;
 use gm_table::tables::Tables;
 use std::alloc::{AllocError, Global};
 
-// Returns the positions of the present place in two shards.
-fn fresh_of_two<G: Game>(
-    alloc: Global,
-    one: &OrderedShard<G>,
-    two: &OrderedShard<G>,
-) -> Result<(Run<G>, Run<G>), AllocError>
-    ensures one { IfOk result (λ runs. IsFreshRun one.now runs.0) }
-    ensures two { IfOk result (λ runs. IsFreshRun two.now runs.1) }
-{
-    Ok((one.fresh(alloc)?, two.fresh(alloc)?))
-}
-
 /// Returns the positions of the present place, shard after shard.
 pub fn fresh<G: Game>(alloc: Global, tiles: &Tiles<G>) -> Result<[Run<G>; 4], AllocError>
     ensures { IfOk result (λ runs. AreTiles (place_of tiles.now.shards.a) 0 (G.rules.tier_size tiles.now.shards.a.tier) runs) }
 {
-    let (a, b) = fresh_of_two(alloc, &tiles.shards.a, &tiles.shards.b)?;
-    let (c, d) = fresh_of_two(alloc, &tiles.shards.c, &tiles.shards.d)?;
+    let a = tiles.shards.a.fresh(alloc)?;
+    let b = tiles.shards.b.fresh(alloc)?;
+    let c = tiles.shards.c.fresh(alloc)?;
+    let d = tiles.shards.d.fresh(alloc)?;
     Ok([a, b, c, d])
 }
 
-/// Returns the present level of a tier, whose positions at its place are given, and the end of the phase if nothing of the phase is left in the tier or its
-/// child tiers.
+/// Returns the present level of a tier, whose positions at its place are given.
 pub fn next_level<'a, G: Game>(
     alloc: Global,
     tables: &'a Tables<G>,
     tiles: &Tiles<G>,
     runs: &'a [Run<G>],
-) -> Result<(Level<'a, G>, Option<Last<G>>), SolveError>
+) -> Result<Level<'a, G>, AllocError>
     requires held { AreHeld G.rules tables.now tiles.now.shards.a.tier }
     requires runs { AreTiles (place_of tiles.now.shards.a) 0 (G.rules.tier_size tiles.now.shards.a.tier) runs.now }
-    ensures place { IfOk result (λ next. next.0.place ≡ place_of tiles.now.shards.a) }
-    ensures last { IfOk result (λ next. IfSome next.1 (λ last. last ≡ place_of tiles.now.shards.a)) }
-    ensures near { IfOk result (λ next. IfNone next.1 (tiles.now.shards.a.level ≤ REMOTENESS)) }
-    ensures error { IfErr result (IsError G.rules tiles.now.shards.a.tier) }
+    ensures { IfOk result (λ level. level.place ≡ place_of tiles.now.shards.a) }
 {
-    let level = Level::gather(alloc, tiles.shards.a.place(), runs, tables)?;
+    Level::gather(alloc, tiles.shards.a.place(), runs, tables)
+}
+
+/// Returns the end of the phase, if nothing of the phase is left in the tier or its child tiers.
+pub fn end_of_phase<G: Game>(
+    tables: &Tables<G>,
+    tiles: &Tiles<G>,
+    level: &Level<G>,
+) -> Option<Last<G>>
+    requires held { AreHeld G.rules tables.now tiles.now.shards.a.tier }
+    requires place { level.now.place ≡ place_of tiles.now.shards.a }
+    ensures last { IfSome result (λ last. last ≡ place_of tiles.now.shards.a) }
+    ensures near { IfNone result (tiles.now.shards.a.level ≤ REMOTENESS) }
+{
     let last = level.last(tables);
     if last.is_none() {
         tiles.show_near(tables);
     }
-    Ok((level, last))
+    last
 }
 
 /// Returns the true table of a tier of its true records, and the number of all pairs whose child is no draw, when nothing is left to settle.

@@ -158,15 +158,17 @@ impl<G: Game> Tiles<G> {
 }
 
 impl<G: Game + Send + Sync> Tiles<G> {
-    /// Lets workers deliver the pairs of a level, and the coordinator the rest, and closes it. Returns the number of the workers' deliveries too.
+    /// Lets workers deliver the pairs of a level, and the coordinator the rest, and closes it. Adds the number of the workers' deliveries to the one that is
+    /// given.
     pub(crate) fn run<R: Threads + Wait + Sync, T: Gate, S: Source, O: Observer>(
         self,
         context: &SolveContext<R, T, S, O>,
         level: &Level<G>,
-    ) -> Result<(Tiles<G>, u64), SolveError>
+        by_workers: &mut u64,
+    ) -> Result<Tiles<G>, SolveError>
         requires place { level.now.place ≡ place_of self.shards.a }
         requires near { self.shards.a.level ≤ REMOTENESS }
-        ensures next { IfOk result (λ next. place_of next.0.shards.a ≡ next_place (place_of self.shards.a)) }
+        ensures next { IfOk result (λ next. place_of next.shards.a ≡ next_place (place_of self.shards.a)) }
         ensures error { IfErr result (IsError G.rules self.shards.a.tier) }
     {
         context.observer.level(context.rt, self.shards.a.place());
@@ -177,12 +179,10 @@ impl<G: Game + Send + Sync> Tiles<G> {
             notes: context.plan.piece(),
             cuts,
         };
-        let (shards, by_workers) = run_pieces(context, &job, shards)?;
-        let shards = close_all(level, cuts, shards);
-        let tiles = Tiles { shards, cuts };
+        let tiles = run_pieces(context, &job, shards, by_workers)?;
         let pairs = tiles.number().saturating_sub(before);
         context.observer.delivered(context.rt, pairs);
-        Ok((tiles, by_workers))
+        Ok(tiles)
     }
 
     /// Returns the true records of the tier when nothing is left to settle: for several workers and many indexes four threads make those of a tile each.

@@ -17,25 +17,40 @@ use std::alloc::AllocError;
 // The text of a tier of at most this many indexes is made by the calling thread: to start another takes longer.
 const FEW: u64 = 65_536;
 
-/// What was done for a tier before its turn: the observer has its `read` call, and the tier is solved, unless that failed.
+/// What was done for a tier before its turn.
 #[derive(Drop)]
-pub(crate) struct Ahead<G: Game> {
-    pub solved: Option<(Table<G>, Report)>,
+pub(crate) enum Ahead<G: Game> {
+    /// Nothing.
+    Nothing,
+    /// The observer has its `read` call, and the tier is not solved, since that failed.
+    Read,
+    /// The observer has its `read` call, and the tier is solved: its table and the report.
+    Done(Table<G>, Report),
+}
+
+impl<G: Game> Ahead<G> {
+    /// Returns whether nothing was done.
+    pub(crate) fn is_nothing(&self) -> bool {
+        matches!(self, Ahead::Nothing)
+    }
 }
 
 /// Returns the table and the report of a tier, if that tier was solved before its turn.
-pub(crate) fn solved_of<G: Game>(done: Option<Ahead<G>>, tier: u64) -> Option<(Table<G>, Report)>
-    requires done { IfSome done (IsAhead G.rules) }
+pub(crate) fn solved_of<G: Game>(done: Ahead<G>, tier: u64) -> Option<(Table<G>, Report)>
+    requires done { IsAhead G.rules done }
     ensures tier { IfSome result (λ solved. solved.0.tier ≡ tier) }
     ensures deliveries { IfSome result (λ solved. AreDeliveries G.rules tier solved.1.deliveries) }
     ensures by_hand { IfSome result (λ solved. solved.1.by_hand ≤ solved.1.deliveries) }
 {
-    let Ahead { solved } = done?;
-    let (table, report) = solved?;
-    if table.tier() == tier {
-        Some((table, report))
-    } else {
-        None
+    match done {
+        Ahead::Nothing | Ahead::Read => None,
+        Ahead::Done(table, report) => {
+            if table.tier() == tier {
+                Some((table, report))
+            } else {
+                None
+            }
+        }
     }
 }
 

@@ -6,6 +6,7 @@ ghost use Rattle.gm_build.specs.TrueTexts.{HasText, HasOldText, HaveTexts, Keeps
 ghost use Rattle.gm_build.specs.Work.{IsWorkOn, IsSomeWork, HoldsExactly};
 ghost use Rattle.gm_build.specs.Outcomes.{failures_in, IsBuildError, IsStopped};
 
+use crate::ahead::Ahead;
 use crate::build_error::BuildError;
 use crate::tier::Builder;
 use crate::work::Work;
@@ -28,7 +29,7 @@ pub struct Built<G: Game> {
     /// The true table of each tier of the order.
     pub tables: Tables<G>,
     /// The tiers that are built, child tiers first.
-    pub order: TierOrder<G>,
+    pub order: TierOrder,
     /// The work on these tiers.
     pub work: Work,
 }
@@ -120,7 +121,7 @@ pub fn build_from<
     ensures stopped { IsTrue S.KEEPS → IfErr result (IsStopped G.rules first (S.texts store.old) (S.texts store.new)) }
     ensures count { S.failed store.new ≡ S.failed store.old + failures_in result }
 {
-    let order = match TierOrder::from_tier(alloc, first) {
+    let order = match TierOrder::from_tier::<G>(alloc, first) {
         Ok(order) => order,
         Err(error) => return Err(BuildError::from(error)),
     };
@@ -138,7 +139,7 @@ pub fn build_from<
         },
     };
     let mut later = order.tiers().iter().skip(1);
-    let mut ahead = None;
+    let mut ahead = Ahead::Nothing;
     // By the laws of the game the sum of the deliveries fits.
     laws::<G>();
     for tier in order.tiers() {

@@ -73,15 +73,17 @@ pub fn read_entry_table<G: Game + Send + Sync, R: Threads + Sync>(
     ensures tier { IfOk result (IsOfTier tier) }
     ensures exact { IfOk result (IsFound G.rules tier bytes.now) }
 {
-    match inspect_text(rt, alloc, tier, bytes, tables)? {
-        Inspected::Right(table) => Ok(Found::Current(table)),
-        Inspected::NoFile(FileError::OldVersion) => match old_table(
-            rt, alloc, tier, bytes, tables,
-        )? {
-            Some(table) => Ok(Found::Old(table)),
-            None => Ok(Found::Nothing),
-        },
-        _ => Ok(Found::Nothing),
+    match inspect_text(rt, alloc, tier, bytes, tables) {
+        Ok(Inspected::Right(table)) => Ok(Found::Current(table)),
+        Ok(Inspected::NoFile(FileError::OldVersion)) => {
+            match old_table(rt, alloc, tier, bytes, tables) {
+                Ok(Some(table)) => Ok(Found::Old(table)),
+                Ok(None) => Ok(Found::Nothing),
+                Err(refused) => Err(refused),
+            }
+        }
+        Ok(_) => Ok(Found::Nothing),
+        Err(refused) => Err(refused),
     }
 }
 

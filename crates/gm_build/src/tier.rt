@@ -27,6 +27,7 @@ use gm_tierdb::store::Store;
 use gm_tierdb::store_error::StoreError;
 use std::alloc::AllocError;
 use std::fs::Files;
+use std::mem::replace;
 use std::sync::Wait;
 use std::thread::{Threads, join};
 
@@ -54,15 +55,15 @@ impl<R: Threads + Wait + Files + Sync, T: Gate, P: Source, O: Observer> Builder<
         &self,
         tier: u64,
         next: Option<u64>,
-        ahead: &mut Option<Ahead<G>>,
+        ahead: &mut Ahead<G>,
         tables: &mut Tables<G>,
         store: &mut S,
     ) -> Result<TierOutcome, BuildError>
         requires held { AreHeld G.rules tables.old tier }
         requires small { G.rules.tier_size tier ≤ TIER_SIZE }
         requires few { S.failed store.old < u64.MAX }
-        requires ahead { IfSome ahead.old (IsAhead G.rules) }
-        ensures ahead { IfSome ahead.new (IsAhead G.rules) }
+        requires ahead { IsAhead G.rules ahead.old }
+        ensures ahead { IsAhead G.rules ahead.new }
         ensures held { OnOk result (HoldsToo tier tables.old tables.new) }
         ensures work { IfOk result (IsStepWork G.rules tier) }
         ensures step { IsTrue S.READS → IfOk result (IsStep G.rules (S.texts store.old) tier) }
@@ -72,8 +73,8 @@ impl<R: Threads + Wait + Files + Sync, T: Gate, P: Source, O: Observer> Builder<
         ensures error { IfErr result (IsTierError G.rules tier) }
         ensures count { S.failed store.new ≡ S.failed store.old + failures_in result }
     {
-        let done = ahead.take();
-        if done.is_none() {
+        let done = replace(ahead, Ahead::Nothing);
+        if done.is_nothing() {
             self.context.observer.read(self.context.rt, tier);
         }
         match load_tier(self.context.rt, self.context.alloc, tier, tables, store) {
@@ -82,8 +83,8 @@ impl<R: Threads + Wait + Files + Sync, T: Gate, P: Source, O: Observer> Builder<
                 Ok(()) => Ok(TierOutcome::Reused),
                 Err(_refused) => Err(BuildError::OutOfMemory),
             },
-            Ok(Found::Old(table)) => match self.keep(table, None, tables, store) {
-                Ok(_none) => Ok(TierOutcome::Migrated),
+            Ok(Found::Old(table)) => match self.keep(table, None, ahead, tables, store) {
+                Ok(()) => Ok(TierOutcome::Migrated),
                 Err(error) => Err(error),
             },
             Ok(Found::Nothing) => {
@@ -91,22 +92,24 @@ impl<R: Threads + Wait + Files + Sync, T: Gate, P: Source, O: Observer> Builder<
                     Some(solved) => solved,
                     None => solve(&self.context, tier, tables)?,
                 };
-                *ahead = self.keep(table, next, tables, store)?;
+                self.keep(table, next, ahead, tables, store)?;
                 Ok(TierOutcome::Solved(report))
             }
         }
     }
 
-    // Holds the table of a tier, and writes its text once if the store takes texts. Returns what was done for the next tier while the text was made.
+    // Holds the table of a tier, and writes its text once if the store takes texts. Then `ahead` has what was done for the next tier while the text was made.
     fn keep<G: Game + Send + Sync, S: Store>(
         &self,
         table: Table<G>,
         next: Option<u64>,
+        ahead: &mut Ahead<G>,
         tables: &mut Tables<G>,
         store: &mut S,
-    ) -> Result<Option<Ahead<G>>, BuildError>
-        requires { S.failed store.old < u64.MAX }
-        ensures ahead { IfOk result (λ ahead. IfSome ahead (IsAhead G.rules)) }
+    ) -> Result<(), BuildError>
+        requires few { S.failed store.old < u64.MAX }
+        requires ahead { IsAhead G.rules ahead.old }
+        ensures ahead { IsAhead G.rules ahead.new }
         ensures held { OnOk result (HoldsToo table.tier tables.old tables.new) }
         ensures text { IsTrue S.KEEPS → OnOk result (HasText G.rules (S.texts store.new) table.tier) }
         ensures here { IsTrue S.KEEPS → OnErr result (MayHaveText G.rules (S.texts store.old) (S.texts store.new) table.tier) }
@@ -117,7 +120,7 @@ impl<R: Threads + Wait + Files + Sync, T: Gate, P: Source, O: Observer> Builder<
         let tier = table.tier();
         if !store.takes_texts() {
             return match tables.insert(table) {
-                Ok(()) => Ok(None),
+                Ok(()) => Ok(()),
                 Err(_refused) => Err(BuildError::OutOfMemory),
             };
         }
@@ -131,46 +134,45 @@ impl<R: Threads + Wait + Files + Sync, T: Gate, P: Source, O: Observer> Builder<
         let Some(table) = tables.table(tier) else {
             unreachable!()
         };
-        let (text, ahead) = self.make_text(table, next, tables)?;
-        write::<G, R, S>(self.context.rt, tier, text.as_slice(), store)?;
-        Ok(ahead)
+        let text = self.make_text(table, next, ahead, tables)?;
+        write::<G, R, S>(self.context.rt, tier, text.as_slice(), store)
     }
 
-    // Returns the text of a table. While a long one is made, the next tier is solved.
+    // Returns the text of a table. While a long one is made, the next tier is solved: then `ahead` has what was done for it.
     fn make_text<G: Game + Send + Sync>(
         &self,
         table: &Table<G>,
         next: Option<u64>,
+        ahead: &mut Ahead<G>,
         tables: &Tables<G>,
-    ) -> Result<(Vec<u8>, Option<Ahead<G>>), AllocError>
-        ensures text { IfOk result (λ made. IsTrueText G.rules table.now.tier made.0.items) }
-        ensures ahead { IfOk result (λ made. IfSome made.1 (IsAhead G.rules)) }
+    ) -> Result<Vec<u8>, AllocError>
+        requires { IsAhead G.rules ahead.old }
+        ensures text { IfOk result (λ text. IsTrueText G.rules table.now.tier text.items) }
+        ensures ahead { IsAhead G.rules ahead.new }
     {
         let file = room(self.context.alloc, table)?;
         match next {
             Some(next) if is_ahead(table, next, tables, self.context.plan) => {
-                self.make_text_beside(file, table, next, tables)
+                self.make_text_beside(file, table, next, ahead, tables)
             }
-            _ => {
-                let text = text_in(file, table)?;
-                Ok((text, None))
-            }
+            _ => text_in(file, table),
         }
     }
 
-    // Returns the text of a table, which another thread makes in this list, and what this thread did for the next tier meanwhile. The list is this thread's, so
-    // that its memory is used again.
+    // Returns the text of a table, which another thread makes in this list. Then `ahead` has what this thread did for the next tier meanwhile. The list is this
+    // thread's, so that its memory is used again.
     fn make_text_beside<G: Game + Send + Sync>(
         &self,
         file: Vec<u8>,
         table: &Table<G>,
         next: u64,
+        ahead: &mut Ahead<G>,
         tables: &Tables<G>,
-    ) -> Result<(Vec<u8>, Option<Ahead<G>>), AllocError>
+    ) -> Result<Vec<u8>, AllocError>
         requires held { AreHeld G.rules tables.now next }
         requires small { G.rules.tier_size next ≤ TIER_SIZE }
-        ensures text { IfOk result (λ made. IsTrueText G.rules table.now.tier made.0.items) }
-        ensures ahead { IfOk result (λ made. IfSome made.1 (IsAhead G.rules)) }
+        ensures text { IfOk result (λ text. IsTrueText G.rules table.now.tier text.items) }
+        ensures ahead { IsAhead G.rules ahead.new }
     {
         // One by one, since the prover knows no result of a closure that captures a context.
         let rt = self.context.rt;
@@ -200,12 +202,12 @@ impl<R: Threads + Wait + Files + Sync, T: Gate, P: Source, O: Observer> Builder<
                 solve(&context, next, tables)
             },
         );
-        let solved = match answer {
-            Ok(solved) => Some(solved),
-            Err(_error) => None,
+        let done = match answer {
+            Ok((table, report)) => Ahead::Done(table, report),
+            Err(_error) => Ahead::Read,
         };
-        let text = text?;
-        Ok((text, Some(Ahead { solved })))
+        *ahead = done;
+        text
     }
 }
 

@@ -92,7 +92,7 @@ abbrev pub query_line : Line
 query_line = game_command_line game_command.Query (codes "query") (game ∷ position ∷ json ∷ folder ∷ read_only ∷ quiet ∷ [])
 
 abbrev pub moves_line : Line
-moves_line = game_command_line game_command.Moves (codes "moves") (game ∷ start ∷ distinct ∷ json ∷ folder ∷ read_only ∷ quiet ∷ [])
+moves_line = game_command_line game_command.Moves (codes "moves") (game ∷ start ∷ distinct ∷ word (codes "replies") flag ∷ json ∷ folder ∷ read_only ∷ quiet ∷ [])
 
 abbrev pub why_line : Line
 why_line = game_command_line game_command.Why (codes "why") (game ∷ start ∷ json ∷ folder ∷ read_only ∷ quiet ∷ [])
@@ -120,7 +120,7 @@ abbrev pub find_line : Line
 find_line = game_command_line game_command.Find (codes "find") (game ∷ word (codes "value") (text true) ∷ word (codes "remoteness") (text false) ∷ word (codes "tier") tier
     ∷ word (codes "only-move") flag ∷ word (codes "only-fastest") flag ∷ word (codes "whole-line") flag ∷ distinct
     ∷ any_number (codes "min-moves") 1 ∷ any_number (codes "min-tries") 1 ∷ word (codes "tries") flag ∷ word (codes "sort") (text false)
-    ∷ reached ∷ any_number (codes "limit") 1 ∷ any_number (codes "random") 1 ∷ any_number (codes "seed") 0
+    ∷ word (codes "spread") flag ∷ any_number (codes "per-move") 1 ∷ any_number (codes "orient") 0 ∷ reached ∷ any_number (codes "limit") 1 ∷ any_number (codes "random") 1 ∷ any_number (codes "seed") 0
     ∷ word (codes "show") flag ∷ json ∷ word (codes "page") flag ∷ folder ∷ read_only ∷ quiet ∷ [])
 
 abbrev pub counts_line : Line

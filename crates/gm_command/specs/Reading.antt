@@ -14,7 +14,7 @@ use Rattle.gm_command.specs.declared.manual.Manual.{Manual}
 use Rattle.gm_command.specs.declared.manual.Manual.TheVariants.{Bash, Zsh, Fish, Man as ManualPage}
 use Rattle.gm_command.specs.declared.requests.CountsRequest.{CountsRequest}
 use Rattle.gm_command.specs.declared.requests.Question.{Question}
-use Rattle.gm_command.specs.declared.requests.Question.TheVariants.{Value, Moves, Why, Line as BestLine, Show, Board, Diagram}
+use Rattle.gm_command.specs.declared.requests.Question.TheVariants.{Value, Moves, Replies, Why, Line as BestLine, Show, Board, Diagram}
 use Rattle.gm_command.specs.declared.requests.ListForm.{ListForm}
 use Rattle.gm_command.specs.declared.requests.ListForm.TheVariants.{Names, Titles, Json as JsonLines}
 use Rattle.gm_command.specs.declared.requests.Telling.{Telling}
@@ -124,11 +124,15 @@ module _ (rows : List Row) where
     form = counts_form_in;
   }
 
+  -- the question about the moves of a position
+  abbrev pub moves_asked : Bool → Question
+  moves_asked json = if has rows (codes "replies") then Replies (has rows (codes "distinct")) json else Moves (has rows (codes "distinct")) json
+
   -- what a command about a game says
   abbrev pub command_in : GameCommandName → Option CommandContent
   command_in command.Solve = Some (solving json_in)
   command_in command.Query = Some (asking_each (Value json_in))
-  command_in command.Moves = Some (asking_each (Moves (has rows (codes "distinct")) json_in))
+  command_in command.Moves = Some (asking_each (moves_asked json_in))
   command_in command.Why = Some (asking (Why json_in))
   command_in command.Line = Some (asking (BestLine limit_in json_in))
   command_in command.Show = option_map asking drawing_in

@@ -12,8 +12,9 @@ needed_for name =
     if bytes_eq name (codes "read-only") then Some (codes "folder")
     else (if bytes_eq name (codes "no-value") then Some (codes "svg")
     else (if bytes_eq name (codes "seed") then Some (codes "random")
+    else (if bytes_eq name (codes "per-move") || bytes_eq name (codes "orient") then Some (codes "spread")
     else (if bytes_eq name (codes "all") then Some (codes "engine")
-    else None)))
+    else None))))
 
 -- the words that the one of this name can't be combined with
 abbrev pub barred_for : List ℕ → List (List ℕ)
@@ -57,9 +58,9 @@ module _ (rows : List Row) (words : List Word) where
   may_miss _ = true
 
   -- the word goes with the others
-  abbrev pub keeps : Word → Bool
-  keeps w = if given rows w.name then not (is_barred w.name) && is_met (needed_for w.name) else may_miss w.kind
+  abbrev pub goes_with : Word → Bool
+  goes_with w = if given rows w.name then not (is_barred w.name) && is_met (needed_for w.name) else may_miss w.kind
 
   -- the words go with each other
   abbrev pub are_related : Bool
-  are_related = list_all keeps words
+  are_related = list_all goes_with words

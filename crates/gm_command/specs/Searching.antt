@@ -7,7 +7,7 @@ use Rattle.gm_game.specs.declared.position.Value.TheVariants.{Lose, Draw, Tie, W
 use Rattle.gm_find.specs.declared.sought.Span.{Span}
 use Rattle.gm_find.specs.declared.sought.Sought.{Sought}
 use Rattle.gm_find.specs.declared.sought.Choice.{Choice}
-use Rattle.gm_find.specs.declared.sought.Choice.TheVariants.{First, Random, Sorted}
+use Rattle.gm_find.specs.declared.sought.Choice.TheVariants.{First, Random, Sorted, Apart}
 use Rattle.gm_find.specs.declared.sought.Order.{Order}
 use Rattle.gm_find.specs.declared.sought.Order.TheVariants.{Long, Hard}
 use Rattle.gm_json.specs.declared.asked.Asked.{Asked}
@@ -131,6 +131,11 @@ module _ (rows : List Row) where
   abbrev pub order_in : Option (Option Order)
   order_in = elim (text_in rows (codes "sort")) [ None ↦ Some None | Some word ↦ order_named (has rows (codes "tries")) word ]
 
+  -- `--spread`: how many positions with one best move are listed of those that are apart; none if the value is a draw
+  abbrev pub spread_in : Value → Option (Option ℕ)
+  spread_in value = if has rows (codes "spread")
+      then (if is_draw value then None else Some (Some (number_or rows (codes "per-move") no_limit))) else Some None
+
   -- a number of positions by chance, or the first of an order up to a limit
   abbrev pub choice_in : Option Order → Choice
   choice_in order = elim (option_number rows (codes "random")) [
@@ -138,19 +143,30 @@ module _ (rows : List Row) where
     | Some number ↦ Random number (number_or rows (codes "seed") 0)
   ]
 
+  -- the same of positions that are apart
+  abbrev pub apart_in : Option Order → ℕ → Choice
+  apart_in order k = elim (option_number rows (codes "random")) [
+    | None ↦ Apart order k (number_or rows (codes "limit") no_limit) None (option_number rows (codes "orient"))
+    | Some number ↦ Apart order k number (Some (number_or rows (codes "seed") 0)) (option_number rows (codes "orient"))
+  ]
+
+  abbrev pub choice_among : Option Order → Option ℕ → Choice
+  choice_among order None = choice_in order
+  choice_among order (Some k) = apart_in order k
+
   abbrev pub report_in : Report
   report_in = if has rows (codes "json") then Lines Json else (if has rows (codes "page") then Sheet
       else (if has rows (codes "show") then Lines Boards else Lines Rows))
 
   -- the search: its properties, its tier or none for all, whether positions are to be reached, how many, and how they are written
   abbrev pub search_in : Option PositionSearch
-  search_in = option_and_then (λ sought. option_map (λ order. record {
+  search_in = option_and_then (λ sought. option_and_then (λ order. option_map (λ spread. record {
     sought = sought;
     tier = tier_in rows (codes "tier");
     reached = has rows (codes "reached");
-    choice = choice_in order;
+    choice = choice_among order spread;
     report = report_in;
-  }) order_in) sought_in
+  }) (spread_in sought.value)) order_in) sought_in
 
   -- `--with`; none if a word of it is unknown or comes twice
   abbrev pub with_in : Option With

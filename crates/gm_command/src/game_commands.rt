@@ -3,7 +3,7 @@ ghost use Rattle.std.specs.Prelude.{◌≡◌, codes, option_and_then, option_ma
 ghost use Rattle.std.specs.Result.{result_ok};
 ghost use Rattle.gm_command.specs.Contents.{command_content};
 ghost use Rattle.gm_command.specs.Given.{rows_in, text_in, option_number};
-ghost use Rattle.gm_command.specs.Reading.{written, asking, asking_each, drawing_in, paging_in, place_given, playing_in, command_in};
+ghost use Rattle.gm_command.specs.Reading.{written, asking, asking_each, drawing_in, paging_in, place_given, playing_in, moves_asked, command_in};
 
 use crate::given::{has, number_in, text_in};
 use crate::requests::{GameCommand, PageRequest, PlayRequest, Question, TableCommand};
@@ -48,6 +48,18 @@ fn explore_each<'a>(inner: &ArgMatches<'a>, question: Question) -> GameCommand<'
     match text_in(inner, "POSITION") {
         Some("-") => GameCommand::FromTables(TableCommand::Filter { question }),
         _ => explore(inner, question),
+    }
+}
+
+// Returns the question about the moves of a position.
+fn moves_asked(inner: &ArgMatches<'_>, json: bool) -> Question
+    ensures { result ≡ moves_asked (rows_in inner.now) json }
+{
+    let distinct = has(inner, "distinct");
+    if has(inner, "replies") {
+        Question::Replies { distinct, json }
+    } else {
+        Question::Moves { distinct, json }
     }
 }
 
@@ -117,13 +129,7 @@ pub(crate) fn command_of<'a>(
     match command {
         GameCommandName::Solve => Some(GameCommand::FromTables(TableCommand::Solve { json })),
         GameCommandName::Query => Some(explore_each(inner, Question::Value { json })),
-        GameCommandName::Moves => Some(explore_each(
-            inner,
-            Question::Moves {
-                distinct: has(inner, "distinct"),
-                json,
-            },
-        )),
+        GameCommandName::Moves => Some(explore_each(inner, moves_asked(inner, json))),
         GameCommandName::Why => Some(explore(inner, Question::Why { json })),
         GameCommandName::Line => Some(explore(
             inner,

@@ -17,7 +17,7 @@ use crate::manual::{Manual, manual_of};
 use crate::numbers::are_plain;
 use crate::relations::are_related;
 use crate::requests::{GameRequest, ListForm, Reading, Request, TableLocation, Telling};
-use crate::searches::{json_of, order_of, sought_of};
+use crate::searches::{json_of, order_of, sought_of, spread_of};
 use crate::words::{CommandName, CommandSpec, GameCommandName};
 use clap::error::ErrorKind;
 use clap::{ArgMatches, Error};
@@ -175,7 +175,9 @@ fn matched<'a>(
 fn search_fault(inner: &ArgMatches<'_>) -> Option<&'static str> {
     match sought_of(inner) {
         Err(why) => Some(why),
-        Ok(_) => order_of(inner).err(),
+        Ok(sought) => order_of(inner)
+            .err()
+            .or(spread_of(inner, sought.value).err()),
     }
 }
 

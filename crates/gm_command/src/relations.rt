@@ -2,7 +2,7 @@
 ghost use Rattle.std.specs.Prelude.{◌≡◌, map, option_map};
 ghost use Rattle.gm_command.specs.Given.{rows_in, given};
 ghost use Rattle.gm_command.specs.Lines.{word_of};
-ghost use Rattle.gm_command.specs.Relations.{is_among, needed_for, barred_for, has_named, bar, is_barred, is_met, keeps, are_related};
+ghost use Rattle.gm_command.specs.Relations.{is_among, needed_for, barred_for, has_named, bar, is_barred, is_met, goes_with, are_related};
 
 use crate::given::is_given;
 use crate::words::{ArgKind, ArgSpec};
@@ -26,6 +26,7 @@ pub(crate) fn needed_by(name: &str) -> Option<&'static str>
         "read-only" => Some("folder"),
         "no-value" => Some("svg"),
         "seed" => Some("random"),
+        "per-move" | "orient" => Some("spread"),
         "all" => Some("engine"),
         _ => None,
     }
@@ -93,8 +94,8 @@ fn is_met(words: &[ArgSpec], inner: &ArgMatches<'_>, needed: Option<&str>) -> bo
 }
 
 // Tests whether a word of a line goes with the others. One that is required unless an option is there may be missing with it only.
-fn keeps(words: &[ArgSpec], inner: &ArgMatches<'_>, word: &ArgSpec) -> bool
-    ensures { result ≡ keeps (rows_in inner.now) (map word_of words.now) (word_of word.now) }
+fn goes_with(words: &[ArgSpec], inner: &ArgMatches<'_>, word: &ArgSpec) -> bool
+    ensures { result ≡ goes_with (rows_in inner.now) (map word_of words.now) (word_of word.now) }
 {
     if is_given(inner, word.name) {
         return !is_barred(words, inner, word.name) && is_met(words, inner, needed_by(word.name));
@@ -109,5 +110,5 @@ fn keeps(words: &[ArgSpec], inner: &ArgMatches<'_>, word: &ArgSpec) -> bool
 pub(crate) fn are_related(words: &[ArgSpec], inner: &ArgMatches<'_>) -> bool
     ensures { result ≡ are_related (rows_in inner.now) (map word_of words.now) }
 {
-    words.iter().all(|word| keeps(words, inner, word))
+    words.iter().all(|word| goes_with(words, inner, word))
 }

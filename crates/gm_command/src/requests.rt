@@ -26,6 +26,8 @@ pub enum Question {
     Value { json: bool },
     /// The value of each move. With `distinct`, only the first of several moves that lead to one canonical position.
     Moves { distinct: bool, json: bool },
+    /// The value of each move, and how hard it is to answer. With `distinct` as for `Moves`.
+    Replies { distinct: bool, json: bool },
     /// The value of each move, the best answer to it, and the position after that.
     Why { json: bool },
     /// Best play of both sides, of at most this many moves.

@@ -1,9 +1,9 @@
 //! Reading the options of `find`, `counts` and `ask`.
 ghost use Rattle.std.specs.Prelude.{◌≡◌, codes, is_none, option_and_then};
 ghost use Rattle.std.specs.Result.{result_ok};
-ghost use Rattle.gm_command.specs.Given.{rows_in, text_in};
+ghost use Rattle.gm_command.specs.Given.{option_number, rows_in, text_in};
 ghost use Rattle.gm_command.specs.Reading.{limit_in, counts_form_in, counts_in};
-ghost use Rattle.gm_command.specs.Searching.{value_named, is_possible, remoteness_option, sought_in, hard_order, order_named, order_in, first_in, choice_in, report_in, search_in, with_word, with_words, with_nothing, split_at_commas, answer_in, ask_in};
+ghost use Rattle.gm_command.specs.Searching.{value_named, is_possible, remoteness_option, sought_in, hard_order, order_named, order_in, spread_in, first_in, choice_in, apart_in, choice_among, report_in, search_in, with_word, with_words, with_nothing, split_at_commas, answer_in, ask_in};
 
 use crate::given::{has, number_in, number_or, text_in, tier_in};
 use crate::numbers::span_of;
@@ -140,6 +140,19 @@ pub(crate) fn order_of(inner: &ArgMatches<'_>) -> Result<Option<Order>, &'static
     }
 }
 
+// Reads how many positions with one best move are listed of those that are apart, if the line asks for them, or returns the reason for a refusal.
+pub(crate) fn spread_of(inner: &ArgMatches<'_>, value: Value) -> Result<Option<usize>, &'static str>
+    ensures { result_ok result ≡ spread_in (rows_in inner.now) value }
+{
+    if !has(inner, "spread") {
+        Ok(None)
+    } else if value == Value::Draw {
+        Err("best play from a draw has no end, along which positions could be met")
+    } else {
+        Ok(Some(number_or(inner, "per-move", usize::MAX)))
+    }
+}
+
 // Returns which of the positions are returned in an order: the first up to a limit.
 fn first_in(order: Option<Order>, limit: usize) -> Choice
     ensures { result ≡ first_in order limit }
@@ -160,6 +173,46 @@ fn choice_of(inner: &ArgMatches<'_>, order: Option<Order>) -> Choice
             seed: number_or(inner, "seed", 0) as u64,
         },
         None => first_in(order, limit_of(inner)),
+    }
+}
+
+// Returns the same of positions that are apart.
+fn apart_of(inner: &ArgMatches<'_>, order: Option<Order>, per_move: usize) -> Choice
+    ensures { result ≡ apart_in (rows_in inner.now) order per_move }
+{
+    let random = number_in(inner, "random");
+    Choice::Apart {
+        order,
+        per_move,
+        limit: match random {
+            Some(number) => number as usize,
+            None => limit_of(inner),
+        },
+        seed: match random {
+            Some(_) => Some(number_or(inner, "seed", 0) as u64),
+            None => None,
+        },
+        turn: seed_in(inner, "orient"),
+    }
+}
+
+// Returns the seed that an option gives, if it is there.
+fn seed_in(inner: &ArgMatches<'_>, name: &str) -> Option<u64>
+    ensures { result ≡ option_number (rows_in inner.now) name.now }
+{
+    match number_in(inner, name) {
+        Some(number) => Some(number as u64),
+        None => None,
+    }
+}
+
+// Returns the choice of a line, of all positions or of those that are apart.
+fn choice_among(inner: &ArgMatches<'_>, order: Option<Order>, spread: Option<usize>) -> Choice
+    ensures { result ≡ choice_among (rows_in inner.now) order spread }
+{
+    match spread {
+        Some(per_move) => apart_of(inner, order, per_move),
+        None => choice_of(inner, order),
     }
 }
 
@@ -184,11 +237,12 @@ pub(crate) fn search_of(inner: &ArgMatches<'_>) -> Option<PositionSearch>
 {
     let sought = sought_of(inner).ok()?;
     let order = order_of(inner).ok()?;
+    let spread = spread_of(inner, sought.value).ok()?;
     Some(PositionSearch {
         sought,
         tier: tier_in(inner, "tier"),
         reached: has(inner, "reached"),
-        choice: choice_of(inner, order),
+        choice: choice_among(inner, order, spread),
         report: report_of(inner),
     })
 }

@@ -25,15 +25,21 @@ fn first_counters(alloc: Global, starts: &[Start]) -> Result<Vec<u8>, AllocError
     Ok(left)
 }
 
+// The counters and the statuses of a range, and the pairs that were delivered to it: a type that does not depend on the game.
+#[derive(Drop)]
+struct Rows {
+    pairs: Option<Log<Position, u64>>,
+    left: Vec<u8>,
+    statuses: Statuses,
+}
+
 /// A range of a tier, with the children delivered to each of its positions, which only proofs read.
 pub struct Ordered<G: Game> {
     tier: u64,
     lo: u64,
     phase: Phase,
     level: u32,
-    pairs: Option<Log<Position, u64>>,
-    left: Vec<u8>,
-    statuses: Statuses,
+    rows: Rows,
     delivered: u64,
     game: PhantomData<G>,
 }
@@ -46,9 +52,7 @@ impl<G: Game> Drop for Ordered<G> {
             lo: _,
             phase: _,
             level: _,
-            pairs: _,
-            left: _,
-            statuses: _,
+            rows: _,
             delivered: _,
             game: _,
         } = self;
@@ -64,10 +68,10 @@ impl<G: Game> Model for Ordered<G> {
 
     ghost Value = { ShardState };
 
-    ghost view = { λ s. state_by s.tier s.lo s.phase s.level (length s.left.items) (logged s.pairs) };
+    ghost view = { λ s. state_by s.tier s.lo s.phase s.level (length s.rows.left.items) (logged s.rows.pairs) };
 
-    ghost invariant = { λ s. IsShardKept G.rules (state_by s.tier s.lo s.phase s.level (length s.left.items) (logged s.pairs)) s.statuses s.left.items
-        s.delivered };
+    ghost invariant = { λ s. IsShardKept G.rules (state_by s.tier s.lo s.phase s.level (length s.rows.left.items) (logged s.rows.pairs)) s.rows.statuses
+        s.rows.left.items s.delivered };
 }
 
 impl<G: Game> Ordered<G> {
@@ -96,9 +100,11 @@ impl<G: Game> Ordered<G> {
             lo,
             phase: Phase::WinLose,
             level: 0,
-            pairs: None,
-            left,
-            statuses,
+            rows: Rows {
+                pairs: None,
+                left,
+                statuses,
+            },
             delivered: 0,
             game: PhantomData,
         })
@@ -118,7 +124,7 @@ impl<G: Game> Ordered<G> {
         ensures small { self.now.lo + length self.now.delivered ≤ TIER_SIZE }
         ensures good { IsGood G.rules self.now }
     {
-        (self.lo, self.left.len() as u64)
+        (self.lo, self.rows.left.len() as u64)
     }
 
     /// Returns the present place.
@@ -137,7 +143,7 @@ impl<G: Game> Ordered<G> {
         requires { IsInRange self.now index }
         ensures { StatusIs G.rules self.now index result }
     {
-        self.statuses.get((index - self.lo) as usize)
+        self.rows.statuses.get((index - self.lo) as usize)
     }
 
     /// Returns an index from `index` on, or the end of the range, that only holes come before, so that these indexes need no look.
@@ -148,7 +154,7 @@ impl<G: Game> Ordered<G> {
         ensures high { result ≤ self.now.lo + length self.now.delivered }
         ensures holes { (i : ℕ) → index ≤ i → i < result → StatusIs G.rules self.now i Hole }
     {
-        self.lo + self.statuses.skip_holes((index - self.lo) as usize) as u64
+        self.lo + self.rows.statuses.skip_holes((index - self.lo) as usize) as u64
     }
 
     /// Returns the number of an index's record when nothing is left to settle: an undecided position is a draw.
@@ -156,7 +162,7 @@ impl<G: Game> Ordered<G> {
         requires { IsInRange self.now index }
         ensures { (status : StatusSpec) × StatusIs G.rules self.now index status × (unpacked result ≡ record_of_status status) }
     {
-        self.statuses.final_number((index - self.lo) as usize)
+        self.rows.statuses.final_number((index - self.lo) as usize)
     }
 
     /// Returns how many canonical children are not delivered.
@@ -164,7 +170,7 @@ impl<G: Game> Ordered<G> {
         requires { IsInRange self.now index }
         ensures { IsCounter G.rules self.now index result }
     {
-        self.left[(index - self.lo) as usize] as u32
+        self.rows.left[(index - self.lo) as usize] as u32
     }
 
     /// Returns the note of an index, if it is settled.
@@ -250,10 +256,10 @@ impl<G: Game> Ordered<G> {
         ensures { self.new ≡ with_pair self.old note.now.position parent }
     {
         let k = (parent - self.lo) as usize;
-        self.left[k] -= 1;
-        self.statuses.set(k, next);
+        self.rows.left[k] -= 1;
+        self.rows.statuses.set(k, next);
         self.delivered += 1;
         let child = note.position();
-        self.pairs = Some(Log::after(&self.pairs, &child, &parent));
+        self.rows.pairs = Some(Log::after(&self.rows.pairs, &child, &parent));
     }
 }

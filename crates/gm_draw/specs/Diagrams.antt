@@ -1,13 +1,14 @@
 -- Diagrams: SVG documents of positions, byte by byte.
 use Rattle.std.specs.Prelude.{ℕ, ◌+◌, ◌-◌, ◌*◌, ◌/◌, max, Bool, true, false, ◌||◌, ◌&&◌, ◌==◌, List, [], ◌∷◌, ◌++◌, count_by, nat_lt, slice_index, codes, if◌then◌else◌, Option, None, Some}
 use Rattle.std.specs.Borrow.{Bor}
+use Rattle.std.specs.Char.{is_ascii_digit}
 use Rattle.std.specs.Fmt.{decimal}
 use Rattle.std.specs.List.{flat_map}
 use Rattle.gm_game.specs.declared.position.Position.{Position}
 use Rattle.gm_game.specs.declared.position.Solved.{Solved}
 use Rattle.gm_game.specs.Texts.{text_of}
 use Rattle.gm_draw.specs.declared.pictured.Style.{Style}
-use Rattle.gm_draw.specs.declared.pictured.Style.TheVariants.{Row, Crosses, Counters, Stones, Discs, Letters, Chess, Hounds}
+use Rattle.gm_draw.specs.declared.pictured.Style.TheVariants.{Row, Crosses, Counters, Stones, Discs, Letters, Chess, Hounds, Digits}
 use Rattle.gm_draw.specs.Templates.{is_slot, spread}
 use Rattle.gm_draw.specs.Pictures.{PictureSpec, drawn}
 use Rattle.gm_draw.specs.Chessboards.{is_dark, man_at}
@@ -60,6 +61,7 @@ has_cells Discs = false
 has_cells Letters = false
 has_cells Chess = true
 has_cells Hounds = true
+has_cells Digits = false
 
 -- whether men are on points
 abbrev pub has_points : Style → Bool
@@ -71,6 +73,7 @@ has_points Discs = true
 has_points Letters = true
 has_points Chess = false
 has_points Hounds = false
+has_points Digits = false
 
 -- whether men are on the squares of a chess board
 abbrev pub has_squares : Style → Bool
@@ -136,7 +139,11 @@ letter_on x y b first =
 unfoldable pub chessman_of : Style → ℕ → ℕ → ℕ → List ℕ
 chessman_of style x y b = if b == 0 then [] else letter_on x y b (is_first style b)
 
--- the man of a byte of the position's text; nothing if the byte is not a man
+-- a digit; nothing for any other byte
+unfoldable pub digit_of : ℕ → ℕ → ℕ → List ℕ
+digit_of x y b = if is_ascii_digit b then words_at x (y + 6) (codes "\" font-weight=\"bold\" stroke=\"none\">") (b ∷ []) else []
+
+-- the man or the digit of a byte of the position's text; nothing if the byte is neither
 abbrev pub man_of : Style → ℕ → ℕ → ℕ → List ℕ
 man_of Row x y b = []
 man_of Crosses x y b = cross_of x y b
@@ -146,6 +153,7 @@ man_of Discs x y b = disc_of x y b
 man_of Letters x y b = letter_of x y b
 man_of Chess x y b = chessman_of Chess x y b
 man_of Hounds x y b = chessman_of Hounds x y b
+man_of Digits x y b = digit_of x y b
 
 -- a point of the net, under its man
 abbrev pub point_of : Style → ℕ → ℕ → List ℕ

@@ -1,6 +1,6 @@
 //! The men of a diagram, each at its point.
 ghost use Rattle.std.specs.Prelude.{◌≡◌, ◌≤◌, ◌++◌, ◌+◌, OnOk};
-ghost use Rattle.gm_draw.specs.Diagrams.{circle, words_at, cross_of, counter_of, stone_of, disc_of, letter_of, is_first as is_first_spec, chessman_of, man_of};
+ghost use Rattle.gm_draw.specs.Diagrams.{circle, words_at, cross_of, counter_of, digit_of, stone_of, disc_of, letter_of, is_first as is_first_spec, chessman_of, man_of};
 
 use crate::pictured::Style;
 use crate::svg::{push_circle, push_path, push_words};
@@ -152,7 +152,26 @@ fn push_chessman(
     }
 }
 
-/// Appends the man of a byte of the position's text, if there is one.
+// Appends a digit.
+#[tactic(auto, unfolding(crate::specs::Diagrams::digit_of))]
+fn push_digit(text: &mut Vec<u8>, x: u64, y: u64, byte: u8) -> Result<(), AllocError>
+    requires { y ≤ 16000 }
+    ensures { OnOk result (text.new.items ≡ text.old.items ++ digit_of x y byte) }
+{
+    if byte.is_ascii_digit() {
+        push_words(
+            text,
+            x,
+            y + 6,
+            b"\" font-weight=\"bold\" stroke=\"none\">",
+            &[byte],
+        )
+    } else {
+        Ok(())
+    }
+}
+
+/// Appends the man or the digit of a byte of the position's text, if there is one.
 #[tactic(auto, unfolding(crate::specs::Diagrams::cross_of, crate::specs::Diagrams::counter_of))]
 pub(crate) fn push_man(
     text: &mut Vec<u8>,
@@ -184,6 +203,7 @@ pub(crate) fn push_man(
         (Style::Discs, _) => push_disc(text, x, y, byte),
         (Style::Letters, _) => push_letter(text, x, y, byte),
         (Style::Chess | Style::Hounds, _) => push_chessman(text, style, x, y, byte),
+        (Style::Digits, _) => push_digit(text, x, y, byte),
         _ => Ok(()),
     }
 }

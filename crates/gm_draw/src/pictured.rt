@@ -25,6 +25,8 @@ pub enum Style {
     Chess,
     /// The same with `f`, the fox, and `h`, a hound.
     Hounds,
+    /// Digits, which the places between them separate. There are no men.
+    Digits,
 }
 
 /// How positions are drawn.

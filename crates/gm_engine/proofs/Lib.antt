@@ -1,4 +1,5 @@
 mod Closing
+mod Listed
 mod Ordering
 mod Refused
 mod Trueness

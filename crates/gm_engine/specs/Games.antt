@@ -11,6 +11,7 @@ use Rattle.gm_patterns.specs.PatternTexts.{pattern_text, pattern_move_text}
 use Rattle.gm_morris.specs.Morris.{nine_points}
 use Rattle.gm_pieces.specs.MoveTexts.{position_text_by, move_text_by}
 use Rattle.gm_squares.specs.Chess.{ending, chess_rules, board_text, step_text as man_move}
+use Rattle.gm_squares.specs.Kpk.{kpk, kpk_rules, board_text as pawn_text, step_text as pawn_move}
 use Rattle.gm_dao.specs.DaoRules.{dao_rules}
 use Rattle.gm_dao.specs.Texts.{position_text as dao_text, move_text as dao_move_text}
 use Rattle.gm_hare.specs.Board.{hare_rules}
@@ -18,6 +19,17 @@ use Rattle.gm_hare.specs.Texts.{position_text as hare_text, move_text as hare_mo
 use Rattle.gm_pong.specs.PongRules.{pong}
 use Rattle.gm_ways.specs.Ways.{on_ways}
 use Rattle.gm_dodgem.specs.Dodgem.{dodgem_rules, dodgem_text, dodgem_move}
+use Rattle.gm_placing.specs.RowRules.{notakto}
+use Rattle.gm_placing.specs.HexRules.{hex_three}
+use Rattle.gm_sliding.specs.HexapawnRules.{hexapawn}
+use Rattle.gm_sliding.specs.ToadsRules.{toads}
+use Rattle.gm_dominoes.specs.DominoRules.{domineering_four, cram_four}
+use Rattle.gm_dominoes.specs.KaylesRules.{kayles}
+use Rattle.gm_connect.specs.ConnectFour.{connect_rules}
+use Rattle.gm_connect.specs.Sizes.{size_of}
+use Rattle.gm_connect.specs.Texts.{position_text as connect_text, step_text as connect_move}
+use Rattle.gm_numbers.specs.Nim.{nim_rules, nim_text, nim_move}
+use Rattle.gm_numbers.specs.Chomp.{chomp_rules, chomp_text, chomp_move}
 use Rattle.gm_tactix.specs.Board.{tactix_rules}
 use Rattle.gm_engine.specs.declared.width.Width.{Width}
 use Rattle.gm_engine.specs.declared.width.Width.TheVariants.{Byte, Word}
@@ -37,7 +49,8 @@ played width rules shown move_shown = record { width = width; rules = rules; sho
 abbrev pub patterned : ℕ → PatternGame → PlayedGame
 patterned n g = played Byte (pattern_rules n g) (pattern_text n g) (pattern_move_text n g)
 
--- the games by their numbers, from 0 on. (After Tac Tix come Tic-tac-toe, Three Men's Morris, Achi and Mu Torere.)
+-- the games by their numbers, from 0 on. (After Tac Tix come Tic-tac-toe, Three Men's Morris, Achi and Mu Torere, and after the first chess endings misère
+-- Tic-tac-toe; Nine Holes and Picaria come before Toads and Frogs.)
 abbrev pub games : List PlayedGame
 games =
     played Byte (countdown 10) number_text step_text
@@ -63,6 +76,21 @@ games =
     ∷ played Byte dodgem_rules dodgem_text dodgem_move
     ∷ played Word (chess_rules false) (position_text_by (ending false) (board_text false)) (move_text_by (λ t m. man_move false m))
     ∷ played Byte (chess_rules true) (position_text_by (ending true) (board_text true)) (move_text_by (λ t m. man_move true m))
+    ∷ patterned 9 (nine_points 1)
+    ∷ patterned 9 notakto
+    ∷ patterned 9 hex_three
+    ∷ patterned 9 hexapawn
+    ∷ patterned 9 (nine_points 2)
+    ∷ patterned 9 (nine_points 3)
+    ∷ patterned 11 toads
+    ∷ patterned 16 domineering_four
+    ∷ patterned 16 cram_four
+    ∷ patterned 12 kayles
+    ∷ played Word kpk_rules (position_text_by kpk pawn_text) (move_text_by pawn_move)
+    ∷ played Byte (connect_rules 4 4) (connect_text (size_of 4 4)) (λ p c. connect_move c)
+    ∷ played Byte (nim_rules false) nim_text nim_move
+    ∷ played Byte (nim_rules true) nim_text nim_move
+    ∷ played Byte chomp_rules chomp_text chomp_move
     ∷ []
 
 -- the property holds for the game with this number, if there is one

@@ -46,11 +46,12 @@ pub fn put_order<G: Game>(alloc: Global, out: &mut [u64]) -> Result<usize, Refus
 }
 
 // Returns the tiers of a game, child tiers first.
-fn order_of<G: Game>(alloc: Global) -> Result<TierOrder<G>, Refusal>
+fn order_of<G: Game>(alloc: Global) -> Result<TierOrder, Refusal>
     ensures order { IfOk result (IsTierOrder G.rules) }
+    ensures children_first { IfOk result (ComeChildrenFirst G.rules) }
     ensures refused { IfErr result (IsUnordered G.rules) }
 {
-    match TierOrder::<G>::from_initial(alloc) {
+    match TierOrder::from_initial::<G>(alloc) {
         Ok(order) => Ok(order),
         Err(TierError::OutOfMemory) => Err(Refusal::Memory),
         Err(TierError::TooManyTiers) => Err(Refusal::Order),

@@ -7,13 +7,25 @@ ghost use Rattle.gm_engine.specs.Replies.{AreGiven, IsReply, IsAskAnswered, IsTe
 use crate::replies::{REFUSED, reply};
 use crate::request::Request;
 use crate::width::Width;
+use gm_connect::connect::ConnectFour;
 use gm_dao::dao::Dao;
 use gm_dodgem::dodgem::Dodgem;
+use gm_dominoes::cram::CramFour;
+use gm_dominoes::domineering::DomineeringFour;
+use gm_dominoes::kayles::Kayles;
 use gm_hare::hare::Hare;
 use gm_morris::games::{Achi, ThreeMens, TicTacToe};
 use gm_mutorere::mutorere::MuTorere;
+use gm_numbers::chomp::Chomp;
+use gm_numbers::nim::Nim;
+use gm_placing::hex::HexThree;
+use gm_placing::rows::{Notakto, TicTacToeMisere};
 use gm_pong::pong::Pong;
+use gm_sliding::hexapawn::Hexapawn;
+use gm_sliding::nine::{NineHoles, Picaria};
+use gm_sliding::toads::Toads;
 use gm_squares::chess::{Kqk, Krk};
+use gm_squares::kpk::Kpk;
 use gm_tactix::tactix::TacTix;
 use gm_toys::countdown::Countdown;
 use gm_toys::takeaway::Takeaway;
@@ -52,6 +64,21 @@ fn reply_of(game: u32, request: Request<'_>, order: &mut [u64], out: &mut [u8], 
         20 => reply::<Dodgem>(Width::Byte, request, order, out),
         21 => reply::<Krk>(Width::Word, request, order, out),
         22 => reply::<Kqk>(Width::Byte, request, order, out),
+        23 => reply::<TicTacToeMisere>(Width::Byte, request, order, out),
+        24 => reply::<Notakto>(Width::Byte, request, order, out),
+        25 => reply::<HexThree>(Width::Byte, request, order, out),
+        26 => reply::<Hexapawn>(Width::Byte, request, order, out),
+        27 => reply::<NineHoles>(Width::Byte, request, order, out),
+        28 => reply::<Picaria>(Width::Byte, request, order, out),
+        29 => reply::<Toads>(Width::Byte, request, order, out),
+        30 => reply::<DomineeringFour>(Width::Byte, request, order, out),
+        31 => reply::<CramFour>(Width::Byte, request, order, out),
+        32 => reply::<Kayles>(Width::Byte, request, order, out),
+        33 => reply::<Kpk>(Width::Word, request, order, out),
+        34 => reply::<ConnectFour<4, 4>>(Width::Byte, request, order, out),
+        35 => reply::<Nim<false>>(Width::Byte, request, order, out),
+        36 => reply::<Nim<true>>(Width::Byte, request, order, out),
+        37 => reply::<Chomp>(Width::Byte, request, order, out),
         _ => none,
     }
 }

@@ -6,4 +6,5 @@ pub mod Searching
 pub mod Telling
 pub mod Picking
 pub mod Turns
+pub mod Spreading
 pub mod Lower

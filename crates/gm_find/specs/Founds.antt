@@ -1,6 +1,6 @@
 -- What is reported of found positions.
 use Rattle.std.specs.Prelude.{◌≡◌, ◌-◌, ℕ, Bool, true, false, List, map, length, take, ◌^◌, Option, None, Some}
-use Rattle.std.specs.List.{All}
+use Rattle.std.specs.List.{All, AllZip}
 use Rattle.gm_game.specs.declared.position.Position.{Position}
 use Rattle.gm_game.specs.declared.position.Value.{Value}
 use Rattle.gm_game.specs.declared.position.Value.TheVariants.{Draw}
@@ -12,11 +12,12 @@ use Rattle.gm_table.specs.Tables.{TableData}
 use Rattle.gm_find.specs.declared.found.Found.{Found}
 use Rattle.gm_find.specs.declared.sought.Sought.{Sought}
 use Rattle.gm_find.specs.declared.sought.Choice.{Choice}
-use Rattle.gm_find.specs.declared.sought.Choice.TheVariants.{First, Random, Sorted}
+use Rattle.gm_find.specs.declared.sought.Choice.TheVariants.{First, Random, Sorted, Apart}
 use Rattle.gm_find.specs.declared.tries.Tries.{Tries}
 use Rattle.gm_find.specs.Tries.{IsTriesOf}
 use Rattle.gm_find.specs.Samples.{IsSample}
 use Rattle.gm_find.specs.Sorting.{IsRising}
+use Rattle.gm_find.specs.Spreading.{IsInOrder, AreApartOf, IsImage}
 use Rattle.gm_find.specs.Lists.{IsFirst}
 use Rattle.gm_find.specs.Finding.{IsMatch, all_positions}
 
@@ -54,7 +55,13 @@ pub record AreFound (r : Rules) (q : Sought) (reached : Bool) (limit : ℕ) (tie
 abbrev pub AreAllSought : Rules → Sought → Bool → List ℕ → List Position → Type 0
 AreAllSought r q reached tiers ps = IsFirst (IsMatch r q reached) (2 ^ 64 - 1) (all_positions r tiers) ps
 
--- those of the positions that are sought that a choice takes: the first, or n of all of them in their order, or the first in rising order, each with its answers
+-- the positions as they are, or with a seed a symmetric one in place of each, with its answers
+abbrev pub AreTurned : Rules → Bool → Option ℕ → List Found → List Found → Type 0
+AreTurned r tries None xs ys = ys ≡ xs
+AreTurned r tries (Some seed) xs ys = AllZip (IsImage r) (map found_position xs) (map found_position ys) × All (IsFound r) ys × All (HasTriesAsked tries) ys
+
+-- those of the positions that are sought that a choice takes: the first, or n of all of them in their order, or the first in rising order, or n that are apart
+-- (or symmetric ones in their place), each with its answers
 abbrev pub AreChosen : Rules → Sought → Bool → Choice → List ℕ → List Found → Type 0
 AreChosen r q reached (First n) tiers xs = AreFound r q reached n tiers xs
 AreChosen r q reached (Random n seed) tiers xs =
@@ -62,6 +69,9 @@ AreChosen r q reached (Random n seed) tiers xs =
     × All (HasTriesAsked q.tries) xs
 AreChosen r q reached (Sorted order n) tiers xs =
     (all : List Found) × (sorted : List Found) × AreFound r q reached (2 ^ 64 - 1) tiers all × IsRising order all sorted × (xs ≡ take n sorted)
+AreChosen r q reached (Apart order k n seed turn) tiers xs =
+    (all : List Found) × (ordered : List Found) × (apart : List Found) × AreFound r q reached (2 ^ 64 - 1) tiers all × IsInOrder order all ordered
+    × AreApartOf r k n seed ordered apart × AreTurned r q.tries turn apart xs
 
 -- a legal position, with tables of every tier that play from it can come to
 abbrev pub IsKnownAt : Rules → List TableData → Position → Type 0

@@ -4,6 +4,7 @@ pub mod Tries
 pub mod Finding
 pub mod Samples
 pub mod Sorting
+pub mod Spreading
 pub mod Founds
 pub mod Rows
 pub mod inner

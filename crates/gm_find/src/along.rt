@@ -19,7 +19,7 @@ pub(crate) struct Tally {
 
 /// Returns the tries of a position of this true value, itself and along its solution; `None` for a draw, which has no solution.
 ///
-/// It looks up the moves of every second position of the solution, to a depth of half the remoteness on the call stack.
+/// It looks up the moves of every second position of the solution, and its calls are as deep as the remoteness.
 pub(crate) fn tries_of<G: Game>(known: &Known<'_, G>, solved: Solved) -> Option<Tries>
     requires value { IsTrueValue G.rules known.now.position solved }
     requires small { solved.remoteness ≤ REMOTENESS }
@@ -34,7 +34,7 @@ pub(crate) fn tries_of<G: Game>(known: &Known<'_, G>, solved: Solved) -> Option<
     }
 }
 
-/// Tests whether a position has a solution and at least so many tries at each turn of the side that moves first.
+/// Tests whether a position has a solution and at least `least` tries at each turn of the side that moves first.
 pub(crate) fn has_least_tries<G: Game>(known: &Known<'_, G>, least: usize) -> bool
     ensures { IsTrue result ↔ HasLeastTries G.rules least known.now.position }
 {
@@ -44,7 +44,7 @@ pub(crate) fn has_least_tries<G: Game>(known: &Known<'_, G>, least: usize) -> bo
     }
 }
 
-// Tests whether there are at least so many tries at each turn.
+// Tests whether there are at least `least` tries at each turn.
 fn has_at_least(found: Tries, least: usize) -> bool
     ensures { IsTrue result ↔ (least ≤ found.least) }
 {
@@ -107,10 +107,10 @@ fn with_own(own: usize, along: Option<Tally>) -> Tries
     ensures along { (ts : List ℕ) → AreTallied ts along → (result.least ≡ least_turn ts) × (result.total ≡ total_of ts) }
 {
     match along {
-        Some(tally) => Tries {
+        Some(found) => Tries {
             own,
-            least: tally.least,
-            total: tally.total,
+            least: found.least,
+            total: found.total,
         },
         None => Tries {
             own,

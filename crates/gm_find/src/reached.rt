@@ -9,9 +9,15 @@ use std::alloc::{AllocError, Global};
 use std::collections::HashSet;
 use std::marker::{Model, PhantomData};
 
+// The tiers and indexes of positions: a type that does not depend on the game.
+#[derive(Drop)]
+struct Keys {
+    set: HashSet<(u64, u64)>,
+}
+
 /// The canonical positions that play from the start reaches: 16 bytes and a place in a hash table for each.
 pub struct Reached<G: Game> {
-    keys: HashSet<(u64, u64)>,
+    keys: Keys,
     game: PhantomData<G>,
 }
 
@@ -28,9 +34,9 @@ impl<G: Game> Model for Reached<G> {
 
     ghost Value = { List (ℕ × ℕ) };
 
-    ghost view = { λ s. s.keys.keys };
+    ghost view = { λ s. s.keys.set.keys };
 
-    ghost invariant = { λ s. AreReachedKeys G.rules s.keys.keys };
+    ghost invariant = { λ s. AreReachedKeys G.rules s.keys.set.keys };
 }
 
 impl<G: Game> Reached<G> {
@@ -39,7 +45,9 @@ impl<G: Game> Reached<G> {
         ensures { IfOk result (AreReachedKeys G.rules) }
     {
         Ok(Reached {
-            keys: search::<G>(alloc)?,
+            keys: Keys {
+                set: search::<G>(alloc)?,
+            },
             game: PhantomData,
         })
     }
@@ -48,7 +56,7 @@ impl<G: Game> Reached<G> {
     pub fn has(&self, c: Position) -> bool
         ensures { IsTrue result ↔ IsReachedByPlay G.rules c }
     {
-        self.keys.contains(&(c.tier, c.index))
+        self.keys.set.contains(&(c.tier, c.index))
     }
 }
 

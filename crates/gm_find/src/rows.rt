@@ -19,8 +19,8 @@ use gm_play::texts::push_field;
 use std::alloc::{AllocError, Global};
 
 /// Returns the rows of the canonical positions that are sought: the position, its value, its best move (none at an end) and the number of its moves, with a tab
-/// between them, and then its tries, if they are counted: its own, the least along its solution, and their sum. They come tier by tier in the order given and by ascending index: the first of them, or a random choice. If a set of reached positions is
-/// given, only positions in it count.
+/// between them, and then its tries, if they are counted: its own, the least along its solution, and their sum. They come tier by tier in the order given and
+/// by ascending index: the first of them, or a random choice. If a set of reached positions is given, only positions in it count.
 pub fn find_text<G: Shown>(
     alloc: Global,
     known: &KnownTiers<'_, G>,

@@ -47,7 +47,23 @@ pub enum Choice {
     /// The first of them, at most this many.
     First(usize),
     /// A random choice of this many, or all if there are fewer: the same for the same seed.
-    Random { number: usize, seed: u64 },
+    Random {
+        number: usize,
+        seed: u64,
+    },
     /// All of them in this order, and then the first, at most this many.
-    Sorted { order: Order, limit: usize },
+    Sorted {
+        order: Order,
+        limit: usize,
+    },
+    /// In this order, or in that of their indexes, each that is not met along best play from one taken before, nor one of those along best play from it, and of
+    /// those with one best move at most `per_move`: the first `limit` of them, or with a seed a random choice of `limit` from all of them. With a seed to
+    /// turn by, a symmetric position is drawn in place of each.
+    Apart {
+        order: Option<Order>,
+        per_move: usize,
+        limit: usize,
+        seed: Option<u64>,
+        turn: Option<u64>,
+    },
 }

@@ -9,5 +9,6 @@ pub mod Answers
 pub mod Located
 pub mod Boards
 pub mod Whys
+pub mod RepliesLines
 pub mod Asking
 pub mod inner

@@ -29,7 +29,7 @@ use gm_play::streams::without_return;
 use std::alloc::{AllocError, Global};
 
 /// Returns the answer to the line with this number: the answer for the position with this text, or with the tier and the index of a line `@TIER INDEX`; the answers
-/// to the texts that an object stands for, a line each; or the error that there is no such position, with the first 64 bytes of the line. A carriage return at
+/// to the texts that an object stands for, each on its own line; or the error that there is no such position, with the first 64 bytes of the line. A carriage return at
 /// the end of the line is no part of it. Parents are looked for in these tiers. `NotHeld` comes if the tier of a position has no table.
 pub fn ask_line<G: Shown>(
     alloc: Global,

@@ -17,5 +17,6 @@ mod object;
 mod object_answer;
 mod parts;
 mod place;
+pub mod replies;
 pub mod why;
 pub mod words;

@@ -129,7 +129,7 @@ fn push_text_answer<G: Shown>(
     }
 }
 
-// Appends the answers to some texts after that to a first one, a line each.
+// Appends the answers to some texts after that to a first one, each on its own line.
 fn push_more_answers<G: Shown>(
     alloc: Global,
     tables: &Closed<'_, G>,
@@ -192,7 +192,7 @@ fn no_question(
     Ok(out)
 }
 
-// Returns the answers to the texts that an object stands for, a line each.
+// Returns the answers to the texts that an object stands for, each on its own line.
 fn texts_answer<G: Shown>(
     alloc: Global,
     tables: &Closed<'_, G>,
@@ -231,7 +231,7 @@ fn texts_answer<G: Shown>(
     Ok(all)
 }
 
-/// Returns the answers to an object, a line each, without the last line's end.
+/// Returns the answers to an object, each on its own line, without the last line's end.
 pub(crate) fn object_answer<G: Shown>(
     alloc: Global,
     tables: &Closed<'_, G>,

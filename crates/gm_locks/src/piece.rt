@@ -1,5 +1,5 @@
 //! Deliveries of a level's pieces to one shard, each piece once: under the shard's lock a bit for each piece shows whether its pairs are delivered.
-ghost use Rattle.std.specs.Prelude.{◌≡◌, ℕ, ◌+◌, ◌-◌, ◌<◌, ◌≤◌, true, false, take, drop, length, slice_index, slice_index_or, IfOk, OnErr};
+ghost use Rattle.std.specs.Prelude.{◌≡◌, ℕ, ◌+◌, ◌-◌, ◌<◌, ◌≤◌, true, false, take, drop, length, slice_index, slice_index_or, IfOk, OnOk, OnErr};
 ghost use Rattle.std.specs.Int.{div_ceil};
 ghost use Rattle.gm_counters.specs.Good.{IsGood};
 ghost use Rattle.gm_frontier.specs.Levels.{IsLevel};
@@ -81,7 +81,7 @@ impl<G: Game, L: PieceLedger> Model for Pieced<G, L> {
 
 impl<G: Game, L: PieceLedger> Pieced<G, L> {
     /// Returns a shard at the level's place that has none of the level's pairs, and the share that has all parts of its ledger.
-    pub(crate) fn around(
+    pub fn around(
         alloc: Global,
         blank: Blank,
         shard: OrderedShard<G>,
@@ -130,7 +130,7 @@ impl<G: Game, L: PieceLedger> Pieced<G, L> {
     }
 
     /// Returns the index range of the shard: the first index, and the one past the last.
-    pub(crate) fn range(&self) -> (u64, u64)
+    pub fn range(&self) -> (u64, u64)
         ensures lo { result.0 ≡ L.spot.lo }
         ensures hi { result.1 ≡ L.spot.hi }
     {
@@ -138,7 +138,7 @@ impl<G: Game, L: PieceLedger> Pieced<G, L> {
     }
 
     /// Returns whether all pairs of a piece are delivered.
-    pub(crate) fn is_whole(&self, piece: usize) -> bool
+    pub fn is_whole(&self, piece: usize) -> bool
         requires { piece < div_ceil (length L.notes) L.size }
         ensures { result ≡ slice_index_or self.now.whole piece false }
     {
@@ -176,8 +176,26 @@ impl<G: Game, L: PieceLedger> Pieced<G, L> {
         Ok(())
     }
 
+    /// Delivers the missing pairs of a piece. A pair is refused only if it is too far. The share rises by the number of new pairs.
+    pub fn deliver_rest(
+        &mut self,
+        piece: usize,
+        pairs: &[(Note<G>, u64)],
+        share: &mut Share<L>,
+    ) -> Result<(), Refused>
+        requires piece { piece < div_ceil (length L.notes) L.size }
+        requires pairs { pairs.now ≡ piece_pairs G.rules L.spot L.notes L.size piece }
+        requires parts { 0 < share.old.parts }
+        ensures here { OnOk result (slice_index_or self.new.whole piece false ≡ true) }
+        ensures others { OnOk result ((p : ℕ) → slice_index_or self.old.whole p false ≡ true → slice_index_or self.new.whole p false ≡ true) }
+        ensures parts { share.new.parts ≡ share.old.parts }
+        ensures far { OnErr result (IsRefusedAt G.rules L.spot) }
+    {
+        self.deliver(piece, pairs, pairs.len(), share)
+    }
+
     /// Shows that a share of all parts has the amount of the book, and that the shard has as many pairs of the level.
-    pub(crate) fn audit(&mut self, share: &mut Share<L>)
+    pub fn audit(&mut self, share: &mut Share<L>)
         ensures same { (self.new ≡ self.old) × (share.new ≡ share.old) }
         ensures book { share.old.parts ≡ L.parts → self.old.book ≡ share.old.amount }
         ensures pairs { pairs_in self.old.shard ≡ L.base + self.old.book }
@@ -187,7 +205,7 @@ impl<G: Game, L: PieceLedger> Pieced<G, L> {
 
     /// Returns the shard when all pieces are delivered: it has every pair of the level into its range, as many as the amount of the whole share, and the pairs
     /// of earlier levels.
-    pub(crate) fn into_whole(self, share: Share<L>) -> OrderedShard<G>
+    pub fn into_whole(self, share: Share<L>) -> OrderedShard<G>
         requires whole { (p : ℕ) → p < div_ceil (length L.notes) L.size → slice_index_or self.whole p false ≡ true }
         requires parts { share.parts ≡ L.parts }
         ensures spot { spot_of result ≡ L.spot }

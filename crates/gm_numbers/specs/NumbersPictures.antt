@@ -1,7 +1,7 @@
 -- What Nim and Chomp look like: the four numbers of a position under the names of heaps or rows.
 use Rattle.std.specs.Prelude.{ℕ, ◌+◌, ◌/◌, ◌%◌, Bool, ◌==◌, List, [], ◌∷◌, map, codes, if◌then◌else◌}
 use Rattle.std.specs.List.{range_with_len}
-use Rattle.gm_draw.specs.declared.pictured.Style.TheVariants.{Crosses}
+use Rattle.gm_draw.specs.declared.pictured.Style.TheVariants.{Digits}
 use Rattle.gm_draw.specs.Pictures.{PictureSpec, player_moves}
 use Rattle.gm_draw.specs.GameSpecs.{GameSpec, game_spec}
 use Rattle.gm_numbers.specs.Nim.{nim_rules, nim_text, nim_move}
@@ -21,7 +21,7 @@ nim_title misere = if misere then codes "Nim, misere" else codes "Nim"
 unfoldable pub nim_picture : Bool → PictureSpec
 nim_picture misere = record {
   title = nim_title misere;
-  style = Crosses;
+  style = Digits;
   board = codes "heap      1   2   3   4\ncounters  A B C D E F G";
   rows = [];
   points = number_places;
@@ -35,7 +35,7 @@ nim_spec misere = game_spec (nim_rules misere) nim_text nim_move (nim_picture mi
 unfoldable pub chomp_picture : PictureSpec
 chomp_picture = record {
   title = codes "Chomp";
-  style = Crosses;
+  style = Digits;
   board = codes "row      1   2   3   4\nsquares  A B C D E F G";
   rows = [];
   points = number_places;

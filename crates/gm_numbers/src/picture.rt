@@ -34,7 +34,7 @@ impl<const MISERE: bool> PicturedNumbers for NimRules<MISERE> {
     fn picture() -> Picture {
         Picture {
             title: nim_title(MISERE),
-            style: Style::Crosses,
+            style: Style::Digits,
             board: b"heap      1   2   3   4\ncounters  A B C D E F G",
             rows: &[],
             points: number_places(),
@@ -58,7 +58,7 @@ impl PicturedMoves for ChompRules {
     fn picture() -> Picture {
         Picture {
             title: b"Chomp",
-            style: Style::Crosses,
+            style: Style::Digits,
             board: b"row      1   2   3   4\nsquares  A B C D E F G",
             rows: &[],
             points: number_places(),

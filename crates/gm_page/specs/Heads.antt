@@ -6,7 +6,7 @@ use Rattle.gm_json.specs.Words.{text}
 use Rattle.gm_draw.specs.Pictures.{PictureSpec}
 use Rattle.std.specs.List.{before_first}
 use Rattle.gm_draw.specs.declared.pictured.Style.{Style}
-use Rattle.gm_draw.specs.declared.pictured.Style.TheVariants.{Row, Crosses, Counters, Stones, Discs, Letters, Chess, Hounds}
+use Rattle.gm_draw.specs.declared.pictured.Style.TheVariants.{Row, Crosses, Counters, Stones, Discs, Letters, Chess, Hounds, Digits}
 
 -- the bytes of a position's text that are men; on a board of chess the last is that of the second side, and the others are of the first
 abbrev pub men_of : Style → List ℕ
@@ -18,6 +18,7 @@ men_of Discs = codes "xo"
 men_of Letters = codes "dh"
 men_of Chess = codes "KQRBNPk"
 men_of Hounds = codes "fh"
+men_of Digits = []
 
 -- the name of the side that begins, and that of the other side
 abbrev pub first_side : Style → List ℕ
@@ -29,6 +30,7 @@ first_side Discs = codes "Black"
 first_side Letters = codes "Hounds"
 first_side Chess = codes "White"
 first_side Hounds = codes "Fox"
+first_side Digits = codes "First"
 
 abbrev pub second_side : Style → List ℕ
 second_side Row = codes "Second"
@@ -39,6 +41,7 @@ second_side Discs = codes "White"
 second_side Letters = codes "Hare"
 second_side Chess = codes "Black"
 second_side Hounds = codes "Hounds"
+second_side Digits = codes "Second"
 
 -- whether the first kind of men always belongs to the side to move, so that the sides swap after each move
 abbrev pub swaps : Style → Bool
@@ -50,6 +53,7 @@ swaps Discs = true
 swaps Letters = false
 swaps Chess = false
 swaps Hounds = false
+swaps Digits = false
 
 abbrev pub sides_tree : Style → Data
 sides_tree style = array (items_of (string (first_side style) ∷ string (second_side style) ∷ []))

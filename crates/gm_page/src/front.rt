@@ -313,7 +313,8 @@ ends so after that many moves, of both sides together. A draw never ends. On the
 is in the words that a mouse over it, or a screen reader, finds; the hardest move is named below the others.</dd>
 <dt>To play</dt>
 <dd>Choose a move in the list. Or on the board: a cell; a piece and its target; the two ends of what is taken (for one
-counter, twice the same). With a mouse dragging does as well.<span class="tables"> A move with an arrow leads out of this page; larger pages are made with
+counter, twice the same); any cell of a column into which a man is dropped; in a heap the first counter of those that are taken, up to the last. With a mouse
+dragging does as well.<span class="tables"> A move with an arrow leads out of this page; larger pages are made with
 <code>--limit</code>.</span> Some games turn the board for the second player; here it stays as the first player sees it.</dd>
 <dt class="solver">Against the solver</dt>
 <dd class="solver">Choose your side: the solver makes the moves of the other one, and values are hidden. It plays perfectly, or errs in one of 8, 4 or 2 moves; the
@@ -325,7 +326,8 @@ counts the moves of both sides. Tries are moves that do not solve it, and with w
 when the game is won.</dd>
 <dt class="solver">Editing</dt>
 <dd class="solver">Edit the board, and a press on a point puts the next piece there, or the one that you choose below the board; a drag takes a piece to another point.
-Other side to move leaves the pieces as they are. The position's worth is shown as soon as it is one of the game, and else, if the page can tell, why it is none.
+In a heap or a bar it takes what is there and to the right, or fills the row up to there. Other side to move leaves the pieces as they are. The position's
+worth is shown as soon as it is one of the game, and else, if the page can tell, why it is none.
 Done takes it.</dd>
 <dt>Any position</dt>
 <dd>Type or paste its text; spaces and line breaks don't matter, and endings of chess may be in Forsyth's notation (FEN). <span class="solver">Or choose a worth

@@ -102,7 +102,7 @@ fn men(style: Style) -> &'static str
     ensures { result.now ≡ men_of style }
 {
     match style {
-        Style::Row => "",
+        Style::Row | Style::Digits => "",
         Style::Counters => "x",
         Style::Crosses | Style::Stones | Style::Discs => "xo",
         Style::Letters => "dh",
@@ -117,7 +117,7 @@ fn sides(style: Style) -> (&'static str, &'static str)
     ensures second { result.1.now ≡ second_side style }
 {
     match style {
-        Style::Row | Style::Counters => ("First", "Second"),
+        Style::Row | Style::Counters | Style::Digits => ("First", "Second"),
         Style::Crosses => ("X", "O"),
         Style::Stones | Style::Discs => ("Black", "White"),
         Style::Letters => ("Hounds", "Hare"),
@@ -132,6 +132,11 @@ fn swaps(style: Style) -> bool
 {
     match style {
         Style::Crosses | Style::Stones | Style::Discs => true,
-        Style::Row | Style::Counters | Style::Letters | Style::Chess | Style::Hounds => false,
+        Style::Row
+        | Style::Counters
+        | Style::Letters
+        | Style::Chess
+        | Style::Hounds
+        | Style::Digits => false,
     }
 }

@@ -7,6 +7,7 @@ pub const CHOOSING: &[u8] = br##"
 function meantBy(of, typed) {
   const text = typed.trim(), packed = text.replace(/\s+/g, "");
   if (squared(of)) return [text, ...fromForsyth(of, text), ...inOrder(of, text)];
+  if (heapsOf(of)) return [text, [...text.replace(/\D/g, "")].join(" ")];
   if (sided(of)) return [text, packed.slice(0, -1) + of.start.at(-2) + packed.slice(-1)];
   return [text, packed, packed.toLowerCase()];
 }
@@ -36,6 +37,9 @@ function whyNoText(of, typed) {
   if (!text) return "Type a position, as " + of.start + ".";
   if (numbered(of)) return `The positions are the numbers ${of.points[0]} to ${of.points.at(-1)}.`;
   if (squared(of)) return whyNoSquares(of, text);
+  if (heapsOf(of)) {
+    return `A position is ${heapsOf(of).length} numbers, at most ${heapsOf(of).join(", ")}${BARS[of.game] ? ", and none is greater than the one before" : ""}.`;
+  }
   const strange = [...packed.toLowerCase()].find(byte => byte !== "." && !of.men.includes(byte));
   if (strange) return `'${strange}' is no man of this game: men are ${[...of.men].join(" and ")}, and an empty point is a dot.`;
   if (packed.length !== long) return `It has ${packed.length} characters, not ${long}: one for each point${sided(of) ? ", and the side to move" : ""}.`;
@@ -56,7 +60,9 @@ function whyNoPosition(of, men, who) {
   const counts = [...of.men].map((_, kind) => men.filter(it => it === kind).length);
   if (squared(of) && of.men !== "fh") return whyNoChess(of, men, who, counts) || NOWHY;
   const row = fullRows(of, men).find(row => of.men.length > 1 && men[row[0]] === who);
-  return whyNoCounts(of, who, counts) || (row ? `${of.sides[who]} has a full row, so the game was over before.` : NOWHY);
+  const hangs = DROPS[of.game] && men.some((kind, k) => kind < 0 && men[k - wideOf(of)] >= 0);
+  return whyNoCounts(of, who, counts) || (hangs ? "A man is above an empty place."
+    : row ? `${of.sides[who]} has a full row, so the game was over before.` : NOWHY);
 }
 function whyNoCounts(of, who, counts) {
   const [mine, theirs] = of.sides, first = [...of.men].map((_, kind) => menOf(of, of.start, firstOf(of, of.start)).filter(it => it === kind).length);
@@ -180,6 +186,9 @@ function layGames() {
     const tiles = games.filter(of => FAMILIES[of.game] === kind).map(tile);
     if (tiles.length) $("games").append(html("h2", {}, kind || "Other games"), html("ul", {}, ...tiles));
   }
+  const larger = Object.keys(LEGAL).filter(name => !games.some(of => of.game === name)), command = html("code", {}, "gamesman page GAME --folder TABLES");
+  if (!single) $("games").append(html("h2", {}, "Larger games"), html("p", {}, "The program solves them, and writes a page of each: ", command, ". GAME is ",
+    larger.slice(0, -1).join(", "), " or ", larger.at(-1), ", and TABLES a folder that keeps its tables."));
 }
 layGames();
 // Solves a game, and shows how far that is: how many canonical positions have each record.

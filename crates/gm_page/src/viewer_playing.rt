@@ -54,11 +54,19 @@ function layPalette() {
 // A press on a place: the kind that is chosen, or none if it is there already; else the next kind in turn.
 function change(k) {
   if (board.inRow) editor.text = game.points[k];
+  else if (heapsOf(game)) cut(k);
   else {
     const all = [-1, ...kinds()], now = editor.men[k], { brush } = editor;
     put(k, brush === null ? all[(all.indexOf(now) + 1) % all.length] : now === brush ? -1 : brush);
   }
   return become();
+}
+// A press on a counter or a square takes it with those after it, and one on an empty place fills the row up to there. No row of a bar becomes longer than the
+// one above it.
+function cut(k) {
+  const [row, column] = cellsOf(game)[k], long = editor.men[k] < 0 ? column + 1 : column, bar = BARS[game.game];
+  const isLeft = (has, [at, place]) => at === row ? place < long : !bar ? has : at < row ? has || place < long : has && place < long;
+  editor.men = cellsOf(game).map((cell, j) => isLeft(editor.men[j] === 0, cell) ? 0 : -1);
 }
 // Puts a man down. On a board of chess only hounds are several.
 function put(k, kind) {
@@ -68,7 +76,7 @@ function put(k, kind) {
 // A drag takes a man to another place.
 function carry(from, to) {
   const kind = editor.men[from];
-  if (board.inRow || kind < 0) return;
+  if (board.inRow || heapsOf(game) || kind < 0) return;
   editor.men[from] = -1;
   put(to, kind);
   become();

@@ -1,4 +1,4 @@
-//! Tiers: the boards on which one side has so many pieces and the other so many; their steps and child tiers.
+//! Tiers: the boards on which one side has one number of pieces and the other another; their steps and child tiers.
 ghost use Rattle.std.specs.Prelude.{◌≡◌, ◌+◌, ◌-◌, ◌^◌, ◌<◌, ◌≤◌, length, replicate};
 ghost use Rattle.gm_board.specs.declared.cell.Cell.{Cell as BoardCell};
 ghost use Rattle.gm_board.specs.Images.{board_of};
@@ -15,7 +15,7 @@ use gm_game::limits::{CHILD_TIERS, PARENTS};
 use gm_pieces::ascending::put;
 use gm_pieces::board::Board;
 
-/// Returns the number of the tier of the boards on which one side has so many pieces and the other so many.
+/// Returns the number of the tier of the boards on which one side has one number of pieces and the other another.
 #[inline(always)]
 pub fn tier_of<const CELLS: u32, T: PatternRules<CELLS>>(mine: u64, theirs: u64) -> u64
     requires mine { mine < 2 ^ 32 }

@@ -19,4 +19,5 @@ pub mod Existing
 pub mod Reaching
 pub mod Held
 pub mod Small
+pub mod RepliesRows
 pub mod Lower

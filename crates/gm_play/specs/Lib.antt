@@ -8,6 +8,7 @@ pub mod Sessions
 pub mod Courses
 pub mod LastLines
 pub mod Why
+pub mod Replies
 pub mod PlaceTexts
 pub mod Refusals
 pub mod BestMoves

@@ -16,6 +16,7 @@ pub mod move_values;
 pub mod place_texts;
 pub mod places;
 pub mod play_line;
+pub mod replies;
 pub mod session;
 pub mod session_error;
 pub mod sides;

@@ -11,8 +11,8 @@ use crate::workplace::Workplace;
 use gm_backward::context::SolveContext;
 use gm_backward::error::SolveError;
 use gm_backward::gate::Gate;
-use gm_backward::level_job::{LevelEnd, LevelJob};
-use gm_backward::levels::{fresh, next_level, table_of};
+use gm_backward::level_job::LevelJob;
+use gm_backward::levels::{end_of_phase, fresh, next_level, table_of};
 use gm_backward::report::Report;
 use gm_backward::source::Source;
 use gm_backward::tiles::{Tiles, close_all};
@@ -99,6 +99,9 @@ fn run_workers<
         workplaces.work(rt, 0);
     });
 }
+
+// The shards at the end of a level, after the workers and the coordinator, and the number of pairs that the workers delivered.
+type LevelEnd<G> = Result<(Four<OrderedShard<G>>, u64), SolveError>;
 
 // Runs a level at desks with these ledgers' names.
 fn run_at_desks<
@@ -221,8 +224,8 @@ fn finish_levels<G: Game + Send + Sync, R: Threads + Wait + Sync, T: Gate, S: So
     let mut by_workers = 0u64;
     loop {
         let runs = fresh(context.alloc, &tiles)?;
-        let (level, last) = next_level(context.alloc, tables, &tiles, &runs)?;
-        if let Some(last) = last {
+        let level = next_level(context.alloc, tables, &tiles, &runs)?;
+        if let Some(last) = end_of_phase(tables, &tiles, &level) {
             return Ok((tiles, last, by_workers));
         }
         let (next, more) = run_level(context, tiles, &level)?;

@@ -1,4 +1,4 @@
-//! Boards of king and pawn against king: White's man beside its king, and where the pawn and the black king beside it can go.
+//! Boards of king and pawn against king: White's man that is not its king, and the squares to which the pawn and the black king next to it can go.
 ghost use Rattle.std.specs.Prelude.{◌≡◌, ◌<◌, ◌≤◌, true};
 ghost use Rattle.gm_squares.specs.Kpk.{pawn_attacks as pawn_attacks_of, is_free as is_free_of, pawn_can as pawn_can_of, pawn_promotes as pawn_promotes_of, foe_can_beside_pawn as foe_can_of, can_move_with_pawn as can_move_of, tier_with, man_at_tier as man_at_tier_of, legal as legal_of, are_placed as are_placed_of};
 ghost use Rattle.gm_squares.specs.laws.PawnFacts.{is_pawn_near as is_pawn_near_of};
@@ -6,7 +6,7 @@ ghost use Rattle.gm_squares.specs.laws.PawnFacts.{is_pawn_near as is_pawn_near_o
 use crate::attacks::{TAKEN, king_attacks};
 use crate::men::{Men, is_legal, king_can};
 
-/// White's man beside its king.
+/// White's man that is not its king.
 #[derive(Clone, Copy, Debug, PartialEq, Eq)]
 pub enum WhiteMan {
     /// It has been taken.
@@ -18,14 +18,14 @@ pub enum WhiteMan {
     Pawn,
 }
 
-/// The board: which man White has beside its king, and the squares of the men.
+/// The board: which man White has besides its king, and the squares of the men.
 #[derive(Clone, Copy, Debug, PartialEq, Eq)]
 pub struct PawnBoard {
     pub kind: WhiteMan,
     pub men: Men,
 }
 
-// Tests whether a square is in the next row up and in a file beside another's.
+// Tests whether a square is in the next row up and in a file next to another's.
 fn is_pawn_near(from: u32, to: u32) -> bool
     requires from { from < 64 }
     requires to { to < 64 }
@@ -99,7 +99,7 @@ fn foe_can(b: Men, from: u32, to: u32) -> bool
         && (king_attacks(from, to) && (!king_attacks(b.king, to) && !pawn_attacks(b.piece, to)))
 }
 
-/// Tests whether the move with this number could be made beside a pawn.
+/// Tests whether the move with this number could be made next to a pawn.
 #[tactic(auto, unfolding(crate::specs::Kpk::can_move_with_pawn, crate::specs::Chess::man, crate::specs::Chess::from_square, crate::specs::Chess::to_square))]
 pub fn can_move(b: Men, number: u32) -> bool
     requires king { b.king < 64 }

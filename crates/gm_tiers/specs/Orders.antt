@@ -20,10 +20,6 @@ pub record IsOrderFrom (r : Rules) (first : ℕ) (tiers : List ℕ) : Type 0 whe
 abbrev pub IsTierOrder : Rules → List ℕ → Type 0
 IsTierOrder r tiers = IsOrderFrom r r.initial.tier tiers
 
--- the order of the tiers that some tier reaches
-abbrev pub IsSomeOrder : Rules → List ℕ → Type 0
-IsSomeOrder r tiers = (first : ℕ) × IsOrderFrom r first tiers
-
 -- the child tiers of each tier come before it
 abbrev pub ComeChildrenFirst : Rules → List ℕ → Type 0
 ComeChildrenFirst r tiers = (k t child : ℕ) → slice_get tiers k ≡ Some t → Contains (r.child_tiers t) child → Contains (take k tiers) child

@@ -1,7 +1,7 @@
 //! The order of tiers.
 ghost use Rattle.std.specs.Prelude.{◌≡◌, ℕ, List, map, Ok, IfOk, OnOk, OnErr, IsErrOf, IsPermutation};
 ghost use Rattle.std.specs.List.{AllPairs};
-ghost use Rattle.gm_tiers.specs.Orders.{IsTierBefore, IsTierOrder, IsOrderFrom, IsSomeOrder, ComeChildrenFirst};
+ghost use Rattle.gm_tiers.specs.Orders.{IsTierBefore, IsTierOrder, IsOrderFrom, ComeChildrenFirst};
 ghost use Rattle.gm_tiers.specs.Reach.{IsReached, IsReachedFrom};
 ghost use Rattle.gm_tiers.specs.Search.{search_of, EndsWith};
 ghost use Rattle.gm_tiers.specs.declared.tier_error.TierError.{TierError};
@@ -13,34 +13,31 @@ use gm_game::game::Game;
 use gm_game::limits::TIERS;
 use indexmap::IndexSet;
 use std::alloc::{AllocError, Global};
-use std::marker::{Model, PhantomData};
+use std::marker::Model;
 
 /// All tiers that a game reaches from one of its tiers, each once and child tiers first. Contracts see their list.
 #[derive(Drop)]
-pub struct TierOrder<G: Game> {
+pub struct TierOrder {
     tiers: Vec<u64>,
-    game: PhantomData<G>,
 }
 
-impl<G: Game> Model for TierOrder<G> {
+impl Model for TierOrder {
     ghost use Rattle.std.specs.Prelude.{ℕ, List};
-    ghost use Rattle.gm_tiers.specs.Orders.{IsSomeOrder};
 
     ghost Value = { List ℕ };
 
     ghost view = { λ o. o.tiers.items };
-
-    ghost invariant = { λ o. IsSomeOrder G.rules o.tiers.items };
 }
 
-impl<G: Game> TierOrder<G> {
+impl TierOrder {
     /// Returns all tiers reached from the initial one by `child_tiers`, by ascending rank and then by number. At most 1,024 tiers are allowed, each of at most
     /// 16,777,216 positions.
     ///
     /// The search comes to the initial tier, and then to the child tiers of each tier in the order in which it was found. For each new tier its size is tested
     /// first, and then the number of tiers; the first test that fails determines the error. So the game determines the answer, unless memory runs out.
-    pub fn from_initial(alloc: Global) -> Result<Self, TierError>
+    pub fn from_initial<G: Game>(alloc: Global) -> Result<Self, TierError>
         ensures order { IfOk result (IsTierOrder G.rules) }
+        ensures children_first { IfOk result (ComeChildrenFirst G.rules) }
         ensures answer { IfOk result (λ o. (found : List ℕ) × (search_of G.rules G.rules.initial.tier ≡ Ok found) × IsPermutation found o) }
         ensures refusal { (e : TierError) → IsErrOf result e → EndsWith (search_of G.rules G.rules.initial.tier) e }
         ensures too_many { IsErrOf result TierError.TooManyTiers → HasTooMany G.rules G.rules.initial.tier }
@@ -48,13 +45,14 @@ impl<G: Game> TierOrder<G> {
         ensures too_large { (tier : ℕ) → IsErrOf result (TierError.TierTooLarge tier) → IsTooLarge G.rules G.rules.initial.tier tier }
         ensures reached { (tier : ℕ) → IsErrOf result (TierError.TierTooLarge tier) → IsReached G.rules tier }
     {
-        TierOrder::from_tier(alloc, G::initial().tier)
+        TierOrder::from_tier::<G>(alloc, G::initial().tier)
     }
 
     /// Returns all tiers reached from this one, itself included, in the order and with the limits of `from_initial`: the tiers on which the values of this tier
     /// rest. The tier need not be one that the game reaches.
-    pub fn from_tier(alloc: Global, first: u64) -> Result<Self, TierError>
+    pub fn from_tier<G: Game>(alloc: Global, first: u64) -> Result<Self, TierError>
         ensures order { IfOk result (IsOrderFrom G.rules first) }
+        ensures children_first { IfOk result (ComeChildrenFirst G.rules) }
         ensures answer { IfOk result (λ o. (found : List ℕ) × (search_of G.rules first ≡ Ok found) × IsPermutation found o) }
         ensures refusal { (e : TierError) → IsErrOf result e → EndsWith (search_of G.rules first) e }
         ensures too_many { IsErrOf result TierError.TooManyTiers → HasTooMany G.rules first }
@@ -64,19 +62,14 @@ impl<G: Game> TierOrder<G> {
     {
         let found = search::<G>(alloc, first)?;
         match put_in_order::<G>(alloc, &found) {
-            Ok(tiers) => Ok(TierOrder {
-                tiers,
-                game: PhantomData,
-            }),
+            Ok(tiers) => Ok(TierOrder { tiers }),
             Err(_) => Err(TierError::OutOfMemory),
         }
     }
 
-    /// Returns the tiers. No tier comes before one of its child tiers.
+    /// Returns the tiers.
     pub fn tiers(&self) -> &[u64]
         ensures value { result.now ≡ self.now }
-        ensures order { IsSomeOrder G.rules self.now }
-        ensures children_first { ComeChildrenFirst G.rules self.now }
     {
         self.tiers.as_slice()
     }

@@ -1,7 +1,8 @@
 // The engine, for a worker of a page or for node: the module's exports, with what they are given and what they write in its memory. The records of each game
 // that was solved stay there: web_ask and web_solve require what web_solve has written, so nothing else writes to them.
 const NAMES = ["countdown", "wheel", "tactix-1", "tactix-2", "tactix-3", "tactix-4", "tactix-1-misere", "tactix-2-misere", "tactix-3-misere", "tactix-4-misere",
-  "tictactoe", "threemens", "achi", "mutorere", "dao", "hare", "ponghauki", "shisima", "takeaway", "tapatan", "dodgem", "krk", "kqk"];
+  "tictactoe", "threemens", "achi", "mutorere", "dao", "hare", "ponghauki", "shisima", "takeaway", "tapatan", "dodgem", "krk", "kqk", "tictactoe-misere",
+  "notakto", "hex-3", "hexapawn", "nineholes", "picaria", "toads", "domineering-4", "cram-4", "kayles", "kpk", "connect4-4x4", "nim", "nim-misere", "chomp"];
 const REFUSED = 0xffffffffffffff00n;
 const REASONS = [
   "no such game", "out of memory", "wrong order of tiers", "wrong records", "too far from the end", "no room", "no such position",

@@ -77,14 +77,20 @@ async function find(text) {
   }
   return numbers.get(text);
 }
-// The moves of a row in which `who` is to move: each with its name, the name that is shown, its worth, the row of its result, and the places of its ends.
-function movesOf(row, who) {
-  return rows[row].moves.map(m => {
-    const named = m.name.split("-").map(end => squared(game) ? end.slice(-2) : end);
-    const ends = game.men ? named : m.to === null ? [] : [rows[m.to][0]];
-    return { ...m, shown: shownMove(game, who, m.name), ends: ends.map(end => turned(game, who, game.points.indexOf(end))) };
-  });
+// The places of a move's ends. In heaps and bars that is the first counter or square of those that are taken, and in a column the place to which a man falls.
+function endsOf(row, who, m) {
+  const [text] = rows[row], result = m.to === null ? null : rows[m.to][0];
+  if (!game.men && result === null) return [];
+  if (heapsOf(game)) {
+    const heap = heapsOf(game).findIndex((_, k) => text[2 * k] !== result[2 * k]);
+    return [cellsOf(game).findIndex(([row, column]) => row === heap && column === Number(result[2 * heap]))];
+  }
+  if (DROPS[game.game]) return [landingOf(game, text, game.points.indexOf(m.name))];
+  const named = game.men ? m.name.split("-").map(end => squared(game) ? end.slice(-2) : end) : [result];
+  return named.map(end => turned(game, who, game.points.indexOf(end)));
 }
+// The moves of a row in which `who` is to move: each with its name, the name that is shown, its worth, the row of its result, and the places of its ends.
+const movesOf = (row, who) => rows[row].moves.map(m => ({ ...m, shown: shownMove(game, who, m.name), ends: endsOf(row, who, m) }));
 
 // The line of play: its positions, each with the move that led to it. `at` is the one that is shown, `moves` what can be played there, `picked` the place that
 // was pressed first, and `hidden` whether values are hidden. `starter` is the side to move at its first position.

@@ -3,7 +3,7 @@
 const UNIT = 20;
 function boardOf(of, small = false) {
   const places = [], net = svg("g"), under = svg("g");
-  const inRow = !/[A-Z]/.test(of.board), crossed = of.board.includes("+"), netted = !crossed && of.board.includes("-");
+  const inRow = numbered(of), crossed = of.board.includes("+"), netted = !crossed && of.board.includes("-");
   const width = crossed || netted ? 4 * UNIT : 2 * UNIT, radius = width * .34;
   const label = (x, y, text) => under.append(svg("text", { class: "name", x, y }, text));
   // All strokes are one path, so that none is painted twice.
@@ -12,7 +12,10 @@ function boardOf(of, small = false) {
   const strokes = { "-": [[1, 0]], "|": [[0, 2]], "/": [[2, -2]], "\\": [[2, 2]], "+": [[1, 0], [0, 2]] };
   const half = Math.ceil(of.points.length / 2);
   if (inRow) for (const k of of.points.keys()) places.push({ x: 2 * UNIT * (k % half), y: 4 * UNIT * Math.floor(k / half) });
-  else of.board.split("\n").forEach((text, row) => [...text].forEach((byte, column) => {
+  else if (heapsOf(of)) {
+    places.push(...cellsOf(of).map(([row, column]) => ({ x: 2 * UNIT * column, y: 2 * UNIT * row })));
+    heapsOf(of).forEach((_, row) => label(-width / 2 - 15, 2 * UNIT * row, row + 1));
+  } else of.board.split("\n").forEach((text, row) => [...text].forEach((byte, column) => {
     const x = UNIT * column, y = 2 * UNIT * row;
     if (/[A-Z]/.test(byte)) places[squared(of) ? places.length : byte.charCodeAt(0) - 65] = { x, y };
     else if (strokes[byte]) for (const [dx, dy] of strokes[byte]) stroke(x, y, dx, dy);
@@ -42,6 +45,7 @@ function man({ of, crossed }, who, x, y, r, letter = of.men.at(-who)) {
   if (crossed && who) return [svg("circle", { class: "stroke", cx: x, cy: y, r })];
   if (crossed) return [svg("path", { class: "stroke", d: `M${x - r} ${y - r}l${2 * r} ${2 * r}M${x - r} ${y + r}l${2 * r} ${-2 * r}` })];
   const disc = colour => svg("circle", { class: "man " + colour, cx: x, cy: y, r });
+  if (BARS[of.game]) return [svg("rect", { class: "man plain", x: x - r, y: y - r, width: 2 * r, height: 2 * r, rx: 3 })];
   if (of.men.length < 2) return [disc("plain")];
   if (!of.swap) return [disc(who ? "black" : "white"), svg("text", { class: "letter", x, y, "font-size": r }, letter)];
   return who ? [disc("white"), svg("circle", { class: "ring", cx: x, cy: y, r: r * .55 })] : [disc("black")];
@@ -99,9 +103,10 @@ addEventListener("pointerup", () => { dragged = null; });
 // The kind of the man that is shown on the place k, and the name of the point that is the position, if points are numbers.
 const kindAt = k => editor ? editor.men[k] : kindIn(game, textAt(at), side(at), k);
 const hereNow = () => editor ? editor.text : textAt(at);
-// The moves that a press on the place k is about.
+// The moves that a press on the place k is about. Where men are dropped, any place of a column is.
 function movesAt(k) {
   if (editor) return [];
+  if (DROPS[game.game]) return moves.filter(m => m.ends[0] === landingOf(game, textAt(at), k));
   return moves.filter(m => m.ends.includes(k) && (picked === null || (k === picked ? m.ends.length === 1 : m.ends.includes(picked))));
 }
 // The name of a place, with its man and the worth of a press on it.
@@ -116,7 +121,7 @@ function drawPlace({ x, y, g }, k) {
   if (inRow && game.points[k] === hereNow()) g.append(svg("rect", { class: "here", x: x - 15, y: y - 15, width: 30, height: 30, rx: 6 }));
   g.append(svg("rect", { class: "hit", x: x - half, y: y - half, width: 2 * half, height: inRow ? 4 * half : 2 * half, rx: 6 }));
   const size = crossed || netted ? 17 : inRow ? 14 : 12;
-  if (about.length && !hidden) g.append(badge(about[0].worth, x, inRow ? y + width : kind < 0 ? y : y + radius, size));
+  if (about[0]?.ends.includes(k) && !hidden) g.append(badge(about[0].worth, x, inRow ? y + width : kind < 0 ? y : y + radius, size));
   g.setAttribute("class", (live ? "live" : "") + (k === picked ? " picked" : ""));
   g.setAttribute("tabindex", k === cursor ? 0 : -1);
   g.setAttribute("role", "button");

@@ -87,6 +87,9 @@ function layGames() {
     const tiles = games.filter(of => FAMILIES[of.game] === kind).map(tile);
     if (tiles.length) $("games").append(html("h2", {}, kind || "Other games"), html("ul", {}, ...tiles));
   }
+  const larger = Object.keys(LEGAL).filter(name => !games.some(of => of.game === name)), command = html("code", {}, "gamesman page GAME --folder TABLES");
+  if (!single) $("games").append(html("h2", {}, "Larger games"), html("p", {}, "The program solves them, and writes a page of each: ", command, ". GAME is ",
+    larger.slice(0, -1).join(", "), " or ", larger.at(-1), ", and TABLES a folder that keeps its tables."));
 }
 layGames();
 // Solves a game, and shows how far that is: how many canonical positions have each record.

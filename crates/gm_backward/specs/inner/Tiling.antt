@@ -4,7 +4,7 @@ use Rattle.gm_game.specs.declared.position.Phase.TheVariants.{Ties, WinLose}
 use Rattle.gm_game.specs.declared.position.Solved.{Solved}
 use Rattle.gm_game.specs.declared.position.Place.{Place}
 use Rattle.gm_game.specs.Rules.{Rules}
-use Rattle.gm_frontier.specs.Levels.{place_at, RunData}
+use Rattle.gm_frontier.specs.Levels.{place_at}
 use Rattle.gm_counters.specs.State.{ShardState}
 use Rattle.gm_counters.specs.Steps.{place_of, IsWhole}
 use Rattle.gm_table.specs.Solving.{ArePart}
@@ -42,12 +42,6 @@ pub record IsTile (r : Rules) (tier : ℕ) (cuts : Cuts) (k : ℕ) (shard : Shar
 pub record AreTwo (r : Rules) (tier : ℕ) (cuts : Cuts) (k : ℕ) (low high : ShardState) : Type 0 where
   pub low_is : IsTile r tier cuts k low
   pub high_is : IsTile r tier cuts (k + 1) high
-
--- the run has the place and the range of the shard
-pub record IsFreshRun (s : ShardState) (run : RunData) : Type 0 where
-  pub place : run.place ≡ place_of s
-  pub lo : run.lo ≡ s.lo
-  pub hi : run.hi ≡ s.lo + length s.delivered
 
 -- the next level of the same phase
 abbrev pub next_place : Place → Place

@@ -1,10 +1,11 @@
 -- What was done with a tier, and the work that this makes.
-use Rattle.std.specs.Prelude.{ℕ, ◌+◌, ◌^◌, ◌<◌, ◌≤◌, IfSome}
+use Rattle.std.specs.Prelude.{ℕ, ◌+◌, ◌^◌, ◌<◌, ◌≤◌}
 use Rattle.gm_game.specs.Rules.{Rules}
 use Rattle.gm_tierdb.specs.StoreTexts.{Texts}
 use Rattle.gm_table.specs.Solving.{AreDeliveries}
 use Rattle.gm_build.specs.TrueTexts.{HasText, HasOldText}
 use Rattle.gm_build.specs.declared.ahead.Ahead.{Ahead}
+use Rattle.gm_build.specs.declared.ahead.Ahead.TheVariants.{Nothing, Read, Done}
 use Rattle.gm_build.specs.declared.tier.TierOutcome.{TierOutcome}
 use Rattle.gm_build.specs.declared.tier.TierOutcome.TheVariants.{Reused, Migrated, Solved}
 use Rattle.gm_build.specs.declared.work.Work.{Work}
@@ -27,7 +28,9 @@ IsStepWork r tier (Solved report) = AreDeliveries r tier report.deliveries × (r
 
 -- what was done for a tier before its turn: the work of the table, if there is one
 abbrev pub IsAhead : {G : Type 0} → Rules → Ahead G → Type 0
-IsAhead r ahead = IfSome ahead.solved (λ s. IsStepWork r s.0.tier (Solved s.1))
+IsAhead r Nothing = Unit {0}
+IsAhead r Read = Unit {0}
+IsAhead r (Done table report) = IsStepWork r table.tier (Solved report)
 
 -- these numbers of tiers that were solved, reused and migrated, of deliveries, and of those by hand
 abbrev pub work_of : ℕ → ℕ → ℕ → ℕ → ℕ → Work

@@ -18,7 +18,7 @@ use gm_frontier::pairs::Pairs;
 use gm_game::game::Game;
 use gm_game::limits::TIER_SIZE;
 use gm_locks::four::Four;
-use gm_locks::piece::PieceLedger;
+use gm_locks::piece::{PieceLedger, Pieced};
 use gm_locks::pieces::PieceBoard;
 use gm_locks::shares::Shares;
 use gm_solver::gate::NoGate;
@@ -156,15 +156,38 @@ fn named<
     expect(rt, level.pieces(size) > 0);
     let (lo, hi) = shards.a.range();
     let pairs = must(rt, list_of(alloc, level.pairs(0, size, lo, hi)));
-    let (board, mut shares) = must(
+    let (one, a) = must(
         rt,
-        PieceBoard::<G, A, B, C, D>::around(alloc, 1, blanks, shards, level, size),
+        Pieced::<G, A>::around(alloc, blanks.a, shards.a, level, size),
     );
+    let (two, b) = must(
+        rt,
+        Pieced::<G, B>::around(alloc, blanks.b, shards.b, level, size),
+    );
+    let (three, c) = must(
+        rt,
+        Pieced::<G, C>::around(alloc, blanks.c, shards.c, level, size),
+    );
+    let (four, d) = must(
+        rt,
+        Pieced::<G, D>::around(alloc, blanks.d, shards.d, level, size),
+    );
+    let mut shares = Shares {
+        parts: 1,
+        a,
+        b,
+        c,
+        d,
+    };
+    let one = Mutex::new(one);
+    let two = Mutex::new(two);
+    let three = Mutex::new(three);
+    let four = Mutex::new(four);
+    let board = PieceBoard::of(&one, &two, &three, &four);
     let found = run_both(rt, &board, &mut shares, pairs.as_slice());
     expect_eq(rt, found, ((Some(counter), true), true));
     expect_eq(rt, (shares.amount(0), shares.amount(1)), (new, 0));
     drop(shares);
-    drop(board);
     drop(pairs);
 }
 
@@ -206,7 +229,7 @@ fn at_first_level<G: Shared, R: Runtime>(rt: &R, counter: u32, new: u64) {
     };
     let tiles = must(rt, context.begin::<G>(0));
     let runs = must(rt, fresh(alloc, &tiles));
-    let Ok((level, _last)) = next_level(alloc, &tables, &tiles, &runs) else {
+    let Ok(level) = next_level(alloc, &tables, &tiles, &runs) else {
         panic!(rt; "a call failed");
     };
     let (shards, cuts) = tiles.into_parts();

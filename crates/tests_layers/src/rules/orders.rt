@@ -12,7 +12,7 @@ use std::alloc::Global;
 use std::process::Abort;
 
 // Checks that an order has the tiers from 0 to this one.
-fn check_order<G: Game>(rt: &impl Abort, order: Result<TierOrder<G>, TierError>, last: u64) {
+fn check_order(rt: &impl Abort, order: Result<TierOrder, TierError>, last: u64) {
     let order = must(rt, order);
     for (number, tier) in (0..).zip(order.tiers()) {
         expect_eq(rt, *tier, number);
@@ -22,7 +22,7 @@ fn check_order<G: Game>(rt: &impl Abort, order: Result<TierOrder<G>, TierError>,
 
 // Checks the order of a game's tiers.
 fn check_start<G: Game>(rt: &impl Abort, alloc: Global, last: u64) {
-    check_order(rt, TierOrder::<G>::from_initial(alloc), last);
+    check_order(rt, TierOrder::from_initial::<G>(alloc), last);
 }
 
 #[test]
@@ -37,16 +37,16 @@ fn child_tiers_come_first(rt: HostRuntime) {
 
 #[test]
 fn tiers_below_a_tier(rt: HostRuntime) {
-    let few = TierOrder::<TacTix<2, false>>::from_tier(rt.alloc(), 2);
+    let few = TierOrder::from_tier::<TacTix<2, false>>(rt.alloc(), 2);
     check_order(&rt, few, 2);
     // All tiers but the first, of a game with one tier too many.
-    let many = TierOrder::<Stairs<1024>>::from_tier(rt.alloc(), 1023);
+    let many = TierOrder::from_tier::<Stairs<1024>>(rt.alloc(), 1023);
     check_order(&rt, many, 1023);
 }
 
 // Checks the reason why a game has no order.
 fn check_refused<G: Game>(rt: &impl Abort, alloc: Global, why: Option<TierError>) {
-    expect_eq(rt, TierOrder::<G>::from_initial(alloc).err(), why);
+    expect_eq(rt, TierOrder::from_initial::<G>(alloc).err(), why);
 }
 
 #[test]

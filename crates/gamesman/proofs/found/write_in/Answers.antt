@@ -43,7 +43,9 @@ returns-in-Random g c =
     let tiers = c.args.known.now.tiers.now in
     let at_once : None ≡ limit_by_tier asked.report asked.choice = elim c.in-Random.is [
       | inl random ↦ let (n, seed, is) = random in ap₂ (λ (report : Report) (choice : Choice). limit_by_tier report choice) (sym c.in-Lines.is) (sym is)
-      | inr sorted ↦ let (order, n, is) = sorted in ap₂ (λ (report : Report) (choice : Choice). limit_by_tier report choice) (sym c.in-Lines.is) (sym is)
+      | inr (inl sorted) ↦ let (order, n, is) = sorted in ap₂ (λ (report : Report) (choice : Choice). limit_by_tier report choice) (sym c.in-Lines.is) (sym is)
+      | inr (inr apart) ↦ let (order, k, n, seed, turn, is) = apart in ap₂ (λ (report : Report) (choice : Choice). limit_by_tier report choice) (sym c.in-Lines.is)
+          (sym is)
     ] in
     let told = text_told c.lines_at_once-lines.result (λ v. v.items) (λ e. OutOfMemory e) (IsFoundOf spec asked) (IsUnsearched r asked.tier) _ _
     c.put_text-in-Random.result (λ e. tt) (λ e. inr tt)

@@ -115,7 +115,7 @@ returns-in-Filter g c = rw c.in-Filter.is (inr c.answer_input.ensures)
 
 pub returns-in-Find : goal.returns-in-Find
 unfolding IsAnsweredFromTables
-returns-in-Find g c = rw c.in-Find.is c.write_found.ensures
+returns-in-Find g c = rw c.in-Find.is c.find.ensures
 
 pub returns-in-Ask : goal.returns-in-Ask
 unfolding IsAnsweredFromTables

@@ -1,4 +1,4 @@
-use Rattle.std.proofs.lemmas.Result.{IfOk-from_err}
+use Rattle.std.proofs.lemmas.Result.{IfOk-weaker}
 use Rattle.std.proofs.lemmas.List.{length-drop, length-take-le}
 use Rattle.gm_backward.proofs.Lower.{Start, HasNoneHere, ◌-◌, arith, ◌≡◌, ℕ, List, length, drop, suc, sym, ap, ◌∙◌, subst, cut_at}
 use Rattle.std.proofs.Common.{take}
@@ -6,6 +6,7 @@ use Rattle.gm_backward.proofs.BlockLemmas.{starts_part}
 use Rattle.gm_backward.proofs.SplitLemmas.{cut_within, step_up}
 use Rattle.gm_backward.proofs.TilingLemmas.{begun_at}
 use Rattle.gm_backward.proofs.RoundLemmas.{none_first}
+use Rattle.gm_backward.specs.inner.Tiling.{IsTile}
 use Rattle.gm_backward.proofs.first_shards.begin_tile.Goals as goal
 
 pub slice_bounds-begin-start : goal.slice_bounds-begin-start
@@ -36,9 +37,6 @@ pub begin-requires-clause-starts : goal.begin-requires-clause-starts
 begin-requires-clause-starts g c = starts_part g.G.Game.rules c.args.tier c.range-lo.result.0 (c.range-lo.result.1 - c.range-lo.result.0)
     c.args.starts.now c.requires.starts
 
-pub returns-in_err-shard : goal.returns-in_err-shard
-returns-in_err-shard g c = IfOk-from_err c.from_residual.result _ c.from_residual.ensures.0
-
 pub returns : goal.returns
 returns g c =
     let r = g.G.Game.rules in
@@ -53,7 +51,10 @@ returns g c =
     let end = c.range-lo.ensures.hi ∙ ap (λ (n : ℕ). cut_at n c.args.cuts (suc c.args.k)) c.tier_size-size.ensures in
     let rest = length-drop lo c.args.starts.now in
     let long : length part ≡ hi - lo = length-take-le (hi - lo) (drop lo c.args.starts.now) (omega arith) in
+    IfOk-weaker c.begin.result _ (IsTile r c.args.tier c.args.cuts c.args.k)
+    (λ shard is.
     record {
-      spot_is = begun_at r c.args.tier c.args.cuts c.args.k lo (length part) c.in_ok-shard.shard c.in_ok-shard.ensures from (omega arith);
-      none = subst (HasNoneHere r) (sym c.in_ok-shard.ensures) (none_first r c.args.tier lo _);
-    }
+      spot_is = begun_at r c.args.tier c.args.cuts c.args.k lo (length part) shard is from (omega arith);
+      none = subst (HasNoneHere r) (sym is) (none_first r c.args.tier lo _);
+    })
+    c.begin.ensures

@@ -2,8 +2,8 @@ use Rattle.gm_backward.proofs.Lower.{ap, ◌∙◌, Place}
 use Rattle.gm_backward.proofs.FinishLemmas.{piece_is, refused_at_far}
 use Rattle.gm_backward.proofs.level_run.deliver_by_hand.Goals as goal
 
-pub deliver-requires-clause-pairs : goal.deliver-requires-clause-pairs
-deliver-requires-clause-pairs g c =
+pub deliver_rest-requires-clause-pairs : goal.deliver_rest-requires-clause-pairs
+deliver_rest-requires-clause-pairs g c =
     let l = c.args.job.now.level.now in
     piece_is g.G.Game.rules l g.L.ShardLedger.spot g.L.LevelLedger.notes c.args.job.now.notes g.L.PieceLedger.size c.args.piece c.range-lo.result.0
     c.range-lo.result.1

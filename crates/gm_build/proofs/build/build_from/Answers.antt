@@ -23,7 +23,7 @@ build_tier-requires-clause-held g c κs within =
     let r = g.G.Game.rules in
     let tiers = c.tiers-tier-items.result.now in
     let order = subst (IsOrderFrom r c.args.first) (sym c.tiers-tier-items.ensures.value) c.in-Ok.ensures.order in
-    let before = subst (ComeChildrenFirst r) (sym c.tiers-tier-items.ensures.value) c.tiers-tier-items.ensures.children_first in
+    let before = subst (ComeChildrenFirst r) (sym c.tiers-tier-items.ensures.value) c.in-Ok.ensures.children_first in
     children_held r c.args.first tiers order c.loop-tier.tier-index c.loop-tier-test.true c.loop-tier.tables c.loop-tier.invariant.so_far.held before
 
 pub returns-in-Err-build_tier-clause-error : goal.returns-in-Err-build_tier-clause-error

@@ -5,7 +5,7 @@ use Rattle.gm_engine.proofs.engine.solve_game.Goals as goal
 
 pub solve_tiers-requires-clause-children_first : goal.solve_tiers-requires-clause-children_first
 solve_tiers-requires-clause-children_first g c =
-    subst (λ (v : List ℕ). ComeChildrenFirst g.G.Game.rules v) (sym c.tiers-2.ensures.value) c.tiers-2.ensures.children_first
+    subst (λ (v : List ℕ). ComeChildrenFirst g.G.Game.rules v) (sym c.tiers-2.ensures.value) c.in_ok-tiers.ensures.children_first
 
 pub returns-in_err-put_bytes-clause-refused : goal.returns-in_err-put_bytes-clause-refused
 returns-in_err-put_bytes-clause-refused g c =

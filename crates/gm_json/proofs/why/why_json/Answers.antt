@@ -3,7 +3,7 @@ use Rattle.gm_play.specs.MoveValues.{IsMoveValue}
 use Rattle.gm_play.specs.PlayTexts.{IsMoveOf}
 use Rattle.std.proofs.lemmas.List.{take_all}
 use Rattle.gm_json.specs.Whys.{AreReplyLines}
-use Rattle.gm_json.proofs.Replies.{lines_next}
+use Rattle.gm_json.proofs.ReplyLines.{lines_next}
 use Rattle.gm_json.proofs.why.why_json.Goals as goal
 
 pub loop-x-init : goal.loop-x-init

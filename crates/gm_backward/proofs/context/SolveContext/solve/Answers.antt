@@ -4,17 +4,12 @@ use Rattle.gm_backward.proofs.context.SolveContext.solve.Goals as goal
 
 pub finish_levels-requires-clause-held : goal.finish_levels-requires-clause-held
 finish_levels-requires-clause-held g c κs bounds = subst (AreHeld g.G.Game.rules c.args.tables.now)
-    (sym (ap (λ (p : Place). p.tier) c.in_ok-tiles.ensures)) c.requires.held
+    (sym (ap (λ (p : Place). p.tier) c.in_ok-tiles.ensures.place)) c.requires.held
 
 pub finish_levels-requires-2-clause-held : goal.finish_levels-requires-2-clause-held
 finish_levels-requires-2-clause-held g c κs bounds = subst (AreHeld g.G.Game.rules c.args.tables.now)
-    (sym (ap (λ (p : Place). p.tier) c.next_phase.ensures ∙ c.in_ok-tiles-2.ensures.later.tier ∙ ap (λ (p : Place). p.tier) c.in_ok-tiles.ensures))
+    (sym (ap (λ (p : Place). p.tier) c.next_phase.ensures ∙ c.in_ok-tiles-2.ensures.later.tier ∙ ap (λ (p : Place). p.tier) c.in_ok-tiles.ensures.place))
     c.requires.held
-
-pub returns-in_err-tiles-clause-error : goal.returns-in_err-tiles-clause-error
-returns-in_err-tiles-clause-error g c =
-    let p = err_from_is_err_and c.from_residual.result c.from_residual.ensures.1 in
-    rw (p.1, p.2) tt
 
 pub returns-in_err-records-clause-error : goal.returns-in_err-records-clause-error
 returns-in_err-records-clause-error g c =
@@ -29,7 +24,7 @@ finish-requires-clause-ties g c κs bounds = c.in_ok-tiles-3.ensures.later.phase
 
 pub table_of-table-requires-clause-tier_is : goal.table_of-table-requires-clause-tier_is
 table_of-table-requires-clause-tier_is g c = ap (λ (p : Place). p.tier) c.in_ok-tiles-3.ensures.last ∙ c.in_ok-tiles-3.ensures.later.tier ∙ ap (λ (p : Place). p.tier) c.next_phase.ensures ∙ c.in_ok-tiles-2.ensures.later.tier
-    ∙ ap (λ (p : Place). p.tier) c.in_ok-tiles.ensures
+    ∙ ap (λ (p : Place). p.tier) c.in_ok-tiles.ensures.place
 
 pub table_of-table-requires-clause-ties : goal.table_of-table-requires-clause-ties
 table_of-table-requires-clause-ties g c = ap (λ (p : Place). p.phase) c.in_ok-tiles-3.ensures.last ∙ c.in_ok-tiles-3.ensures.later.phase
@@ -38,7 +33,7 @@ table_of-table-requires-clause-ties g c = ap (λ (p : Place). p.phase) c.in_ok-t
 pub table_of-table-requires-clause-records : goal.table_of-table-requires-clause-records
 table_of-table-requires-clause-records g c = subst (λ (t : ℕ). IsTrueTable g.G.Game.rules REMOTENESS t c.in_ok-records.records)
     (c.in_ok-tiles-3.ensures.later.tier ∙ ap (λ (p : Place). p.tier) c.next_phase.ensures ∙ c.in_ok-tiles-2.ensures.later.tier
-    ∙ ap (λ (p : Place). p.tier) c.in_ok-tiles.ensures) c.in_ok-records.ensures
+    ∙ ap (λ (p : Place). p.tier) c.in_ok-tiles.ensures.place) c.in_ok-records.ensures
 
 pub table_of-table-requires-clause-number : goal.table_of-table-requires-clause-number
 table_of-table-requires-clause-number g c =

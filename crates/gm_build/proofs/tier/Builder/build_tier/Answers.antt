@@ -29,9 +29,9 @@ returns-in-Ok-Old-clause-here g c keeps =
     c.in-Ok-Old.table.tier c.args.tier (subst (IsOfTier c.args.tier) c.in-Ok-Old.field-0-is c.in-Ok-Old.ensures.tier)
     (c.in-Ok-Old.ensures.same (g.S.Store.kept_is_read keeps)) (c.in-Err-keep.ensures.here keeps)
 
-pub returns-in_err-ahead-in-Ok-Nothing-clause-here : goal.returns-in_err-ahead-in-Ok-Nothing-clause-here
-returns-in_err-ahead-in-Ok-Nothing-clause-here g c keeps =
-    on_err c.from_residual-in_err-ahead-in-Ok-Nothing.result _
+pub returns-in_err-keep-in-Ok-Nothing-clause-here : goal.returns-in_err-keep-in-Ok-Nothing-clause-here
+returns-in_err-keep-in-Ok-Nothing-clause-here g c keeps =
+    on_err c.from_residual-in_err-keep-in-Ok-Nothing.result _
     (may_have_text g.G.Game.rules (g.S.Store.texts c.args.store.now) (g.S.Store.texts c.load_tier.new.store) (g.S.Store.texts c.keep-in-Ok-Nothing.new.store)
     c.match-solved_of.table.0.tier c.args.tier (search rules)
-    (c.in-Ok-Nothing.ensures.same (g.S.Store.kept_is_read keeps)) (c.in_err-ahead-in-Ok-Nothing.ensures.here keeps))
+    (c.in-Ok-Nothing.ensures.same (g.S.Store.kept_is_read keeps)) (c.in_err-keep-in-Ok-Nothing.ensures.here keeps))

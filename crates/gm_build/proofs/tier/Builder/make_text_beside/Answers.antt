@@ -6,6 +6,6 @@ use Rattle.gm_build.proofs.tier.Builder.make_text_beside.Goals as goal
 pub returns-clause-ahead : goal.returns-clause-ahead
 returns-clause-ahead g c =
     elim c.match-answer.branch [
-      | in-Ok w ↦ rw w.solved-is (IfOk-at_ok (λ s. IsStepWork g.G.Game.rules s.0.tier (Solved s.1)) w.in-Ok.is c.join-text.ensures.second)
-      | in-Err w ↦ rw w.solved-is tt
+      | in-Ok w ↦ rw w.done-is (IfOk-at_ok (λ s. IsStepWork g.G.Game.rules s.0.tier (Solved s.1)) w.in-Ok.is c.join-text.ensures.second)
+      | in-Err w ↦ rw w.done-is tt
     ]

@@ -10,7 +10,7 @@ pub index_mut-requires : goal.index_mut-requires
 index_mut-requires g c =
     let f = c.self.inside in
     let r = g.G.Game.rules in
-    subst (λ (n : ℕ). c.args.parent - f.lo < n) (sym f.left.ok.0)
+    subst (λ (n : ℕ). c.args.parent - f.lo < n) (sym f.rows.left.ok.0)
     (place_left g.met.G.Game.lawful c.self.invariant (subst (λ (s : ShardState). CanDeliver r s c.args.note.now.position c.args.parent)
     (sym c.self.view_is) c.requires.can))
 
@@ -40,13 +40,13 @@ pub invariant_of-self : goal.invariant_of-self
 invariant_of-self g c =
     let r = g.G.Game.rules in
     let f = c.self.inside in
-    kept_seen g.met.G.Game.lawful f.tier f.lo f.phase f.level (logged f.pairs) c.after.result.items c.args.note.now.position c.position-child.result
+    kept_seen g.met.G.Game.lawful f.tier f.lo f.phase f.level (logged f.rows.pairs) c.after.result.items c.args.note.now.position c.position-child.result
     c.args.parent c.args.self.now c.self.view_is c.self.invariant c.requires.can c.args.next c.requires.next
     c.index_mut.result.now c.index_mut.ensures.value c.set.new.self c.set.ensures c.position-child.ensures.value c.after.ensures
 
 pub returns : goal.returns
 returns g c =
     let f = c.self.inside in
-    shown_more f.tier f.lo f.phase f.level (length f.left.items)
-    _ (logged f.pairs) c.after.result.items c.args.note.now.position c.position-child.result c.args.parent c.args.self.now c.self.view_is
-    (sym (length-set f.left.items (c.args.parent - f.lo) (c.index_mut.result.now - 1))) c.position-child.ensures.value c.after.ensures
+    shown_more f.tier f.lo f.phase f.level (length f.rows.left.items)
+    _ (logged f.rows.pairs) c.after.result.items c.args.note.now.position c.position-child.result c.args.parent c.args.self.now c.self.view_is
+    (sym (length-set f.rows.left.items (c.args.parent - f.lo) (c.index_mut.result.now - 1))) c.position-child.ensures.value c.after.ensures

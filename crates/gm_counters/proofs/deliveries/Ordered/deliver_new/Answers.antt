@@ -7,7 +7,7 @@ use Rattle.gm_counters.proofs.deliveries.Ordered.deliver_new.Goals.{After-is_set
 use Rattle.gm_counters.proofs.deliveries.Ordered.deliver_new.Goals as goal
 
 -- what is found of a new pair
-step : (g : Over) (c : After-is_settling-settles g) → Step g.G.Game.rules c.args.self.now c.self.inside.statuses c.args.note.now c.args.parent
+step : (g : Over) (c : After-is_settling-settles g) → Step g.G.Game.rules c.args.self.now c.self.inside.rows.statuses c.args.note.now c.args.parent
     c.status-old.result (c.counter-left.result == 1)
 step g c =
     step_new c.counter-left.result c.self.invariant c.self.view_is c.solved-solved.ensures.note c.requires.here c.requires.new c.status-old.ensures

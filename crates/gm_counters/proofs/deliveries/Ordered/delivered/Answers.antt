@@ -8,4 +8,4 @@ returns-clause-small g c =
     let r = g.G.Game.rules in
     let f = c.self.inside in
     subst (λ (s : ShardState). pairs_in s ≤ MOVES * TIER_SIZE) c.self.view_is
-    (few_there r (state_by f.tier f.lo f.phase f.level (length f.left.items) (logged f.pairs)) f.statuses f.left.items f.delivered c.self.invariant)
+    (few_there r (state_by f.tier f.lo f.phase f.level (length f.rows.left.items) (logged f.rows.pairs)) f.rows.statuses f.rows.left.items f.delivered c.self.invariant)

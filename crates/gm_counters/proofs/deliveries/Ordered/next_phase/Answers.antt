@@ -7,8 +7,8 @@ pub invariant_of-self : goal.invariant_of-self
 invariant_of-self g c =
     let r = g.G.Game.rules in
     let f = c.self.inside in
-    let s : ShardState = state_by f.tier f.lo f.phase f.level (length f.left.items) (logged f.pairs) in
-    kept_ties r g.met.G.Game.lawful s f.statuses f.left.items f.delivered c.self.invariant c.args.last.now c.place-place.ensures.last
+    let s : ShardState = state_by f.tier f.lo f.phase f.level (length f.rows.left.items) (logged f.rows.pairs) in
+    kept_ties r g.met.G.Game.lawful s f.rows.statuses f.rows.left.items f.delivered c.self.invariant c.args.last.now c.place-place.ensures.last
     (subst (λ (u : ShardState). CanTurn u c.args.last.now) (sym c.self.view_is) c.requires)
 
 pub returns : goal.returns

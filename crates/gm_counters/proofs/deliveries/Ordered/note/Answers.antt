@@ -7,10 +7,10 @@ of-requires g c =
     let r = g.G.Game.rules in
     let f = c.self.inside in
     let x = c.in-Settled.x in
-    let s : ShardState = state_by f.tier f.lo f.phase f.level (length f.left.items) (logged f.pairs) in
+    let s : ShardState = state_by f.tier f.lo f.phase f.level (length f.rows.left.items) (logged f.rows.pairs) in
     let h : StatusIs r c.args.self.now c.args.index (Settled x) =
     subst (λ (y : Status). StatusIs r c.args.self.now c.args.index y) c.in-Settled.is c.status.ensures in
-    note_of r g.met.G.Game.lawful s f.statuses c.self.invariant.shard c.args.index
+    note_of r g.met.G.Game.lawful s f.rows.statuses c.self.invariant.shard c.args.index
     (subst (λ (u : ShardState). IsInRange u c.args.index) (sym c.self.view_is) c.requires) x
     (subst (λ (u : ShardState). StatusIs r u c.args.index (Settled x)) (sym c.self.view_is) h)
 

@@ -8,7 +8,7 @@ returns-clause-good g c = subst (λ (s : ShardState). IsGood g.G.Game.rules s) c
 pub returns-clause-count : goal.returns-clause-count
 returns-clause-count g c =
     let f = c.self.inside in
-    c.len.ensures ∙ f.left.ok.0 ∙ c.self.invariant.as_many ∙ ap (λ (s : ShardState). length s.delivered) c.self.view_is
+    c.len.ensures ∙ f.rows.left.ok.0 ∙ c.self.invariant.as_many ∙ ap (λ (s : ShardState). length s.delivered) c.self.view_is
 
 pub returns-clause-lo : goal.returns-clause-lo
 returns-clause-lo g c = ap (λ (s : ShardState). s.lo) c.self.view_is

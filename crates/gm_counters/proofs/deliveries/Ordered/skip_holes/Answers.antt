@@ -10,6 +10,6 @@ returns-clause-holes g c i low high =
     let as_many = c.self.invariant.shard.many in
     let inside = c.skip_holes.ensures.high in
     let from = c.requires.low in
-    status_read g.G.Game.rules (state_by f.tier f.lo f.phase f.level (length f.left.items) (logged f.pairs))
-    c.args.self.now f.statuses f.left.items f.delivered i Hole c.self.invariant c.self.view_is (omega arith, omega arith)
+    status_read g.G.Game.rules (state_by f.tier f.lo f.phase f.level (length f.rows.left.items) (logged f.rows.pairs))
+    c.args.self.now f.rows.statuses f.rows.left.items f.delivered i Hole c.self.invariant c.self.view_is (omega arith, omega arith)
     (c.skip_holes.ensures.holes (i - f.lo) (omega arith) (omega arith))

@@ -9,12 +9,12 @@ pub get-requires : goal.get-requires
 get-requires g c =
     let r = g.G.Game.rules in
     let f = c.self.inside in
-    in_statuses r (state_by f.tier f.lo f.phase f.level (length f.left.items) (logged f.pairs))
-    c.args.self.now f.statuses f.left.items f.delivered c.args.index c.self.invariant c.self.view_is c.requires
+    in_statuses r (state_by f.tier f.lo f.phase f.level (length f.rows.left.items) (logged f.rows.pairs))
+    c.args.self.now f.rows.statuses f.rows.left.items f.delivered c.args.index c.self.invariant c.self.view_is c.requires
 
 pub returns : goal.returns
 returns g c =
     let r = g.G.Game.rules in
     let f = c.self.inside in
-    status_read r (state_by f.tier f.lo f.phase f.level (length f.left.items) (logged f.pairs))
-    c.args.self.now f.statuses f.left.items f.delivered c.args.index c.get.result c.self.invariant c.self.view_is c.requires c.get.ensures
+    status_read r (state_by f.tier f.lo f.phase f.level (length f.rows.left.items) (logged f.rows.pairs))
+    c.args.self.now f.rows.statuses f.rows.left.items f.delivered c.args.index c.get.result c.self.invariant c.self.view_is c.requires c.get.ensures

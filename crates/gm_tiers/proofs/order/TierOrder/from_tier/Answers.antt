@@ -2,7 +2,7 @@ use Rattle.gm_tiers.proofs.Lower.{TooManyTiers, TierTooLarge, []}
 use Rattle.gm_tiers.proofs.StepLemmas.{passed_on, ends_as}
 use Rattle.gm_tiers.proofs.SearchLemmas.{too_many_reached, found_next_reached}
 use Rattle.gm_tiers.proofs.AnswerLemmas.{found_is, many_is, large_is}
-use Rattle.gm_tiers.proofs.OrderLemmas.{order_is}
+use Rattle.gm_tiers.proofs.OrderLemmas.{order_is, children_first}
 use Rattle.gm_tiers.proofs.order.TierOrder.from_tier.Goals as goal
 
 pub returns-in_err-found-clause-refusal : goal.returns-in_err-found-clause-refusal
@@ -26,9 +26,5 @@ pub returns-in-Ok-clause-order : goal.returns-in-Ok-clause-order
 returns-in-Ok-clause-order g c = order_is g.G.Game.rules c.args.first c.in_ok-found.found.keys c.in-Ok.tiers.items
     (found_is g.G.Game.rules c.args.first c.in_ok-found.found.keys c.in_ok-found.ensures) c.in-Ok.ensures.same c.in-Ok.ensures.ordered
 
-pub invariant_of-result : goal.invariant_of-result
-invariant_of-result g c = (
-  c.args.first,
-  order_is g.G.Game.rules c.args.first c.in_ok-found.found.keys c.in-Ok.tiers.items
-      (found_is g.G.Game.rules c.args.first c.in_ok-found.found.keys c.in_ok-found.ensures) c.in-Ok.ensures.same c.in-Ok.ensures.ordered,
-)
+pub returns-in-Ok-clause-children_first : goal.returns-in-Ok-clause-children_first
+returns-in-Ok-clause-children_first g c = children_first g.G.Game.rules g.met.G.Game.lawful c.args.first c.in-Ok.tiers.items (returns-in-Ok-clause-order g c)

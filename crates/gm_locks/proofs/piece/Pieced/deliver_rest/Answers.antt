@@ -1,9 +1,9 @@
-use Rattle.gm_locks.proofs.Lower.{◌≡◌, ℕ, ◌⊎◌, inl, inr, true, false, get_or, length, refl, sym, ap, subst, Result, Ok, Err, List, NoteData, PiecedData}
+use Rattle.gm_locks.proofs.Lower.{◌≡◌, ℕ, ◌⊎◌, inl, inr, true, false, get_or, length, refl, ap, Result, Ok, Err, List, NoteData}
 use Rattle.std.proofs.Common.{OnOk, IsOk}
 use Rattle.gm_locks.proofs.PieceLemmas.{turned_bits}
-use Rattle.gm_locks.proofs.pieces.Taken.deliver.Given.{Over}
-use Rattle.gm_locks.proofs.pieces.Taken.deliver.Goals.{After-deliver}
-use Rattle.gm_locks.proofs.pieces.Taken.deliver.Goals as goal
+use Rattle.gm_locks.proofs.piece.Pieced.deliver_rest.Given.{Over}
+use Rattle.gm_locks.proofs.piece.Pieced.deliver_rest.Goals.{After-deliver}
+use Rattle.gm_locks.proofs.piece.Pieced.deliver_rest.Goals as goal
 
 on_ok_by : {T E : Type 0} (answer : Result T E) (P : Type 0) → (IsOk answer → P) → OnOk answer P
 on_ok_by (Ok x) P f = f refl
@@ -11,9 +11,7 @@ on_ok_by (Err e) P f = tt
 
 bits : (g : Over) (c : After-deliver g) → IsOk c.deliver.result → (p : ℕ) → (p ≡ c.args.piece) ⊎ (get_or c.args.self.now.whole p false ≡ true)
     → get_or c.deliver.new.self.whole p false ≡ true
-bits g c ok p which =
-    turned_bits c.deliver.ensures.turn.1 (ap (λ (ps : List (NoteData × ℕ)). length ps) c.requires.pairs) c.requires.piece ok p
-    (subst (λ (d : PiecedData). (p ≡ c.args.piece) ⊎ (get_or d.whole p false ≡ true)) (sym c.self.view_is) which)
+bits g c ok p which = turned_bits c.deliver.ensures.turn.1 (ap (λ (ps : List (NoteData × ℕ)). length ps) c.requires.pairs) c.requires.piece ok p which
 
 pub returns-clause-here : goal.returns-clause-here
 returns-clause-here g c = on_ok_by c.deliver.result (get_or c.deliver.new.self.whole c.args.piece false ≡ true)

@@ -1,6 +1,6 @@
 use Rattle.gm_backward.proofs.Lower.{sym, ◌∙◌}
 use Rattle.gm_backward.proofs.TilingLemmas.{choose_tile}
-use Rattle.gm_backward.proofs.level_run.run_on_board.Goals as goal
+use Rattle.gm_backward.proofs.level_run.run_under_locks.Goals as goal
 
 pub run_crew-requires-clause-tiles : goal.run_crew-requires-clause-tiles
 run_crew-requires-clause-tiles g c κs bounds =
