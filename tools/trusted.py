@@ -221,18 +221,21 @@ def promises():
 def commands():
     """The commands, each with the definition of its answer, and how the equations begin that are its own."""
     questions = {"query": "(Value false)", "query --json": "(Value true)", "moves": "(Moves", "moves --replies": "(Replies", "why": "(Why false)", "why --json": "(Why true)", "line": "(Line",
-                 "show": "(Show", "show --json": "Board", "show --svg": "(Diagram"}
+                 "show": "(Show", "show --json": "Board"}
+    diagrams = {"show --svg": "Svg", "show --tikz": "Tikz"}
     from_tables = {"query -` and `moves -": "(Filter", "solve": "(Solve", "at": "(At", "find": "(Find", "counts": "(Counts", "longest": "(Longest",
-                   "ask": "(Ask", "analyse": "Analyse", "play": "(Play"}
+                   "analyse": "Analyse", "play": "(Play"}
     pages = {"page": "None", "page --engine": "(Some"}
-    others = {"check": "(Check", "locate": "(Locate"}
+    others = {"ask": "(Ask", "check": "(Check", "locate": "(Locate"}
     table = "IsAnsweredFromTables"
     explored = {name: (table, {table: f"{table} g (Explore ", "IsTextFor": f"IsTextFor g {of} "}) for name, of in questions.items()}
+    drawn = {name: (table, {table: f"{table} g (Explore ", "IsTextFor": "IsTextFor g (Diagram ", "IsDiagramIn": f"IsDiagramIn {of} "}) for name, of in diagrams.items()}
     paged = {name: (table, {table: f"{table} g (Page ", "IsPagedWith": f"IsPagedWith {of} "}) for name, of in pages.items()}
     about_games = {name: (table, {table: f"{table} g {of} "}) for name, of in from_tables.items()}
     beside = {name: ("IsAnswered", {"IsAnswered": f"IsAnswered g {of} "}) for name, of in others.items()}
-    lists = {"list": ("IsDone", {"IsDone": "IsDone (Names "}), "page --all": ("IsDone", {"IsDone": "IsDone (AllGames "})}
-    return {**lists, **explored, **paged, **about_games, **beside}
+    lists = {"list": ("IsDone", {"IsDone": "IsDone (Names "}), "page --all": ("IsDone", {"IsDone": "IsDone (AllGames "}),
+             "sheet": ("IsDone", {"IsDone": "IsDone (Sheet "})}
+    return {**lists, **explored, **drawn, **paged, **about_games, **beside}
 
 
 @lru_cache(None)

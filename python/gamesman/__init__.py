@@ -10,7 +10,7 @@
 from .answers import Move, Place, Progress, Summary, value_text
 from .errors import BadFile, Failed, GamesmanError, NoSuchGame, NoSuchMove, NoSuchPlace, NoSuchPosition, ProgramMissing, Stopped
 from .folder import Folder, Record, Tier
-from .game import Found, Game, games
+from .game import Found, Game, games, positions_of
 from .notebook import Page
 from .position import Position, Reply
 
@@ -39,5 +39,6 @@ __all__ = [
     "Summary",
     "Tier",
     "games",
+    "positions_of",
     "value_text",
 ]

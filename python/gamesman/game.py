@@ -1,5 +1,6 @@
 """Games: their positions, by a running `gamesman ask`, and what other commands say of them."""
 import csv
+import itertools
 import json
 import re
 import weakref
@@ -338,6 +339,36 @@ def unpickled(name: str, folder: Optional[str], program: str) -> Game:
     if found is None:
         found = UNPICKLED[name, folder, program] = Game(name, folder, program)
     return found
+
+
+def positions_of(questions: Iterable[Tuple[Game, Iterable[str]]]) -> Iterator[List[Position]]:
+    """Returns, for each game with texts of its positions, these positions: all by one process, which goes on from game to game. Its tables are built in memory, those
+    of one game at a time, by the program of the first game. The first text that is none raises NoSuchPosition."""
+    asked: List[Tuple[Game, List[str]]] = [(game, list(texts)) for game, texts in questions]
+    if not asked:
+        return
+    first = asked[0][0]
+    asker = Asker([first.program, "ask", first.name])
+    try:
+        lines = asker.ask(it for number, (game, texts) in enumerate(asked) for it in lines_about(game, texts, number == 0))
+        answers = (line for some in lines for line in b"".join(some).decode().split("\n")[:-1])
+        for number, (game, texts) in enumerate(asked):
+            if number:
+                next(answers)
+            found = list(zip(texts, itertools.islice(answers, len(texts))))
+            for text, line in found:
+                if line.startswith(ERROR):
+                    raise game._none(text)
+            yield [Position(game, line) for _, line in found]
+    finally:
+        asker.close()
+
+
+def lines_about(game: Game, texts: List[str], begun: bool) -> Iterator[bytes]:
+    """Returns the lines that ask for these positions of a game, the first of which names it unless the process has begun with it."""
+    if not begun:
+        yield json.dumps({"game": game.name}).encode()
+    yield from map(bytes_of, texts)
 
 
 class Found(Iterator[Position]):

@@ -118,9 +118,18 @@ class Position:
         """Returns the board as text, with its rows and columns named, without the value."""
         return self.game.run("show", self.text).rpartition("\n")[0].rpartition("\n")[0]
 
-    def svg(self, value: bool = False) -> str:
-        """Returns a diagram of the board as an SVG document, with `value` with the value under it."""
-        return self.game.run("show", self.text, "--svg", *([] if value else ["--no-value"]))
+    def svg(self, value: bool = False, figures: bool = False, arrow: bool = False) -> str:
+        """Returns a diagram of the board as an SVG document: with `value` the value is under it, with `figures` chess men are figures, and with `arrow` the best
+        move is marked."""
+        return self._diagram("--svg", value, figures, arrow)
+
+    def tikz(self, value: bool = False, figures: bool = False, arrow: bool = False) -> str:
+        """Returns the same diagram as a TikZ picture, for LaTeX."""
+        return self._diagram("--tikz", value, figures, arrow)
+
+    def _diagram(self, form: str, value: bool, figures: bool, arrow: bool) -> str:
+        words = [word for word, wanted in (("--no-value", not value), ("--figures", figures), ("--arrow", arrow)) if wanted]
+        return self.game.run("show", self.text, form, *words)
 
     def _repr_svg_(self) -> str:
         return self.svg(value=True)

@@ -6,7 +6,7 @@ from dataclasses import astuple
 from typing import Any, Dict, List, Set
 
 from common import WithRoom, solved
-from gamesman import Folder, Game, NoSuchPlace, NoSuchPosition, Position, Record
+from gamesman import Folder, Game, NoSuchPlace, NoSuchPosition, Position, Record, positions_of
 from gamesman.game import BATCH, batches
 from lib.paths import GAMESMAN
 
@@ -123,6 +123,18 @@ class Answers(WithRoom):
                         next(texts)
             self.assertEqual(list(game.texts_of(tier, [])), [])
             self.assertEqual(len(list(game.positions_at(tier, [index] * (2 * BATCH + 1)))), 2 * BATCH + 1)
+
+    def test_several_games_by_one_process(self) -> None:
+        asked = [(game, sorted(right.game.legal)[:FEW]) for game, right in self.games()]
+        asked += [(asked[0][0], []), *asked[:2]]
+        found = list(positions_of(asked))
+        self.assertEqual([[it.text for it in some] for some in found], [texts for _, texts in asked])
+        for (game, _), some in zip(asked, found):
+            right = solved(game.name)
+            self.assertEqual([(it.value, it.remoteness) for it in some], [right.values[it.text] for it in some])
+        with self.assertRaises(NoSuchPosition):
+            list(positions_of([(asked[0][0], []), (asked[1][0], ["none"])]))
+        self.assertEqual(list(positions_of([])), [])
 
     def test_batches(self) -> None:
         self.assertEqual(list(batches([], 2)), [])

@@ -105,6 +105,15 @@ class Package(WithRoom):
         self.assertTrue(drawing.startswith("<svg ") and drawing.endswith("</svg>\n"))
         self.assertNotIn("win in", drawing)
 
+    def test_diagrams_with_figures_and_marks(self) -> None:
+        with Game("krk", program=GAMESMAN) as game:
+            position = game.position("Kb3 Rh2 ka1 w")
+            drawing, picture = position.svg(figures=True, arrow=True), position.tikz(value=True)
+        self.assertIn('d="M400 320L400 360"', drawing)
+        self.assertNotIn("<circle", drawing)
+        self.assertTrue(picture.startswith("\\begin{tikzpicture}") and picture.endswith("\\end{tikzpicture}\n"))
+        self.assertIn("win in 1", picture.replace("~", " "))
+
     def test_a_damaged_file_is_named(self) -> None:
         to = self.folder("tables")
         with Game("wheel", program=GAMESMAN) as game:

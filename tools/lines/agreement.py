@@ -23,7 +23,7 @@ FIRST, LATER = listed()
 GAMES = [game for game in FIRST + LATER if game not in LARGE]
 
 # The most columns that a drawing takes.
-COLUMNS = 51
+COLUMNS = 50
 
 
 def lines_of(*words):

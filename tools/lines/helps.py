@@ -12,6 +12,9 @@ FOLDERS = ("tables", "dao-tables", ".local/share/bash-completion/completions", "
 # A text that the program takes for an engine: it looks only at its digits.
 ENGINE = "engine.txt", "H4sIAAAA+/8=\n"
 
+# A list of positions of two games.
+LIST = "list.txt", "countdown\t10\nwheel\t2\n"
+
 
 def helped(*words):
     return told(*words, "--help")
@@ -36,9 +39,9 @@ def home(folder):
     """A folder, with what the samples take as given."""
     for name in FOLDERS:
         os.makedirs(f"{folder}/{name}")
-    name, text = ENGINE
-    with open(f"{folder}/{name}", "w", encoding="ascii") as file:
-        file.write(text)
+    for name, text in (ENGINE, LIST):
+        with open(f"{folder}/{name}", "w", encoding="ascii") as file:
+            file.write(text)
     return folder
 
 

@@ -1,7 +1,10 @@
-"""Sheets of found positions, `gamesman find .. --page`: the same made once more from what `find`, `show --svg` and `line` say, and whether its tags pair."""
+"""Sheets of found positions, `gamesman find .. --page`, and of listed ones, `gamesman sheet`: the same made once more from what `find`, `show --svg` and `line` say,
+and whether its tags pair."""
+import itertools
 import os
 import re
 
+from lib.newspaper import newspaper
 from lib.paths import ROOT
 from lib.programs import told
 from page.heads import HEADS
@@ -67,5 +70,72 @@ def wrong(game, words, folder):
     words = words.split()
     sheet = told("find", game, *words, "--page", "--folder", folder)
     if sheet != made(game, words, folder):
+        return "it is not what find, show and line say"
+    return wrong_tags(sheet.encode())
+
+
+# Lists of games and searches, whose first positions take turns on one sheet.
+LISTS = [
+    ("", ["dao --value win --remoteness 9 --only-move --limit 3", "hare --value win --whole-line --limit 3", "tactix-3-misere --value win --limit 3"]),
+    ("--own-moves", ["krk --value win --remoteness 5 --only-fastest --limit 2", "wheel --value draw --limit 2", "countdown --value lose --limit 2"]),
+    ("--no-value --title x<y", ["mutorere --value draw --limit 2", "achi --value win --remoteness 5 --limit 2"]),
+]
+
+# Whose the men are, by the letters of the men, of which `x` are of both sides in games without `o`.
+WHOSE = {
+    "": "One of the numbers is the position.",
+    "x": "The men belong to both sides.",
+    "xo": "Black men belong to the side to move, x; white men, with a ring, to the other, o.",
+    "dh": "White men with a d are the hounds; the black man with an h is the hare.",
+    "K": "White men with capitals belong to White; black men with small letters to Black.",
+    "fh": "The white man with an f is the fox; black men with an h are the hounds.",
+}
+
+OUTCOMES = {"win": "wins in", "tie": "ties in", "lose": "loses in", "draw": "draws"}
+
+
+def under(diagram, value, words):
+    """The line under a diagram."""
+    if "--own-moves" not in words:
+        return ""
+    side = re.findall(">([^<>]*) to move</text>", diagram)[-1]
+    word, _, count = value.partition(" in ")
+    return f"<p>{side} {OUTCOMES[word]}{f' {(int(count) + 1) // 2}' if count else ''}</p>"
+
+
+def listed(words, rows, games, folders):
+    """The sheet of these rows, each with its game and what `find` says of it."""
+    part, items, answers = constants(), "", ""
+    plain = ["--no-value"] if words else []
+    for game, row in rows:
+        position, value, best, moves = row.split("\t")
+        svg = told("show", game, position, "--svg", *plain, "--folder", folders[game])
+        items += f"<li><h3>{escaped(HEADS[game]['title'])}</h3>\n{svg}{under(svg, value, words)}</li>\n"
+        answers += f"<li>{solution(game, folders[game], position, best, moves)}</li>\n"
+    men = {game: "K" if HEADS[game]["men"][:1] == "K" else HEADS[game]["men"] for game in games}
+    legends = "".join(f"<p><b>{escaped(HEADS[game]['title'])}</b>: {WHOSE[men[game]]}</p>\n" for game in games)
+    title = escaped(words.partition("--title ")[2] or "Puzzles")
+    front = part["LIST_FRONT"] + title + part["LIST_LEGENDS"] + legends + part["LIST_PUZZLES"]
+    return front + items + part["LIST_SOLUTIONS"] + answers + part["LIST_BACK"]
+
+
+def wrong_list(words, searches, folder):
+    """Why the sheet of a list, of which each game's tables are in a folder that `folder` names, is not what it should be, if so."""
+    games = [search.split()[0] for search in searches]
+    folders = {game: folder(game) for game in games}
+    found = [told("find", *search.split(), "--folder", folders[game]).splitlines() for game, search in zip(games, searches)]
+    rows = [(game, row) for turn in itertools.zip_longest(*found) for game, row in zip(games, turn) if row]
+    sheet = told("sheet", *words.split(), given="".join(f"{game}\t{row}\n" for game, row in rows))
+    if sheet != listed(words, rows, games, folders):
+        return "it is not what find, show and line say"
+    return wrong_tags(sheet.encode())
+
+
+def wrong_newspaper(empty, folder):
+    """Why the page that the README makes in an empty folder is not what its list says, if so."""
+    lines, sheet = newspaper(empty)
+    rows = [tuple(line.split("\t", 1)) for line in lines.splitlines()]
+    games = list(dict.fromkeys(game for game, _ in rows))
+    if sheet != listed("--own-moves", rows, games, {game: folder(game) for game in games}):
         return "it is not what find, show and line say"
     return wrong_tags(sheet.encode())

@@ -17,7 +17,7 @@ use Rattle.gm_command.specs.declared.requests.TableCommand.{TableCommand}
 use Rattle.gm_command.specs.declared.requests.PageRequest.{PageRequest}
 use Rattle.gm_command.specs.declared.requests.PlayRequest.{PlayRequest}
 use Rattle.gm_command.specs.declared.requests.Question.{Question}
-use Rattle.gm_command.specs.declared.requests.TableCommand.TheVariants.{Solve, Explore, Filter, Page, At, Find, Counts, Longest, Ask, Analyse, Play}
+use Rattle.gm_command.specs.declared.requests.TableCommand.TheVariants.{Solve, Explore, Filter, Page, At, Find, Counts, Longest, Analyse, Play}
 use Rattle.gamesman.proofs.Cut.{kept, write_refused, unbuilt_refused}
 use Rattle.gamesman.proofs.Paged.{engine_cut}
 use Rattle.gamesman.proofs.Telling.{memory_told, unbuilt_told, unknown_told, no_place_told, unsearched_told, put_told, find_unsearched}
@@ -145,7 +145,6 @@ module _ (g : GameSpec) (needs : Needs) (fault : Fault) (o : Option (List ℕ)) 
   unbuilt_answered (Find search) input same = find_unsearched _ g search o fault (inr (here (first_of g.rules search.tier) same))
   unbuilt_answered (Counts request) input same = whole (IsCountsOf g.rules request) same
   unbuilt_answered (Longest reached limit json) input same = whole (IsLongestOf g.rules g.shown g.move_shown reached limit json) same
-  unbuilt_answered (Ask request) input same = inl (inr (here g.rules.initial.tier same), kept o)
   unbuilt_answered Analyse input same = whole (IsAnalysisText g.rules) same
   unbuilt_answered (Play request) input (from, legal, same) =
       inr (needs.position, from, inl (fault, refl, here needs.position.tier same, kept o))
@@ -164,6 +163,5 @@ whole_needed g needs (At tier index json) same e p w a f = absurd (a tier index 
 whole_needed g needs (Find search) same e p w a f = absurd (f search refl)
 whole_needed g needs (Counts request) same e p w a f = same
 whole_needed g needs (Longest reached limit json) same e p w a f = same
-whole_needed g needs (Ask request) same e p w a f = same
 whole_needed g needs Analyse same e p w a f = same
 whole_needed g needs (Play request) same e p w a f = absurd (p request refl)

@@ -1,5 +1,5 @@
 -- The output of an answer after a fault.
-use Rattle.gamesman.proofs.Lower.{◌≡◌, ℕ, Bool, true, false, List, Option, None, Some, Result, Ok, Err, refl, sym, ap, subst, ◌∙◌, Keeps, Position, Rules, AppendsPart, Fault, NoSuchGame, NoSuchPosition, NoSuchPositionInLine, NoSuchTier, NoSuchIndex, NotLegal, NotCanonical, NotBuilt, AnotherGames, InputFailed, OutputFailed, OutputClosed, TooMuchInput, EngineNotRead, NotAnEngine, IsCutOff, IsUnbuilt}
+use Rattle.gamesman.proofs.Lower.{◌≡◌, ℕ, Bool, true, false, List, Option, None, Some, Result, Ok, Err, refl, sym, ap, subst, ◌∙◌, Keeps, Position, Rules, AppendsPart, Fault, NoSuchGame, NoSuchPosition, NoSuchPositionInLine, NoSuchGameInLine, NoSuchTier, NoSuchIndex, NotLegal, NotCanonical, NotBuilt, AnotherGames, InputFailed, OutputFailed, OutputClosed, TooMuchInput, EngineNotRead, NotAnEngine, IsCutOff, IsUnbuilt}
 use Rattle.std.proofs.Common.{IfSome, IfErr}
 use Rattle.std.specs.Borrow.{Bor}
 use Rattle.gm_play.specs.PlayTexts.{IsReadAs}
@@ -37,6 +37,7 @@ each_output Q failed closed OutputClosed out = closed
 each_output Q failed closed NoSuchGame out = absurd out
 each_output Q failed closed NoSuchPosition out = absurd out
 each_output Q failed closed (NoSuchPositionInLine line) out = absurd out
+each_output Q failed closed (NoSuchGameInLine line) out = absurd out
 each_output Q failed closed (NoSuchTier tier) out = absurd out
 each_output Q failed closed (NoSuchIndex tier index) out = absurd out
 each_output Q failed closed (NotLegal tier index) out = absurd out
@@ -57,6 +58,7 @@ kept_cut IsText o P failed closed OutputClosed is = absurd (closed is)
 kept_cut IsText o P failed closed NoSuchGame is = kept o
 kept_cut IsText o P failed closed NoSuchPosition is = kept o
 kept_cut IsText o P failed closed (NoSuchPositionInLine line) is = kept o
+kept_cut IsText o P failed closed (NoSuchGameInLine line) is = kept o
 kept_cut IsText o P failed closed (NoSuchTier tier) is = kept o
 kept_cut IsText o P failed closed (NoSuchIndex tier index) is = kept o
 kept_cut IsText o P failed closed (NotLegal tier index) is = kept o
@@ -89,6 +91,7 @@ module _ (r : Rules) (shown : Position → List ℕ) (move_shown : Position → 
   unbuilt_refused p read NoSuchGame is = absurd is
   unbuilt_refused p read NoSuchPosition is = absurd is
   unbuilt_refused p read (NoSuchPositionInLine line) is = absurd is
+  unbuilt_refused p read (NoSuchGameInLine line) is = absurd is
   unbuilt_refused p read (NoSuchTier tier) is = absurd is
   unbuilt_refused p read (NoSuchIndex tier index) is = absurd is
   unbuilt_refused p read (NotLegal tier index) is = absurd is

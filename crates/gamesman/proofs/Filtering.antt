@@ -1,5 +1,5 @@
 -- The answers to the lines of an input, before its end.
-use Rattle.gamesman.proofs.Lower.{◌≡◌, ℕ, ◌+◌, ◌≤◌, ◌<◌, true, false, List, [], ◌∷◌, ◌++◌, length, take, Option, Result, Ok, refl, sym, ap, subst, ◌∙◌, append_assoc, append-nil, arith, Appends, Keeps, Appends-trans, Appends-kept, Position, Rules, TableData, HoldsExactly, Fault, NoSuchGame, NoSuchPosition, NoSuchPositionInLine, NoSuchTier, NoSuchIndex, NotLegal, NotCanonical, OutOfMemory, NotBuilt, AnotherGames, InputFailed, OutputFailed, OutputClosed, TooMuchInput, EngineNotRead, NotAnEngine, IsOfNone}
+use Rattle.gamesman.proofs.Lower.{◌≡◌, ℕ, ◌+◌, ◌≤◌, ◌<◌, true, false, List, [], ◌∷◌, ◌++◌, length, take, Option, Result, Ok, refl, sym, ap, subst, ◌∙◌, append_assoc, append-nil, arith, Appends, Keeps, Appends-trans, Appends-kept, Position, Rules, TableData, HoldsExactly, Fault, NoSuchGame, NoSuchPosition, NoSuchPositionInLine, NoSuchGameInLine, NoSuchTier, NoSuchIndex, NotLegal, NotCanonical, OutOfMemory, NotBuilt, AnotherGames, InputFailed, OutputFailed, OutputClosed, TooMuchInput, EngineNotRead, NotAnEngine, IsOfNone}
 use Rattle.std.specs.Prelude.{◌==◌, if◌then◌else◌, min, ◌↔◌, None, Some}
 use Rattle.std.specs.Prelude.{Bool}
 use Rattle.std.proofs.lemmas.Bool.{eqb-true}
@@ -73,6 +73,7 @@ module _ (IsText : List ℕ → List ℕ → Type 0) where
         (lines, line, w1, come w1 (Keeps-refl w1), (out, subst (λ (l : List ℕ). IsText (without_return l) out) keeps is, part))
     left_off NoSuchGame is = absurd is
     left_off NoSuchPosition is = absurd is
+    left_off (NoSuchGameInLine line) is = absurd is
     left_off (NoSuchTier tier) is = absurd is
     left_off (NoSuchIndex tier index) is = absurd is
     left_off (NotLegal tier index) is = absurd is

@@ -1,5 +1,5 @@
 -- The positions found tier by tier, and the tables that they come from.
-use Rattle.gamesman.proofs.Lower.{◌≡◌, ℕ, suc, ◌+◌, inl, inr, Bool, List, [], ◌∷◌, ◌++◌, length, take, drop, Option, None, Some, Result, Ok, Err, refl, sym, ap, subst, ◌∙◌, arith, append-nil, take-append-drop, Contains, flat_map, Appends, Keeps, Appends-trans, Appends-kept, Position, Rules, TableData, AppendsPart, part_after, Found, IsFound, AreChosen, PositionSearch, Fault, NoSuchGame, NoSuchPosition, NoSuchPositionInLine, NoSuchTier, NoSuchIndex, NotLegal, NotCanonical, OutOfMemory, NotBuilt, AnotherGames, InputFailed, OutputFailed, OutputClosed, TooMuchInput, EngineNotRead, NotAnEngine, GameSpec, IsCutOff, IsMemoryFault, board_row, AreLinesOf}
+use Rattle.gamesman.proofs.Lower.{◌≡◌, ℕ, suc, ◌+◌, inl, inr, Bool, List, [], ◌∷◌, ◌++◌, length, take, drop, Option, None, Some, Result, Ok, Err, refl, sym, ap, subst, ◌∙◌, arith, append-nil, take-append-drop, Contains, flat_map, Appends, Keeps, Appends-trans, Appends-kept, Position, Rules, TableData, AppendsPart, part_after, Found, IsFound, AreChosen, PositionSearch, Fault, NoSuchGame, NoSuchPosition, NoSuchPositionInLine, NoSuchGameInLine, NoSuchTier, NoSuchIndex, NotLegal, NotCanonical, OutOfMemory, NotBuilt, AnotherGames, InputFailed, OutputFailed, OutputClosed, TooMuchInput, EngineNotRead, NotAnEngine, GameSpec, IsCutOff, IsMemoryFault, board_row, AreLinesOf}
 use Rattle.std.proofs.Common.{zero, ◌-◌, ◌⊎◌, map, ap₂, length-append}
 use Rattle.std.proofs.lemmas.Grind.{flat_map-append}
 use Rattle.gm_game.proofs.Lists.{contains_none, contains_cases}
@@ -176,6 +176,7 @@ module _ (g : GameSpec) (asked : PositionSearch) (form : LineForm) (limit : ℕ)
       left_told NoSuchGame told why = absurd (neither why)
       left_told NoSuchPosition told why = absurd (neither why)
       left_told (NoSuchPositionInLine line) told why = absurd (neither why)
+      left_told (NoSuchGameInLine line) told why = absurd (neither why)
       left_told (NoSuchTier t) told why = absurd (neither why)
       left_told (NoSuchIndex t i) told why = absurd (neither why)
       left_told (NotLegal t i) told why = absurd (neither why)

@@ -11,4 +11,7 @@ pub mod Lined
 pub mod Paged
 pub mod Said
 pub mod Entries
+pub mod Parts
+pub mod Services
 pub mod Lower
+pub mod Sheeted

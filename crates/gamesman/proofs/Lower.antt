@@ -11,7 +11,7 @@ pub use Rattle.gamesman.specs.Searches.{IsUnsearched, first_of}
 pub use Rattle.gamesman.specs.Texts.{IsTextFor}
 pub use Rattle.gamesman.specs.Told.{IsMemoryFault, IsPut}
 pub use Rattle.gamesman.specs.declared.fault.Fault.{Fault}
-pub use Rattle.gamesman.specs.declared.fault.Fault.TheVariants.{AnotherGames, EngineNotRead, InputFailed, NoSuchGame, NoSuchIndex, NoSuchPosition, NoSuchPositionInLine, NoSuchTier, NotAnEngine, NotBuilt, NotCanonical, NotLegal, OutOfMemory, OutputClosed, OutputFailed, TooMuchInput}
+pub use Rattle.gamesman.specs.declared.fault.Fault.TheVariants.{AnotherGames, EngineNotRead, InputFailed, NoSuchGame, NoSuchGameInLine, NoSuchIndex, NoSuchPosition, NoSuchPositionInLine, NoSuchTier, NotAnEngine, NotBuilt, NotCanonical, NotLegal, OutOfMemory, OutputClosed, OutputFailed, TooMuchInput}
 pub use Rattle.gm_build.specs.Work.{HoldsExactly}
 pub use Rattle.gm_command.specs.declared.requests.PositionSearch.{PositionSearch}
 pub use Rattle.gm_find.specs.Founds.{AreChosen, IsFound}

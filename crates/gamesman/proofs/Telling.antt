@@ -1,5 +1,5 @@
 -- The output of an answer about all of a game after a fault, and the tables for it.
-use Rattle.gamesman.proofs.Lower.{◌≡◌, ℕ, true, false, inl, inr, List, Option, None, Some, Result, Ok, Err, refl, sym, subst, ◌∙◌, Contains, Rules, PositionSearch, Fault, NoSuchGame, NoSuchPosition, NoSuchPositionInLine, NoSuchTier, NoSuchIndex, NotLegal, NotCanonical, OutOfMemory, NotBuilt, AnotherGames, InputFailed, OutputFailed, OutputClosed, TooMuchInput, EngineNotRead, NotAnEngine, IsCutOff, IsUnbuilt, IsMemoryFault, IsPut, GameSpec, IsUnsearched, first_of}
+use Rattle.gamesman.proofs.Lower.{◌≡◌, ℕ, true, false, inl, inr, List, Option, None, Some, Result, Ok, Err, refl, sym, subst, ◌∙◌, Contains, Rules, PositionSearch, Fault, NoSuchGame, NoSuchPosition, NoSuchPositionInLine, NoSuchGameInLine, NoSuchTier, NoSuchIndex, NotLegal, NotCanonical, OutOfMemory, NotBuilt, AnotherGames, InputFailed, OutputFailed, OutputClosed, TooMuchInput, EngineNotRead, NotAnEngine, IsCutOff, IsUnbuilt, IsMemoryFault, IsPut, GameSpec, IsUnsearched, first_of}
 use Rattle.gamesman.specs.Finds.{IsFoundOf, IsFoundSoFar, IsLeft, AreFoundWith}
 use Rattle.std.proofs.Common.{nat_eq, eqb-true, eq-eqb}
 use Rattle.std.specs.List.{list_any}
@@ -46,6 +46,7 @@ pub memory_unbuilt : (r : Rules) (first : ℕ) (fault : Fault) → IsMemoryFault
 memory_unbuilt r first NoSuchGame is = absurd is
 memory_unbuilt r first NoSuchPosition is = absurd is
 memory_unbuilt r first (NoSuchPositionInLine line) is = absurd is
+memory_unbuilt r first (NoSuchGameInLine line) is = absurd is
 memory_unbuilt r first (NoSuchTier t) is = absurd is
 memory_unbuilt r first (NoSuchIndex t i) is = absurd is
 memory_unbuilt r first (NotLegal t i) is = absurd is
@@ -86,6 +87,7 @@ left_from IsText o (OutOfMemory error) is = inl is
 left_from IsText o NoSuchGame is = is
 left_from IsText o NoSuchPosition is = is
 left_from IsText o (NoSuchPositionInLine line) is = is
+left_from IsText o (NoSuchGameInLine line) is = is
 left_from IsText o (NoSuchTier t) is = is
 left_from IsText o (NoSuchIndex t i) is = is
 left_from IsText o (NotLegal t i) is = is

@@ -19,9 +19,9 @@ use Rattle.gm_command.specs.declared.requests.Request.{Request}
 use Rattle.gm_command.specs.declared.requests.GameCommand.{GameCommand}
 use Rattle.gm_command.specs.declared.requests.TableCommand.{TableCommand}
 use Rattle.gm_page.specs.Pages.{IsPage}
-use Rattle.gm_command.specs.declared.requests.Request.TheVariants.{List as Names, Game, AllGames}
-use Rattle.gm_command.specs.declared.requests.GameCommand.TheVariants.{FromTables, Locate, Check}
-use Rattle.gm_command.specs.declared.requests.TableCommand.TheVariants.{Solve, Explore, Filter, Page, At, Find, Counts, Longest, Ask, Analyse, Play}
+use Rattle.gm_command.specs.declared.requests.Request.TheVariants.{List as Names, Game, AllGames, Sheet}
+use Rattle.gm_command.specs.declared.requests.GameCommand.TheVariants.{FromTables, Ask, Locate, Check}
+use Rattle.gm_command.specs.declared.requests.TableCommand.TheVariants.{Solve, Explore, Filter, Page, At, Find, Counts, Longest, Analyse, Play}
 use Rattle.gamesman.specs.declared.fault.Fault.{Fault}
 use Rattle.gamesman.specs.declared.fault.Fault.TheVariants.{NoSuchGame, NoSuchPosition, OutOfMemory, OutputFailed, OutputClosed}
 use Rattle.gamesman.specs.Games.{GameSpec, spec_of}
@@ -31,12 +31,16 @@ use Rattle.gamesman.specs.Refusals.{IsRefused}
 use Rattle.gamesman.specs.Filters.{IsFiltered}
 use Rattle.gamesman.specs.Finds.{AreFoundBy}
 use Rattle.gamesman.specs.Searches.{IsPlaced, IsUnsearched, IsCountsOf, IsLongestOf}
-use Rattle.gamesman.specs.Asks.{IsAskedBy}
+use Rattle.gamesman.specs.Asks.{IsAskedFrom, IsAskedWith, IsAskedIn, ready_text}
+use Rattle.gamesman.specs.inner.Services.{done_of}
+use Rattle.gamesman.specs.declared.service.Ended.{Ended}
+use Rattle.gamesman.specs.declared.service.Service.{Service}
 use Rattle.gamesman.specs.Solving.{IsSolvedBy}
 use Rattle.gamesman.specs.Checking.{IsCheckedBy}
 use Rattle.gamesman.specs.Analysing.{IsAnalysedBy}
 use Rattle.gamesman.specs.Plays.{IsPlayed}
 use Rattle.gamesman.specs.Listing.{IsListed}
+use Rattle.gamesman.specs.Listed.{IsSheeted}
 use Rattle.gamesman.specs.Told.{IsTold}
 use Rattle.gamesman.specs.Engines.{IsEnginePaged, IsEveryGame}
 
@@ -102,17 +106,27 @@ IsAnsweredFromTables g (Counts request) input before after result =
     IsTold (IsCountsOf g.rules request) (IsUnsearched g.rules None) before after result
 IsAnsweredFromTables g (Longest reached limit json) input before after result =
     IsTold (IsLongestOf g.rules g.shown g.move_shown reached limit json) (IsUnsearched g.rules None) before after result
-IsAnsweredFromTables g (Ask request) input before after result =
-    IsAskedBy g.rules g.shown g.move_shown request (IsUnsearched g.rules None) input before after result
 IsAnsweredFromTables g Analyse input before after result = IsAnalysedBy g.rules before after result
 IsAnsweredFromTables g (Play request) input before after result = IsPlayed g.rules g.shown g.move_shown g.picture request input before after result
 
 -- a command about a game is answered
 unfoldable pub IsAnswered : GameSpec → GameCommand → Option (List ℕ) → Option (List ℕ) → Option (List ℕ) → Result ℕ Fault → Type 0
 IsAnswered g (FromTables command) input before after result = IsAnsweredFromTables g command input before after result
+IsAnswered g (Ask request) input before after result = IsAskedFrom request g 0 (ready_text request.ready) input before after result
 IsAnswered g (Locate position json) input before after result = IsLocatedBy g.rules g.shown position.now json before after result
 IsAnswered g (Check folder json) input before after result = IsCheckedBy g.rules unknown_texts json before after result
 IsAnswered g _ input before after result = Unit {0}
+
+-- a command about a game is answered, `ask` from where a service is that has this at hand
+abbrev pub IsAnsweredWith : GameSpec → GameCommand → Service → Option (List ℕ) → Option (List ℕ) → Option (List ℕ) → Result ℕ Fault → Type 0
+IsAnsweredWith g (Ask request) s input before after result = IsAskedWith request g s input before after result
+IsAnsweredWith g command s input before after result = IsAnswered g command input before after result
+
+-- the same up to a line that names a game: if it comes to another game, then however it goes on there, that is how it goes on
+unfoldable pub IsAnsweredIn : GameSpec → GameCommand → Service → Service → Option (List ℕ) → Option (List ℕ) → Option (List ℕ) → Option (List ℕ) → Result Ended Fault → Type 0
+IsAnsweredIn g (Ask request) old new input left before after result = IsAskedIn request g old new input left before after result
+IsAnsweredIn g command old new input left before after result =
+    (answer : Result ℕ Fault) × IsAnswered g command input before after answer × (result ≡ done_of answer)
 
 -- a command about a game is answered; if there is no such game, that is the fault
 abbrev pub IsAnsweredFor : Option GameSpec → GameCommand → Option (List ℕ) → Option (List ℕ) → Option (List ℕ) → Result ℕ Fault → Type 0
@@ -125,6 +139,7 @@ IsDone (Names all form) input before after result = IsListed all form before aft
 IsDone (Game request) input before after result =
     IsAnsweredFor (option_map spec_of (game_of_name request.game.now)) request.command input before after result
 IsDone (AllGames engine) input before after result = IsEveryGame before after result
+IsDone (Sheet request) input before after result = IsSheeted request input before after result
 IsDone _ input before after result = Unit {0}
 
 -- the status that a line ends with: 1 after a fault

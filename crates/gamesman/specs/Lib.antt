@@ -4,6 +4,8 @@ pub mod Outputs
 pub mod Refusals
 pub mod Texts
 pub mod Filters
+pub mod Lists
+pub mod Listed
 pub mod Asks
 pub mod Told
 pub mod Finds

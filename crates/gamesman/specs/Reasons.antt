@@ -2,13 +2,14 @@
 use Rattle.std.specs.Prelude.{ℕ, List, ◌++◌, Option, Some, None, option_map, codes}
 use Rattle.std.specs.Fmt.{decimal}
 use Rattle.gamesman.specs.declared.fault.Fault.{Fault}
-use Rattle.gamesman.specs.declared.fault.Fault.TheVariants.{NoSuchGame, NoSuchPosition, NoSuchPositionInLine, NoSuchTier, NoSuchIndex, NotLegal, NotCanonical, OutOfMemory, NotBuilt, AnotherGames, InputFailed, OutputFailed, OutputClosed, TooMuchInput, EngineNotRead, NotAnEngine}
+use Rattle.gamesman.specs.declared.fault.Fault.TheVariants.{NoSuchGame, NoSuchPosition, NoSuchPositionInLine, NoSuchGameInLine, NoSuchTier, NoSuchIndex, NotLegal, NotCanonical, OutOfMemory, NotBuilt, AnotherGames, InputFailed, OutputFailed, OutputClosed, TooMuchInput, EngineNotRead, NotAnEngine}
 
 -- the words that say what a fault is; nothing is known of those for a build that failed
 abbrev pub words_for : Fault → Option (List ℕ)
 words_for NoSuchGame = Some (codes "no such game")
 words_for NoSuchPosition = Some (codes "no such position")
 words_for (NoSuchPositionInLine line) = Some (codes "no such position in line " ++ decimal line)
+words_for (NoSuchGameInLine line) = Some (codes "no such game in line " ++ decimal line)
 words_for (NoSuchTier tier) = Some (codes "no such tier " ++ decimal tier)
 words_for (NoSuchIndex tier index) = Some (codes "no such index " ++ decimal index ++ codes " in tier " ++ decimal tier)
 words_for (NotLegal tier index) = Some (codes "index " ++ decimal index ++ codes " of tier " ++ decimal tier ++ codes " is no position")

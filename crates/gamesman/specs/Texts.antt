@@ -13,7 +13,11 @@ use Rattle.gm_json.specs.Lines.{IsLineJson}
 use Rattle.gm_json.specs.Moves.{IsMovesJson}
 use Rattle.gm_json.specs.RepliesLines.{IsRepliesJson}
 use Rattle.gm_json.specs.Whys.{IsWhyJson}
-use Rattle.gm_page.specs.ShowTexts.{IsShowText, IsDiagram}
+use Rattle.gm_draw.specs.declared.look.Look.{Look}
+use Rattle.gm_page.specs.ShowTexts.{IsShowText, IsSvg, IsTikz}
+use Rattle.gm_command.specs.declared.requests.DiagramForm.{DiagramForm}
+use Rattle.gm_command.specs.declared.requests.DiagramRequest.{DiagramRequest}
+use Rattle.gm_command.specs.declared.requests.DiagramForm.TheVariants.{Svg, Tikz}
 use Rattle.gm_command.specs.declared.requests.Question.{Question}
 use Rattle.gm_command.specs.declared.requests.Question.TheVariants.{Value, Moves, Replies, Why, Line, Show, Board, Diagram}
 use Rattle.gamesman.specs.Games.{GameSpec}
@@ -43,6 +47,18 @@ module _ (r : Rules) (shown : Position → List ℕ) (move_shown : Position → 
   IsMovesText distinct true = IsTextLine (IsMovesJson r shown move_shown distinct position)
   IsMovesText distinct false = AreMoveRows r shown move_shown distinct position
 
+-- the look of a diagram that is asked for
+abbrev pub look_asked : DiagramRequest → Look
+look_asked asked = record { valued = asked.valued; figures = asked.figures }
+
+-- the diagram of the position with this text in this form: as an SVG document, or as a TikZ picture
+abbrev pub IsDiagramIn : DiagramForm → GameSpec → Look → Bool → List ℕ → List ℕ → Type 0
+IsDiagramIn Svg g look arrow position out = IsSvg g.rules g.shown g.move_shown g.picture look arrow position out
+IsDiagramIn Tikz g look arrow position out = IsTikz g.rules g.shown g.move_shown g.picture look arrow position out
+
+abbrev pub IsDiagramText : GameSpec → DiagramRequest → List ℕ → List ℕ → Type 0
+IsDiagramText g asked position out = IsDiagramIn asked.form g (look_asked asked) asked.arrow position out
+
 -- the answer to a question about the position with this text
 abbrev pub IsTextFor : GameSpec → Question → List ℕ → List ℕ → Type 0
 IsTextFor g (Value true) position out = IsValueLine g.rules g.shown g.move_shown false position out
@@ -56,4 +72,4 @@ IsTextFor g (Line limit true) position out = IsLineJson g.rules g.shown g.move_s
 IsTextFor g (Line limit false) position out = IsLineText g.rules g.shown g.move_shown position limit out
 IsTextFor g (Show explained) position out = IsShowText g.rules g.shown g.move_shown g.picture explained position out
 IsTextFor g Board position out = IsBoardLine g position out
-IsTextFor g (Diagram valued) position out = IsDiagram g.rules g.shown g.move_shown g.picture valued position out
+IsTextFor g (Diagram asked) position out = IsDiagramText g asked position out

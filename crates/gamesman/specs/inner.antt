@@ -1,2 +1,3 @@
 -- What no promise rests on: invariants of private types, and words that only proofs cite.
 pub mod Needed
+pub mod Services

@@ -1,10 +1,11 @@
 //! The answers to questions about a position: the values of its moves, and best play from it.
 ghost use Rattle.std.specs.Prelude.{◌≡◌, ◌++◌, codes, IfOk};
 ghost use Rattle.gamesman.specs.Games.{game_spec};
-ghost use Rattle.gamesman.specs.Texts.{IsQueryLine, IsValueLine, IsPlacedText, IsMovesText, IsBoardLine, IsTextFor};
+ghost use Rattle.gamesman.specs.Texts.{IsQueryLine, IsValueLine, IsPlacedText, IsMovesText, IsBoardLine, IsDiagramText, IsTextFor};
 
-use gm_command::requests::Question;
+use gm_command::requests::{DiagramForm, DiagramRequest, Question};
 use gm_draw::drawn::{draw, mover};
+use gm_draw::look::Look;
 use gm_draw::pictured::Pictured;
 use gm_game::shown::Shown;
 use gm_game::text::value_text;
@@ -15,7 +16,7 @@ use gm_json::line::line_json;
 use gm_json::moves::moves_json;
 use gm_json::replies::replies_json;
 use gm_json::why::why_json;
-use gm_page::show::{diagram_text, show_text};
+use gm_page::show::{show_text, svg_text, tikz_text};
 use gm_play::known::Known;
 use gm_play::place_texts::position_text;
 use gm_play::replies::replies_text;
@@ -47,7 +48,7 @@ pub fn text_for<G: Pictured>(
         Question::Line { limit, .. } => line_text(alloc, known, limit),
         Question::Show { explained } => show_text(alloc, known, explained),
         Question::Board => board_line(alloc, known),
-        Question::Diagram { valued } => diagram_text(alloc, known, valued),
+        Question::Diagram(asked) => diagram_for(alloc, known, asked),
     }
 }
 
@@ -107,6 +108,24 @@ pub fn placed_text<G: Shown>(
         value_json(alloc, known, true)
     } else {
         position_text(alloc, known)
+    }
+}
+
+// Returns the diagram of a position, as the request has it.
+fn diagram_for<G: Pictured>(
+    alloc: Global,
+    known: &Known<'_, G>,
+    asked: DiagramRequest,
+) -> Result<Vec<u8>, AllocError>
+    ensures { IfOk result (λ v. IsDiagramText (game_spec G.Game.rules G.shown G.move_shown G.picture) asked (G.shown known.now.position) v.items) }
+{
+    let look = Look {
+        valued: asked.valued,
+        figures: asked.figures,
+    };
+    match asked.form {
+        DiagramForm::Svg => svg_text(alloc, known, look, asked.arrow),
+        DiagramForm::Tikz => tikz_text(alloc, known, look, asked.arrow),
     }
 }
 

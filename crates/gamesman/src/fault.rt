@@ -15,6 +15,8 @@ pub enum Fault {
     NoSuchPosition,
     /// This line of the input, counted from 1, is not the text of a position.
     NoSuchPositionInLine { line: u64 },
+    /// This line of the input, counted from 1, has no name of a game.
+    NoSuchGameInLine { line: u64 },
     NoSuchTier { tier: u64 },
     NoSuchIndex { tier: u64, index: u64 },
     /// The index is not that of a legal position.
@@ -46,6 +48,7 @@ impl Display for Fault {
             Fault::NoSuchGame => write!(f, "no such game"),
             Fault::NoSuchPosition => write!(f, "no such position"),
             Fault::NoSuchPositionInLine { line } => write!(f, "no such position in line {line}"),
+            Fault::NoSuchGameInLine { line } => write!(f, "no such game in line {line}"),
             Fault::NoSuchTier { tier } => write!(f, "no such tier {tier}"),
             Fault::NoSuchIndex { tier, index } => write!(f, "no such index {index} in tier {tier}"),
             Fault::NotLegal { tier, index } => write!(

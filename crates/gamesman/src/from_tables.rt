@@ -17,7 +17,7 @@ use crate::host::Host;
 use crate::needs::{Needs, needs_of};
 use crate::output::{put, put_text};
 use crate::play::play;
-use crate::search::{counts_of, longest_of, serve};
+use crate::search::{counts_of, longest_of};
 use crate::solve::report_for;
 use crate::tables::BuildOptions;
 use gm_build::build::Built;
@@ -111,7 +111,6 @@ fn write_answer<G: Pictured, I: Read, O: Write, E: Write>(
             limit,
             json,
         } => put_text(output, longest_of(alloc, built, reached, limit, json)),
-        TableCommand::Ask(asked) => serve(alloc, built, asked, input, output),
         TableCommand::Analyse => put_text(output, analysis_lines(alloc, built)),
         TableCommand::Play(asked) => {
             let known = known_at(built, needs.position);

@@ -4,6 +4,7 @@ ghost use Rattle.std.specs.Prelude.{◌≡◌};
 use crate::fault::Fault;
 use crate::games::answer_for;
 use crate::host::Host;
+use crate::service::Service;
 use crate::tables::BuildOptions;
 use gm_build::build_error::BuildError;
 use gm_command::names::{game_named, nearest_name};
@@ -49,6 +50,7 @@ pub fn advise<R: Host, I: Read, O: Write, E: Write + Send>(
                     game,
                     GameCommand::Naming,
                     options,
+                    &mut Service::new(rt.alloc()),
                     input,
                     output,
                     errors,

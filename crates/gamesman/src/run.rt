@@ -9,11 +9,12 @@ ghost use Rattle.gamesman.specs.Reasons.{line_for};
 
 use crate::engine::page_of_games;
 use crate::fault::Fault;
-use crate::games::answer_for;
+use crate::games::answer_all;
 use crate::host::Host;
 use crate::listing::games_text;
 use crate::output::{put, put_all, put_text};
 use crate::reasons::advise;
+use crate::sheet::write_sheet;
 use crate::tables::BuildOptions;
 use arrayvec::ArrayString;
 use gm_command::manual::{Manual, manual_text};
@@ -101,11 +102,12 @@ fn answer<R: Host, I: Read, O: Write, E: Write + Send>(
         Request::Game(request) => match game_named(request.game) {
             Some(game) => {
                 let options = BuildOptions::of(request, manner.terminal);
-                answer_for(rt, game, request.command, options, input, output, errors)
+                answer_all(rt, game, request.command, options, input, output, errors)
             }
             None => Err(Fault::NoSuchGame),
         },
         Request::AllGames { engine } => page_of_games(rt, engine, output),
+        Request::Sheet(request) => write_sheet(rt, request, manner.terminal, input, output, errors),
         Request::Manual(manual) => write_manual(rt.alloc(), manual, output),
     }
 }

@@ -1,62 +1,18 @@
-//! The texts about all tables of a game, and the service that answers positions.
-ghost use Rattle.std.specs.Prelude.{◌≡◌, None, IfOk, OnOk, OnErr, IfErr, is_some};
-ghost use Rattle.std.specs.Io.KnownBytes.{Appends};
+//! The texts about all tables of a game.
+ghost use Rattle.std.specs.Prelude.{◌≡◌, IfOk, is_some};
 ghost use Rattle.gm_tiers.specs.Orders.{IsTierOrder};
 ghost use Rattle.gm_build.specs.Work.{HoldsExactly};
-ghost use Rattle.gm_play.specs.Sessions.{AppendsPart};
 ghost use Rattle.gm_analyse.specs.Bars.{IsCountsText};
-ghost use Rattle.gamesman.specs.Outputs.{IsOutputFault};
-ghost use Rattle.gamesman.specs.Asks.{ready_text, IsAskedBy};
-ghost use Rattle.gamesman.specs.Searches.{IsLongestIn, IsUnsearched};
+ghost use Rattle.gamesman.specs.Searches.{IsLongestIn};
 
-use crate::fault::Fault;
 use crate::longest::longest_in;
-use crate::output::put;
-use crate::run::DONE;
 use gm_analyse::bars::counts_text;
 use gm_build::build::Built;
-use gm_command::requests::{AskRequest, CountsRequest};
+use gm_command::requests::CountsRequest;
 use gm_find::reached::Reached;
 use gm_game::shown::Shown;
-use gm_json::ask::{READY, ask};
-use gm_play::closed::Closed;
 use gm_play::known_tiers::KnownTiers;
 use std::alloc::{AllocError, Global};
-use std::io::{Read, Write};
-
-/// Answers each position of the input.
-pub fn serve<G: Shown, I: Read, O: Write>(
-    alloc: Global,
-    built: &Built<G>,
-    asked: AskRequest,
-    input: &mut I,
-    output: &mut O,
-) -> Result<u8, Fault>
-    requires order { IsTierOrder G.Game.rules built.now.order }
-    requires held { HoldsExactly built.now.tables built.now.order }
-    ensures { IsAskedBy G.Game.rules G.shown G.move_shown asked (IsUnsearched G.Game.rules None)
-        (I.remaining input.old) (O.contents output.old) (O.contents output.new) result }
-{
-    write_ready(asked.ready, output)?;
-    let tables = Closed {
-        tables: &built.tables,
-    };
-    let tiers = built.order.tiers();
-    ask(alloc, &tables, tiers, asked.answer, input, output)?;
-    Ok(DONE)
-}
-
-// Reports on request that the tables are ready.
-fn write_ready<O: Write>(asked: bool, output: &mut O) -> Result<(), Fault>
-    ensures ok { OnOk result (Appends (O.contents output.old) (O.contents output.new) (ready_text asked)) }
-    ensures err { OnErr result (AppendsPart (O.contents output.old) (O.contents output.new) (ready_text asked)) }
-    ensures fault { IfErr result IsOutputFault }
-{
-    if asked {
-        put(output, READY)?;
-    }
-    Ok(())
-}
 
 /// Returns the counts of all tiers as a text.
 pub fn counts_of<G: Shown>(

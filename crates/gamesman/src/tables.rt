@@ -16,7 +16,7 @@ use gm_backward::plan::Plan;
 use gm_backward::source::Counter;
 use gm_build::build::{Built, build_from};
 use gm_build::build_error::BuildError;
-use gm_command::requests::{GameRequest, TableLocation, Telling};
+use gm_command::requests::{GameRequest, SheetRequest, TableLocation, Telling};
 use gm_game::game::Game;
 use gm_game::limits::NAME;
 use gm_tiers::order::TierOrder;
@@ -46,6 +46,16 @@ impl<'a> BuildOptions<'a> {
     pub fn of(request: GameRequest<'a>, terminal: bool) -> Self {
         BuildOptions {
             tables: request.tables,
+            plan: request.plan,
+            progress: progress_at(terminal, request.progress),
+        }
+    }
+
+    /// Returns the options of a request for a sheet, given whether standard error is a terminal. The tables are in memory, since a
+    /// folder has those of one game.
+    pub fn of_sheet(request: SheetRequest<'a>, terminal: bool) -> Self {
+        BuildOptions {
+            tables: TableLocation::Memory,
             plan: request.plan,
             progress: progress_at(terminal, request.progress),
         }

@@ -6,9 +6,10 @@ use Rattle.clap.proofs.OnLiterals.{clap_on_literals}
 use Rattle.gm_find.specs.declared.sought.Choice.TheVariants.{First}
 use Rattle.gm_game.specs.declared.position.Value.TheVariants.{Win}
 use Rattle.gm_play.specs.declared.sides.Side.TheVariants.{Computer}
+use Rattle.gm_command.specs.declared.requests.DiagramForm.TheVariants.{Tikz}
 use Rattle.gm_command.specs.declared.requests.LineForm.TheVariants.{Rows}
 use Rattle.gm_command.specs.declared.requests.ListForm.TheVariants.{Names, Titles}
-use Rattle.gm_command.specs.declared.requests.Question.TheVariants.{Value, Board}
+use Rattle.gm_command.specs.declared.requests.Question.TheVariants.{Value, Board, Diagram}
 use Rattle.gm_command.specs.declared.requests.Report.TheVariants.{Lines as Listed}
 use Rattle.gm_command.specs.declared.requests.Telling.{Telling}
 use Rattle.gm_command.specs.declared.requests.Telling.TheVariants.{Terminal, Quiet}
@@ -80,6 +81,19 @@ board_in_json = refl
 diagram_in_json : reads (codes "show" ∷ codes "countdown" ∷ codes "--json" ∷ codes "--svg" ∷ []) ≡ None
 unfolding clap_on_literals command_lines
 diagram_in_json = refl
+
+two_diagrams : reads (codes "show" ∷ codes "countdown" ∷ codes "--tikz" ∷ codes "--svg" ∷ []) ≡ None
+unfolding clap_on_literals command_lines
+two_diagrams = refl
+
+arrow_in_tikz : reads (codes "show" ∷ codes "countdown" ∷ codes "--tikz" ∷ codes "--arrow" ∷ [])
+    ≡ about (codes "countdown") (exploring None (Diagram (record { form = Tikz; valued = true; figures = false; arrow = true }))) None plan Terminal
+unfolding clap_on_literals command_lines
+arrow_in_tikz = refl
+
+arrow_in_json : reads (codes "show" ∷ codes "countdown" ∷ codes "--json" ∷ codes "--arrow" ∷ []) ≡ None
+unfolding clap_on_literals command_lines
+arrow_in_json = refl
 
 by_eight : reads (codes "solve" ∷ codes "dao" ∷ codes "F" ∷ codes "--workers" ∷ codes "8" ∷ codes "--shards" ∷ codes "2" ∷ [])
     ≡ about (codes "dao") (solving false) (Some (codes "F", false)) (record { workers = 8; shards = 2; piece = 64; fastest = true }) Terminal

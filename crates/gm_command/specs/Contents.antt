@@ -16,6 +16,7 @@ use Rattle.gm_command.specs.declared.requests.TableCommand.TheVariants as table
 use Rattle.gm_command.specs.declared.requests.GameCommand.{GameCommand}
 use Rattle.gm_command.specs.declared.requests.GameCommand.TheVariants as command
 use Rattle.gm_command.specs.declared.requests.GameRequest.{GameRequest}
+use Rattle.gm_command.specs.declared.requests.SheetRequest.{SheetRequest}
 use Rattle.gm_command.specs.declared.requests.Request.{Request}
 use Rattle.gm_command.specs.declared.requests.Request.TheVariants as request
 
@@ -52,11 +53,22 @@ pub record GameContent : Type 0 where
   pub plan : PlanNumbers
   pub progress : Telling
 
+-- what a request for a sheet says: the game's name, the heading, whether values are shown, whether only the moves of the side to move are counted, the plan, and
+-- how progress is reported
+pub record SheetContent : Type 0 where
+  pub game : Option (List ℕ)
+  pub title : Option (List ℕ)
+  pub valued : Bool
+  pub own_moves : Bool
+  pub plan : PlanNumbers
+  pub progress : Telling
+
 -- what a request says
 pub data Content : Type 0 where
   list_of_games : Bool → ListForm → Content
   about_game : GameContent → Content
   page_of_games : List ℕ → Content
+  sheet_of_list : SheetContent → Content
   about_program : Manual → Content
 
 -- the same of the code's types, which have references
@@ -77,12 +89,12 @@ table_content (table.At tier index json) = placed tier index json
 table_content (table.Find search) = finding search
 table_content (table.Counts request) = counting request
 table_content (table.Longest reached limit json) = seeking_longest reached limit json
-table_content (table.Ask request) = answering request
 table_content table.Analyse = analysing
 table_content (table.Play play) = playing (option_map (λ t. t.now) play.position) play.first play.drawn
 
 abbrev pub command_content : GameCommand → CommandContent
 command_content (command.FromTables asked) = table_content asked
+command_content (command.Ask request) = answering request
 command_content (command.Locate position json) = locating position.now json
 command_content (command.Check folder json) = checking folder.now json
 command_content command.Naming = naming
@@ -90,8 +102,19 @@ command_content command.Naming = naming
 abbrev pub game_content : GameRequest → GameContent
 game_content r = record { game = r.game.now; command = command_content r.command; kept = kept_at r.tables; plan = plan_of r.plan; progress = r.progress }
 
+abbrev pub sheet_content : SheetRequest → SheetContent
+sheet_content r = record {
+  game = option_map (λ t. t.now) r.game;
+  title = option_map (λ t. t.now) r.title;
+  valued = r.valued;
+  own_moves = r.own_moves;
+  plan = plan_of r.plan;
+  progress = r.progress;
+}
+
 abbrev pub content_of : Request → Content
 content_of (request.List all form) = list_of_games all form
 content_of (request.Game game) = about_game (game_content game)
 content_of (request.AllGames engine) = page_of_games engine.now
+content_of (request.Sheet sheet) = sheet_of_list (sheet_content sheet)
 content_of (request.Manual manual) = about_program manual

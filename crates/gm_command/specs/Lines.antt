@@ -5,7 +5,7 @@ use Rattle.gm_command.specs.declared.words.ArgKind.{ArgKind}
 use Rattle.gm_command.specs.declared.words.ArgKind.TheVariants as arg
 use Rattle.gm_command.specs.declared.words.ArgSpec.{ArgSpec}
 use Rattle.gm_command.specs.declared.words.CommandName.{CommandName}
-use Rattle.gm_command.specs.declared.words.CommandName.TheVariants.{Game, Completions, Man, List as ListOfGames}
+use Rattle.gm_command.specs.declared.words.CommandName.TheVariants.{Game, Sheet, Completions, Man, List as ListOfGames}
 use Rattle.gm_command.specs.declared.words.GameCommandName.{GameCommandName}
 use Rattle.gm_command.specs.declared.words.GameCommandName.TheVariants as game_command
 use Rattle.gm_command.specs.declared.words.CommandSpec.{CommandSpec}
@@ -101,8 +101,8 @@ abbrev pub line_line : Line
 line_line = game_command_line game_command.Line (codes "line") (game ∷ start ∷ any_number (codes "limit") 1 ∷ json ∷ folder ∷ read_only ∷ quiet ∷ [])
 
 abbrev pub show_line : Line
-show_line = game_command_line game_command.Show (codes "show") (game ∷ start ∷ word (codes "svg") flag ∷ word (codes "no-value") flag ∷ json
-    ∷ folder ∷ read_only ∷ quiet ∷ [])
+show_line = game_command_line game_command.Show (codes "show") (game ∷ start ∷ word (codes "svg") flag ∷ word (codes "tikz") flag ∷ word (codes "no-value") flag
+    ∷ word (codes "figures") flag ∷ word (codes "arrow") flag ∷ json ∷ folder ∷ read_only ∷ quiet ∷ [])
 
 abbrev pub page_line : Line
 page_line = game_command_line game_command.Page (codes "page") (word (codes "GAME") (place_unless (codes "all")) ∷ start
@@ -122,6 +122,10 @@ find_line = game_command_line game_command.Find (codes "find") (game ∷ word (c
     ∷ any_number (codes "min-moves") 1 ∷ any_number (codes "min-tries") 1 ∷ word (codes "tries") flag ∷ word (codes "sort") (text false)
     ∷ word (codes "spread") flag ∷ any_number (codes "per-move") 1 ∷ any_number (codes "orient") 0 ∷ reached ∷ any_number (codes "limit") 1 ∷ any_number (codes "random") 1 ∷ any_number (codes "seed") 0
     ∷ word (codes "show") flag ∷ json ∷ word (codes "page") flag ∷ folder ∷ read_only ∷ quiet ∷ [])
+
+abbrev pub sheet_line : Line
+sheet_line = line Sheet (codes "sheet") (word (codes "GAME") place_optional ∷ word (codes "title") (text false) ∷ word (codes "no-value") flag
+    ∷ word (codes "own-moves") flag ∷ word (codes "workers") (number (pos 1) (pos 16) (Some (codes "4"))) ∷ quiet ∷ [])
 
 abbrev pub counts_line : Line
 counts_line = game_command_line game_command.Counts (codes "counts") (game ∷ word (codes "legal") flag ∷ word (codes "by-tier") flag ∷ reached ∷ word (codes "csv") flag ∷ json
@@ -156,7 +160,7 @@ man_line = line Man (codes "man") []
 -- the commands, in the order of the help
 unfoldable pub command_lines : List Line
 command_lines = list_line ∷ solve_line ∷ query_line ∷ moves_line ∷ why_line ∷ line_line ∷ show_line ∷ page_line ∷ at_line ∷ locate_line ∷ find_line
-    ∷ counts_line ∷ longest_line ∷ ask_line ∷ analyse_line ∷ check_line ∷ play_line ∷ completions_line ∷ man_line ∷ []
+    ∷ sheet_line ∷ counts_line ∷ longest_line ∷ ask_line ∷ analyse_line ∷ check_line ∷ play_line ∷ completions_line ∷ man_line ∷ []
 
 -- the command of this name
 abbrev pub line_named : List ℕ → Option Line

@@ -13,6 +13,8 @@ use Rattle.gm_play.specs.declared.sides.Side.TheVariants.{You, Computer}
 use Rattle.gm_command.specs.declared.manual.Manual.{Manual}
 use Rattle.gm_command.specs.declared.manual.Manual.TheVariants.{Bash, Zsh, Fish, Man as ManualPage}
 use Rattle.gm_command.specs.declared.requests.CountsRequest.{CountsRequest}
+use Rattle.gm_command.specs.declared.requests.DiagramForm.{DiagramForm}
+use Rattle.gm_command.specs.declared.requests.DiagramForm.TheVariants.{Svg, Tikz}
 use Rattle.gm_command.specs.declared.requests.Question.{Question}
 use Rattle.gm_command.specs.declared.requests.Question.TheVariants.{Value, Moves, Replies, Why, Line as BestLine, Show, Board, Diagram}
 use Rattle.gm_command.specs.declared.requests.ListForm.{ListForm}
@@ -20,14 +22,14 @@ use Rattle.gm_command.specs.declared.requests.ListForm.TheVariants.{Names, Title
 use Rattle.gm_command.specs.declared.requests.Telling.{Telling}
 use Rattle.gm_command.specs.declared.requests.Telling.TheVariants.{Terminal, Lines, Quiet}
 use Rattle.gm_command.specs.declared.words.CommandName.{CommandName}
-use Rattle.gm_command.specs.declared.words.CommandName.TheVariants.{Game, Completions, Man, List as ListOfGames}
+use Rattle.gm_command.specs.declared.words.CommandName.TheVariants.{Game, Sheet, Completions, Man, List as ListOfGames}
 use Rattle.gm_command.specs.declared.words.GameCommandName.{GameCommandName}
 use Rattle.gm_command.specs.declared.words.GameCommandName.TheVariants as command
 use Rattle.gm_command.specs.Lines.{Kind, Word, Line, number, tier, line_named}
 use Rattle.gm_command.specs.Given.{text_in, has, is_plain_number, no_limit, option_number, number_or}
 use Rattle.gm_command.specs.Relations.{are_related}
 use Rattle.gm_command.specs.Searching.{ask_in, search_in}
-use Rattle.gm_command.specs.Contents.{CommandContent, solving, exploring, filtering, paging, placed, locating, finding, counting, answering, analysing, checking, playing, seeking_longest, PlanNumbers, GameContent, Content, list_of_games, about_game, page_of_games, about_program}
+use Rattle.gm_command.specs.Contents.{CommandContent, solving, exploring, filtering, paging, placed, locating, finding, counting, answering, analysing, checking, playing, seeking_longest, PlanNumbers, GameContent, SheetContent, Content, list_of_games, about_game, page_of_games, sheet_of_list, about_program}
 
 -- the number that is written so in a text
 abbrev pub written : List ℕ → Option ℕ
@@ -93,12 +95,25 @@ module _ (rows : List Row) where
   abbrev pub playing_in : CommandContent
   playing_in = playing (text_in rows (codes "from")) (if has rows (codes "second") then Computer else You) (has rows (codes "show"))
 
-  -- how a board is shown: as a diagram with `--svg`, without its value with `--no-value`; in JSON; otherwise with the notation explained if no position is
-  -- given
+  -- the form of a diagram: an SVG document with `--svg`, and a TikZ picture with `--tikz`
+  abbrev pub diagram_form : Option DiagramForm
+  diagram_form = if has rows (codes "svg") then Some Svg else (if has rows (codes "tikz") then Some Tikz else None)
+
+  -- how a board is shown: as a diagram, without its value with `--no-value`, with figures of chess men with `--figures`, and with its best move marked with
+  -- `--arrow`; in JSON; otherwise with the notation explained if no position is given
+  abbrev pub drawing_by : Option DiagramForm → Option Question
+  drawing_by (Some form) = Some (Diagram (record {
+    form = form;
+    valued = not (has rows (codes "no-value"));
+    figures = has rows (codes "figures");
+    arrow = has rows (codes "arrow");
+  }))
+  drawing_by None =
+      if has rows (codes "no-value") || has rows (codes "figures") || has rows (codes "arrow") then None
+      else (if json_in then Some Board else Some (Show (not (is_some (text_in rows (codes "POSITION"))))))
+
   abbrev pub drawing_in : Option Question
-  drawing_in = if has rows (codes "svg") then Some (Diagram (not (has rows (codes "no-value"))))
-      else (if has rows (codes "no-value") then None
-      else (if json_in then Some Board else Some (Show (not (is_some (text_in rows (codes "POSITION")))))))
+  drawing_in = drawing_by diagram_form
 
   -- a page of so many positions, with the engine if there is one
   abbrev pub paging_in : ℕ → CommandContent
@@ -153,6 +168,17 @@ module _ (rows : List Row) where
       record { game = game; command = content; kept = folder_in command; plan = plan; progress = progress_in }) plan_in) (command_in command))
       (text_in rows (codes "GAME"))
 
+  -- a request for a sheet: the game's name, the heading, what is shown of a value, the plan and the report of progress
+  abbrev pub sheet_in : Option SheetContent
+  sheet_in = option_map (λ plan. record {
+    game = text_in rows (codes "GAME");
+    title = text_in rows (codes "title");
+    valued = not (has rows (codes "no-value"));
+    own_moves = has rows (codes "own-moves");
+    plan = plan;
+    progress = progress_in;
+  }) plan_in
+
   -- how the games are listed: in JSON, with their titles, or by their names
   abbrev pub list_form_in : ListForm
   list_form_in = if json_in then JsonLines else (if has rows (codes "titles") then Titles else Names)
@@ -162,6 +188,7 @@ module _ (rows : List Row) where
   request_in ListOfGames = Some (list_of_games (has rows (codes "all")) list_form_in)
   request_in (Game command) = if has rows (codes "all") then option_map (λ e. page_of_games e) (text_in rows (codes "engine"))
       else option_map (λ g. about_game g) (game_in command)
+  request_in Sheet = option_map (λ s. sheet_of_list s) sheet_in
   request_in Completions = option_map (λ m. about_program m) (option_and_then manual_named (text_in rows (codes "SHELL")))
   request_in Man = Some (about_program ManualPage)
 

@@ -10,7 +10,7 @@ use Rattle.gm_command.specs.Lines.{Kind, Word, place_unless}
 abbrev pub needed_for : List ℕ → Option (List ℕ)
 needed_for name =
     if bytes_eq name (codes "read-only") then Some (codes "folder")
-    else (if bytes_eq name (codes "no-value") then Some (codes "svg")
+    else (if bytes_eq name (codes "no-value") || bytes_eq name (codes "figures") || bytes_eq name (codes "arrow") then Some (codes "svg")
     else (if bytes_eq name (codes "seed") then Some (codes "random")
     else (if bytes_eq name (codes "per-move") || bytes_eq name (codes "orient") then Some (codes "spread")
     else (if bytes_eq name (codes "all") then Some (codes "engine")
@@ -26,10 +26,12 @@ barred_for name =
     else (if bytes_eq name (codes "titles") then codes "json" ∷ []
     else (if bytes_eq name (codes "page") then codes "json" ∷ codes "show" ∷ []
     else (if bytes_eq name (codes "show") then codes "json" ∷ []
-    else (if bytes_eq name (codes "svg") then codes "json" ∷ []
+    else (if bytes_eq name (codes "svg") then codes "json" ∷ codes "tikz" ∷ []
+    else (if bytes_eq name (codes "tikz") then codes "json" ∷ []
     else (if bytes_eq name (codes "quiet") then codes "progress" ∷ []
     else (if bytes_eq name (codes "values") then codes "distinct" ∷ []
-    else [])))))))))
+    else (if bytes_eq name (codes "own-moves") then codes "no-value" ∷ []
+    else [])))))))))))
 
 -- one of the names is this one
 abbrev pub is_among : List (List ℕ) → List ℕ → Bool

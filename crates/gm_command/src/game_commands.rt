@@ -3,31 +3,50 @@ ghost use Rattle.std.specs.Prelude.{◌≡◌, codes, option_and_then, option_ma
 ghost use Rattle.std.specs.Result.{result_ok};
 ghost use Rattle.gm_command.specs.Contents.{command_content};
 ghost use Rattle.gm_command.specs.Given.{rows_in, text_in, option_number};
-ghost use Rattle.gm_command.specs.Reading.{written, asking, asking_each, drawing_in, paging_in, place_given, playing_in, moves_asked, command_in};
+ghost use Rattle.gm_command.specs.Reading.{written, asking, asking_each, diagram_form, drawing_in, paging_in, place_given, playing_in, moves_asked, command_in};
 
 use crate::given::{has, number_in, text_in};
-use crate::requests::{GameCommand, PageRequest, PlayRequest, Question, TableCommand};
+use crate::requests::{
+    DiagramForm, DiagramRequest, GameCommand, PageRequest, PlayRequest, Question, TableCommand,
+};
 use crate::searches::{ask_of, counts_of, limit_of, search_of};
 use crate::words::GameCommandName;
 use clap::ArgMatches;
 use gm_game::text::read_decimal;
 use gm_play::sides::Side;
 
-// Returns how a board is shown. Only a diagram can leave out the value.
+// Returns the form of a diagram, if there is to be one.
+fn diagram_form(inner: &ArgMatches<'_>) -> Option<DiagramForm>
+    ensures { result ≡ diagram_form (rows_in inner.now) }
+{
+    if has(inner, "svg") {
+        Some(DiagramForm::Svg)
+    } else if has(inner, "tikz") {
+        Some(DiagramForm::Tikz)
+    } else {
+        None
+    }
+}
+
+// Returns how a board is shown. Only a diagram can leave out the value, or have figures or an arrow.
 fn show_of(inner: &ArgMatches<'_>) -> Option<Question>
     ensures { result ≡ drawing_in (rows_in inner.now) }
 {
     let valued = !has(inner, "no-value");
-    if has(inner, "svg") {
-        Some(Question::Diagram { valued })
-    } else if !valued {
-        None
-    } else if has(inner, "json") {
-        Some(Question::Board)
-    } else {
-        Some(Question::Show {
+    let figures = has(inner, "figures");
+    let arrow = has(inner, "arrow");
+    match diagram_form(inner) {
+        Some(form) => Some(Question::Diagram(DiagramRequest {
+            form,
+            valued,
+            figures,
+            arrow,
+        })),
+        None if !valued || figures || arrow => None,
+        None if has(inner, "json") => Some(Question::Board),
+        None => Some(Question::Show {
             explained: text_in(inner, "POSITION").is_none(),
-        })
+        }),
     }
 }
 
@@ -156,7 +175,7 @@ pub(crate) fn command_of<'a>(
             limit: limit_of(inner),
             json,
         })),
-        GameCommandName::Ask => Some(GameCommand::FromTables(TableCommand::Ask(ask_of(inner)?))),
+        GameCommandName::Ask => Some(GameCommand::Ask(ask_of(inner)?)),
         GameCommandName::Analyse => Some(GameCommand::FromTables(TableCommand::Analyse)),
         GameCommandName::Check => Some(GameCommand::Check {
             folder: text_in(inner, "FOLDER")?,

@@ -109,7 +109,10 @@ static SHOW: CommandSpec = CommandSpec {
         GAME,
         START,
         word!("svg": Flag, "Draw a diagram for print, as an SVG document"),
+        word!("tikz": Flag, "Draw a diagram for print, as a TikZ picture for LaTeX"),
         word!("no-value": Flag, "Leave the value out of the diagram, as for a puzzle"),
+        word!("figures": Flag, "Draw chess men as figures in the diagram"),
+        word!("arrow": Flag, "Mark the best move in the diagram by an arrow or a ring"),
         JSON,
         FOLDER,
         READ_ONLY,
@@ -192,6 +195,22 @@ static FIND: CommandSpec = CommandSpec {
         word!("page": Flag, "Write an HTML page with a diagram of each position and its solution to unfold"),
         FOLDER,
         READ_ONLY,
+        QUIET,
+    ],
+};
+
+static SHEET: CommandSpec = CommandSpec {
+    command: CommandName::Sheet,
+    name: "sheet",
+    alias: None,
+    about: "Makes an HTML page for print of a list of positions: a diagram of each, and the solutions at the end",
+    examples: "Examples:\n  gamesman find dao --value win --remoteness 7..11 --random 12 | gamesman sheet dao > puzzles.html\n  gamesman sheet --title 'Saturday' --own-moves < list.txt > page.html",
+    words: &[
+        word!("GAME": Optional, "The game of all positions, each the first column of a line; without it a line has a game, a tab and a position"),
+        word!("title": Text("TEXT"), "The heading of the page (default: Puzzles)"),
+        word!("no-value": Flag, "Leave the value out of each diagram"),
+        word!("own-moves": Flag, "Count only the moves of the side to move, as in `x wins in 3`"),
+        word!("workers": Number("N", 1..=16, WORKERS_WORD), "Number of worker threads, 1 to 16"),
         QUIET,
     ],
 };
@@ -310,7 +329,7 @@ static MAN: CommandSpec = CommandSpec {
 
 /// Returns all commands, in the order of the help.
 #[tactic(auto, unfolding(crate::specs::Lines::command_lines))]
-pub(crate) fn lines() -> [&'static CommandSpec; 19]
+pub(crate) fn lines() -> [&'static CommandSpec; 20]
     ensures { map (λ line. line_of_spec line.now) result ≡ command_lines }
 {
     [
@@ -325,6 +344,7 @@ pub(crate) fn lines() -> [&'static CommandSpec; 19]
         &AT,
         &LOCATE,
         &FIND,
+        &SHEET,
         &COUNTS,
         &LONGEST,
         &ASK,

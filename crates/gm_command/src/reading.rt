@@ -2,10 +2,10 @@
 ghost use Rattle.std.specs.Prelude.{◌≡◌, false, codes, MatchResult, map, option_map};
 ghost use Rattle.std.specs.Option.{option_or};
 ghost use Rattle.clap.specs.Words.{kind_of, subcommand_rows_of};
-ghost use Rattle.gm_command.specs.Contents.{content_of, game_content, kept_at, plan_of as numbers_of};
+ghost use Rattle.gm_command.specs.Contents.{content_of, game_content, sheet_content, kept_at, plan_of as numbers_of};
 ghost use Rattle.gm_command.specs.Given.{rows_in, text_in};
 ghost use Rattle.gm_command.specs.Lines.{line_of_spec};
-ghost use Rattle.gm_command.specs.Reading.{folder_in, plan_in, progress_in, only_reads, list_form_in, game_in, request_in, request_with, request_of as content_in};
+ghost use Rattle.gm_command.specs.Reading.{folder_in, plan_in, progress_in, only_reads, list_form_in, game_in, sheet_in, request_in, request_with, request_of as content_in};
 ghost use Rattle.gm_command.specs.Readings.{IsOutcome, IsReadingOf, why_not};
 
 use crate::commands::gamesman;
@@ -16,7 +16,9 @@ use crate::lines::line_named;
 use crate::manual::{Manual, manual_of};
 use crate::numbers::are_plain;
 use crate::relations::are_related;
-use crate::requests::{GameRequest, ListForm, Reading, Request, TableLocation, Telling};
+use crate::requests::{
+    GameRequest, ListForm, Reading, Request, SheetRequest, TableLocation, Telling,
+};
 use crate::searches::{json_of, order_of, sought_of, spread_of};
 use crate::words::{CommandName, CommandSpec, GameCommandName};
 use clap::error::ErrorKind;
@@ -110,6 +112,20 @@ fn game_request_of<'a>(command: GameCommandName, inner: &ArgMatches<'a>) -> Opti
     })
 }
 
+// Reads a line of `sheet`.
+fn sheet_request_of<'a>(inner: &ArgMatches<'a>) -> Option<SheetRequest<'a>>
+    ensures { option_map sheet_content result ≡ sheet_in (rows_in inner.now) }
+{
+    Some(SheetRequest {
+        game: text_in(inner, "GAME"),
+        title: text_in(inner, "title"),
+        valued: !has(inner, "no-value"),
+        own_moves: has(inner, "own-moves"),
+        plan: plan_of(inner)?,
+        progress: progress_of(inner),
+    })
+}
+
 // Returns the form in which the games are listed. The command line accepts at most one of these words.
 fn list_form_of(inner: &ArgMatches<'_>) -> ListForm
     ensures { result ≡ list_form_in (rows_in inner.now) }
@@ -136,6 +152,7 @@ fn command_request_of<'a>(command: CommandName, inner: &ArgMatches<'a>) -> Optio
             engine: text_in(inner, "engine")?,
         }),
         CommandName::Game(command) => Some(Request::Game(game_request_of(command, inner)?)),
+        CommandName::Sheet => Some(Request::Sheet(sheet_request_of(inner)?)),
         CommandName::Completions => Some(Request::Manual(manual_of(inner)?)),
         CommandName::Man => Some(Request::Manual(Manual::Man)),
     }

@@ -24,7 +24,7 @@ pub(crate) fn needed_by(name: &str) -> Option<&'static str>
 {
     match name {
         "read-only" => Some("folder"),
-        "no-value" => Some("svg"),
+        "no-value" | "figures" | "arrow" => Some("svg"),
         "seed" => Some("random"),
         "per-move" | "orient" => Some("spread"),
         "all" => Some("engine"),
@@ -44,9 +44,11 @@ pub(crate) fn barred_by(name: &str) -> &'static [&'static str]
         "titles" => &["json"],
         "page" => &["json", "show"],
         "show" => &["json"],
-        "svg" => &["json"],
+        "svg" => &["json", "tikz"],
+        "tikz" => &["json"],
         "quiet" => &["progress"],
         "values" => &["distinct"],
+        "own-moves" => &["no-value"],
         _ => &[],
     }
 }

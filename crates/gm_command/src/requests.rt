@@ -19,6 +19,27 @@ pub enum TableLocation<'a> {
     ReadOnly(&'a str),
 }
 
+/// The form of a diagram for print.
+#[derive(Clone, Copy, Debug, PartialEq, Eq)]
+pub enum DiagramForm {
+    /// An SVG document.
+    Svg,
+    /// A TikZ picture, for LaTeX.
+    Tikz,
+}
+
+/// A request for a diagram for print.
+#[derive(Clone, Copy, Debug, PartialEq, Eq)]
+pub struct DiagramRequest {
+    pub form: DiagramForm,
+    /// Whether the value is under the board.
+    pub valued: bool,
+    /// Whether chess men are figures.
+    pub figures: bool,
+    /// Whether the best move is marked.
+    pub arrow: bool,
+}
+
 /// A question about a position.
 #[derive(Clone, Copy, Debug, PartialEq, Eq)]
 pub enum Question {
@@ -36,8 +57,8 @@ pub enum Question {
     Show { explained: bool },
     /// The board and the value, in JSON.
     Board,
-    /// The board as a diagram for print; on request, with the value under it.
-    Diagram { valued: bool },
+    /// The board as a diagram for print.
+    Diagram(DiagramRequest),
 }
 
 /// A request for a page that explores the positions that play reaches.
@@ -158,8 +179,6 @@ pub enum TableCommand<'a> {
         limit: usize,
         json: bool,
     },
-    /// An answer to each position of the input.
-    Ask(AskRequest),
     /// The counts of each tier.
     Analyse,
     Play(PlayRequest<'a>),
@@ -169,6 +188,8 @@ pub enum TableCommand<'a> {
 #[derive(Clone, Copy)]
 pub enum GameCommand<'a> {
     FromTables(TableCommand<'a>),
+    /// An answer to each position of the input, which may go on with other games.
+    Ask(AskRequest),
     /// The tier and index of a position.
     Locate { position: &'a str, json: bool },
     Check { folder: &'a str, json: bool },
@@ -185,6 +206,23 @@ pub struct GameRequest<'a> {
     /// The place of the tables that the command needs.
     pub tables: TableLocation<'a>,
     /// How these tables are made.
+    pub plan: Plan,
+    /// How it is reported how far that is.
+    pub progress: Telling,
+}
+
+/// A request for a sheet of the positions of a list.
+#[derive(Clone, Copy)]
+pub struct SheetRequest<'a> {
+    /// The name of the game of all positions. Without one each line of the list has the name of its game.
+    pub game: Option<&'a str>,
+    /// The heading. Without one it is a word for all.
+    pub title: Option<&'a str>,
+    /// Whether the value of each position is shown.
+    pub valued: bool,
+    /// Whether only the moves of the side to move are counted.
+    pub own_moves: bool,
+    /// How the tables of each game are made.
     pub plan: Plan,
     /// How it is reported how far that is.
     pub progress: Telling,
@@ -209,6 +247,7 @@ pub enum Request<'a> {
     Game(GameRequest<'a>),
     /// The page of all games, with the engine in this file.
     AllGames { engine: &'a str },
+    Sheet(SheetRequest<'a>),
     /// A text about the program.
     Manual(Manual),
 }

@@ -63,6 +63,7 @@ pub(crate) enum GameCommandName {
 pub(crate) enum CommandName {
     List,
     Game(GameCommandName),
+    Sheet,
     Completions,
     Man,
 }

@@ -1,5 +1,5 @@
 -- The rules of Connect Four on boards: a board is a list of cells as the player to move sees them, row by row, the top row first.
-use Rattle.std.specs.Prelude.{ℕ, ◌+◌, ◌-◌, ◌*◌, ◌/◌, Bool, not, ◌&&◌, ◌||◌, ◌==◌, nat_le, nat_lt, List, [], ◌∷◌, map, replicate, length, set, if◌then◌else◌, Option, None, Some}
+use Rattle.std.specs.Prelude.{ℕ, ◌+◌, ◌-◌, ◌*◌, ◌/◌, ◌%◌, Bool, not, ◌&&◌, ◌||◌, ◌==◌, nat_le, nat_lt, List, [], ◌∷◌, ◌++◌, map, replicate, length, set, if◌then◌else◌, Option, None, Some}
 use Rattle.std.specs.List.{list_all, range_with_len}
 use Rattle.gm_game.specs.declared.position.End.{End}
 use Rattle.gm_game.specs.declared.position.End.TheVariants.{Lose, Tie}
@@ -11,10 +11,11 @@ use Rattle.gm_board.specs.Cells.{is_mine, is_theirs, is_empty, is_taken, cell_at
 use Rattle.gm_board.specs.Patterns.{has_filled}
 use Rattle.gm_board.specs.Permutations.{permute}
 use Rattle.gm_pieces.specs.MoveGames.{MoveGame, move_rules}
-use Rattle.gm_stacks.specs.Stacks.{mirror, height_of, has_piece, stacked_boards, stacked_index, stacked_board}
+use Rattle.gm_stacks.specs.Heights.{total, middle_heights}
+use Rattle.gm_stacks.specs.Stacks.{mirror, height_of, heights, has_piece, stacked_boards, stacked_index, stacked_board}
 use Rattle.gm_connect.specs.declared.size.Size.{Size}
 use Rattle.gm_connect.specs.Lines.{lines}
-use Rattle.gm_connect.specs.Sizes.{size_of, name_of, columns, rows, cells}
+use Rattle.gm_connect.specs.Sizes.{size_of, name_of, columns, rows, middle, cells, middle_cells, outer_cells}
 
 -- how many pieces the mover has
 abbrev pub mine : List Cell → ℕ
@@ -24,7 +25,7 @@ mine b = number_of is_mine b
 abbrev pub theirs : List Cell → ℕ
 theirs b = number_of is_theirs b
 
--- how many pieces there are: the tier
+-- how many pieces there are
 abbrev pub pieces : List Cell → ℕ
 pieces b = mine b + theirs b
 
@@ -84,21 +85,45 @@ undo s d c = set (map turned d) (topmost s d c) Empty
 unfoldable pub mirrors : Size → List (List ℕ)
 mirrors s = range_with_len 0 (cells s) ∷ mirror (columns s) (rows s) ∷ []
 
+-- how many pieces are in the middle columns that are numbered apart
+unfoldable pub middle_pieces : Size → List Cell → ℕ
+middle_pieces s b = total (middle_heights (middle s) (heights (columns s) (rows s) (has_piece b)))
+
+-- how many numbers of pieces the middle columns can have
+abbrev pub middle_range : Size → ℕ
+middle_range s = middle_cells s + 1
+
+-- the tier: how many pieces the other columns have, and how many the middle ones
+abbrev pub tier_of : Size → List Cell → ℕ
+tier_of s b = (pieces b - middle_pieces s b) * middle_range s + middle_pieces s b
+
+-- how many pieces the other columns have in a tier, and how many the middle ones
+abbrev pub outer_in : Size → ℕ → ℕ
+outer_in s t = t / middle_range s
+
+abbrev pub middle_in : Size → ℕ → ℕ
+middle_in s t = t % middle_range s
+
+abbrev pub pieces_in : Size → ℕ → ℕ
+pieces_in s t = outer_in s t + middle_in s t
+
 -- how many indexes a tier has
 unfoldable pub size_at : Size → ℕ → ℕ
-size_at s t = if nat_le t (cells s) then stacked_boards (columns s) (rows s) t (t / 2) else 0
+size_at s t = if nat_le (outer_in s t) (outer_cells s) then stacked_boards (columns s) (rows s) (middle s) (outer_in s t) (middle_in s t) (pieces_in s t / 2) else 0
 
--- the tier with one more piece, unless the board is full
+-- the tiers with one more piece, on the middle columns and on the others, unless they are full
 unfoldable pub child_tiers_of : Size → ℕ → List ℕ
-child_tiers_of s t = if nat_lt t (cells s) then (t + 1) ∷ [] else []
+child_tiers_of s t =
+    (if nat_lt (middle_in s t) (middle_cells s) && nat_le (outer_in s t) (outer_cells s) then (t + 1) ∷ [] else [])
+    ++ (if nat_lt (outer_in s t) (outer_cells s) then (t + middle_range s) ∷ [] else [])
 
 -- the index of a board
 abbrev pub index_of : Size → List Cell → ℕ
-index_of s b = stacked_index (columns s) (rows s) b
+index_of s b = stacked_index (columns s) (rows s) (middle s) b
 
 -- the board of a tier with an index
 abbrev pub board_at : Size → ℕ → ℕ → List Cell
-board_at s t i = stacked_board (columns s) (rows s) t (t / 2) i
+board_at s t i = stacked_board (columns s) (rows s) (middle s) (outer_in s t) (middle_in s t) (pieces_in s t / 2) i
 
 -- the game: a move is a column, the board is empty at the start, and left and right may be exchanged; a line ends the game, and a full board without a line is a tie
 abbrev pub connect_four : Size → MoveGame (List Cell) (List ℕ)
@@ -115,12 +140,12 @@ connect_four s = record {
   undo = λ t d c. undo s d c;
   symmetries = mirrors s;
   image = λ g b. permute Empty g b;
-  tier = λ b. pieces b;
+  tier = tier_of s;
   index = index_of s;
   board = board_at s;
   size = size_at s;
   child_tiers = child_tiers_of s;
-  tier_rank = λ t. cells s - t;
+  tier_rank = λ t. cells s - pieces_in s t;
 }
 
 -- the rules of the game with these columns and rows

@@ -5,7 +5,7 @@ use Rattle.gm_draw.specs.declared.pictured.Style.TheVariants.{Stones}
 use Rattle.gm_draw.specs.Pictures.{PictureSpec, x_moves}
 use Rattle.gm_draw.specs.GameSpecs.{GameSpec, game_spec}
 use Rattle.gm_connect.specs.declared.size.Size.{Size}
-use Rattle.gm_connect.specs.declared.size.Size.TheVariants.{FourByFour, FiveByFour, FourByFive, FourBySix}
+use Rattle.gm_connect.specs.declared.size.Size.TheVariants.{FourByFour, FiveByFour, FourByFive, FourBySix, FiveByFive, SixByFour}
 use Rattle.gm_connect.specs.ConnectFour.{connect_rules}
 use Rattle.gm_connect.specs.Sizes.{size_of, columns, cells}
 use Rattle.gm_connect.specs.Texts.{step_text, position_text}
@@ -22,12 +22,16 @@ connect_title FourByFour = codes "Connect Four 4 by 4"
 connect_title FiveByFour = codes "Connect Four 5 by 4"
 connect_title FourByFive = codes "Connect Four 4 by 5"
 connect_title FourBySix = codes "Connect Four 4 by 6"
+connect_title FiveByFive = codes "Connect Four 5 by 5"
+connect_title SixByFour = codes "Connect Four 6 by 4"
 
 unfoldable pub connect_board : Size → List ℕ
 connect_board FourByFour = codes "    1 2 3 4\na   A B C D\nb   E F G H\nc   I J K L\nd   M N O P"
 connect_board FiveByFour = codes "    1 2 3 4 5\na   A B C D E\nb   F G H I J\nc   K L M N O\nd   P Q R S T"
 connect_board FourByFive = codes "    1 2 3 4\na   A B C D\nb   E F G H\nc   I J K L\nd   M N O P\ne   Q R S T"
 connect_board FourBySix = codes "    1 2 3 4\na   A B C D\nb   E F G H\nc   I J K L\nd   M N O P\ne   Q R S T\nf   U V W X"
+connect_board FiveByFive = codes "    1 2 3 4 5\na   A B C D E\nb   F G H I J\nc   K L M N O\nd   P Q R S T\ne   U V W X Y"
+connect_board SixByFour = codes "    1 2 3 4 5 6\na   A B C D E F\nb   G H I J K L\nc   M N O P Q R\nd   S T U V W X"
 
 -- a board with these numbers of columns and rows
 unfoldable pub connect_picture : Size → PictureSpec

@@ -2,6 +2,7 @@
 pub mod SizeFacts
 pub mod BoardFacts
 pub mod DropFacts
+pub mod TierFacts
 pub mod MoveFacts
 pub mod ConnectLaws
 pub mod TextLaws

@@ -21,6 +21,8 @@ fn connect_title(size: Size) -> &'static [u8]
         Size::FiveByFour => b"Connect Four 5 by 4",
         Size::FourByFive => b"Connect Four 4 by 5",
         Size::FourBySix => b"Connect Four 4 by 6",
+        Size::FiveByFive => b"Connect Four 5 by 5",
+        Size::SixByFour => b"Connect Four 6 by 4",
     }
 }
 
@@ -39,6 +41,12 @@ fn connect_board(size: Size) -> &'static [u8]
         }
         Size::FourBySix => {
             b"    1 2 3 4\na   A B C D\nb   E F G H\nc   I J K L\nd   M N O P\ne   Q R S T\nf   U V W X"
+        }
+        Size::FiveByFive => {
+            b"    1 2 3 4 5\na   A B C D E\nb   F G H I J\nc   K L M N O\nd   P Q R S T\ne   U V W X Y"
+        }
+        Size::SixByFour => {
+            b"    1 2 3 4 5 6\na   A B C D E F\nb   G H I J K L\nc   M N O P Q R\nd   S T U V W X"
         }
     }
 }
@@ -63,6 +71,14 @@ fn cell_names(size: Size) -> &'static [&'static [u8]]
         Size::FourBySix => &[
             b"1", b"2", b"3", b"4", b"b1", b"b2", b"b3", b"b4", b"c1", b"c2", b"c3", b"c4", b"d1",
             b"d2", b"d3", b"d4", b"e1", b"e2", b"e3", b"e4", b"f1", b"f2", b"f3", b"f4",
+        ],
+        Size::FiveByFive => &[
+            b"1", b"2", b"3", b"4", b"5", b"b1", b"b2", b"b3", b"b4", b"b5", b"c1", b"c2", b"c3",
+            b"c4", b"c5", b"d1", b"d2", b"d3", b"d4", b"d5", b"e1", b"e2", b"e3", b"e4", b"e5",
+        ],
+        Size::SixByFour => &[
+            b"1", b"2", b"3", b"4", b"5", b"6", b"b1", b"b2", b"b3", b"b4", b"b5", b"b6", b"c1",
+            b"c2", b"c3", b"c4", b"c5", b"c6", b"d1", b"d2", b"d3", b"d4", b"d5", b"d6",
         ],
     }
 }

@@ -4,6 +4,7 @@ use Rattle.std.proofs.Common.{◌<◌, max, [], ◌∷◌, get_or, cond, Result,
 use Rattle.std.specs.Result.{OnOk, is_ok}
 use Rattle.std.proofs.lemmas.List.{append_assoc, append-nil, take_more, take_all, drop_more, drop_all}
 use Rattle.gm_draw.specs.Diagrams.{escaped_byte, next_length, escaped, widest}
+use Rattle.gm_draw.specs.Tikz.{tex_byte, tex}
 use Rattle.gm_draw.specs.Templates.{next_x, next_y, spread}
 use Rattle.std.proofs.lemmas.Grind.{flat_map-append}
 
@@ -22,6 +23,10 @@ flat_next f xs i base cur new l e n =
 pub escaped_all : (xs : List ℕ) (i : ℕ) (base cur : List ℕ) → length xs ≤ i → cur ≡ base ++ flat_map escaped_byte (take i xs) → cur ≡ base ++ escaped xs
 unfolding escaped
 escaped_all xs i base cur l e = e ∙ ap (λ (t : List ℕ). base ++ flat_map escaped_byte t) (take_all i xs l)
+
+pub tex_all : (xs : List ℕ) (i : ℕ) (base cur : List ℕ) → length xs ≤ i → cur ≡ base ++ flat_map tex_byte (take i xs) → cur ≡ base ++ tex xs
+unfolding tex
+tex_all xs i base cur l e = e ∙ ap (λ (t : List ℕ). base ++ flat_map tex_byte t) (take_all i xs l)
 
 -- one more byte of a board
 pub spread_next : (f : ℕ → ℕ → ℕ → List ℕ) (xs : List ℕ) (i x y u v : ℕ) (cur new all : List ℕ) → i < length xs → cur ++ spread f x y (drop i xs) ≡ all →

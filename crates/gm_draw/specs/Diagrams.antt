@@ -8,10 +8,17 @@ use Rattle.gm_game.specs.declared.position.Position.{Position}
 use Rattle.gm_game.specs.declared.position.Solved.{Solved}
 use Rattle.gm_game.specs.Texts.{text_of}
 use Rattle.gm_draw.specs.declared.pictured.Style.{Style}
-use Rattle.gm_draw.specs.declared.pictured.Style.TheVariants.{Row, Crosses, Counters, Stones, Discs, Letters, Chess, Hounds, Digits}
+use Rattle.gm_draw.specs.declared.pictured.Style.TheVariants.{Row, Crosses, Counters, Stones, Discs, Letters, Chess, Figures, Hounds, Digits}
+use Rattle.gm_draw.specs.declared.look.Look.{Look}
+use Rattle.gm_draw.specs.declared.marks.Place.{Place}
+use Rattle.gm_draw.specs.declared.marks.Mark.{Mark}
+use Rattle.gm_draw.specs.declared.marks.Mark.TheVariants.{Nothing, Ring, Arrow}
 use Rattle.gm_draw.specs.Templates.{is_slot, spread}
 use Rattle.gm_draw.specs.Pictures.{PictureSpec, drawn}
 use Rattle.gm_draw.specs.Chessboards.{is_dark, man_at}
+use Rattle.gm_draw.specs.Figures.{has_figure, outline}
+use Rattle.gm_draw.specs.Marks.{has_squares, mark_of}
+use Rattle.gm_draw.specs.Looks.{style_by, plain_look}
 
 -- ---- texts in XML
 -- a byte of a text, with `<` and `&` replaced by their character references
@@ -60,6 +67,7 @@ has_cells Stones = true
 has_cells Discs = false
 has_cells Letters = false
 has_cells Chess = true
+has_cells Figures = true
 has_cells Hounds = true
 has_cells Digits = false
 
@@ -72,14 +80,9 @@ has_points Stones = false
 has_points Discs = true
 has_points Letters = true
 has_points Chess = false
+has_points Figures = false
 has_points Hounds = false
 has_points Digits = false
-
--- whether men are on the squares of a chess board
-abbrev pub has_squares : Style → Bool
-has_squares Chess = true
-has_squares Hounds = true
-has_squares style = false
 
 -- a square, filled if it is a dark square of a chess board
 unfoldable pub square_of : Style → ℕ → ℕ → List ℕ
@@ -139,6 +142,14 @@ letter_on x y b first =
 unfoldable pub chessman_of : Style → ℕ → ℕ → ℕ → List ℕ
 chessman_of style x y b = if b == 0 then [] else letter_on x y b (is_first style b)
 
+-- the end of a figure: white for capitals, black for small letters
+abbrev pub figure_fill : ℕ → List ℕ
+figure_fill b = if is_slot b then codes "\" fill=\"#fff\"/>\n" else codes "\" fill=\"#000\"/>\n"
+
+-- the figure of a chess man
+unfoldable pub figure_of : ℕ → ℕ → ℕ → List ℕ
+figure_of x y b = svg_path (x - 11) (y + 14) (outline b) ++ figure_fill b
+
 -- a digit; nothing for any other byte
 unfoldable pub digit_of : ℕ → ℕ → ℕ → List ℕ
 digit_of x y b = if is_ascii_digit b then words_at x (y + 6) (codes "\" font-weight=\"bold\" stroke=\"none\">") (b ∷ []) else []
@@ -152,6 +163,7 @@ man_of Stones x y b = stone_of x y b
 man_of Discs x y b = disc_of x y b
 man_of Letters x y b = letter_of x y b
 man_of Chess x y b = chessman_of Chess x y b
+man_of Figures x y b = if has_figure b then figure_of x y b else chessman_of Figures x y b
 man_of Hounds x y b = chessman_of Hounds x y b
 man_of Digits x y b = digit_of x y b
 
@@ -275,20 +287,45 @@ svg_net style board = codes "<g fill=\"none\" stroke=\"#777\" stroke-width=\"2\"
 unfoldable pub svg_men : Style → List ℕ → List ℕ → List ℕ → ℕ → List ℕ
 svg_men style board text drawing middle = codes "<g stroke=\"#000\" stroke-width=\"2\">\n" ++ over_all style board text drawing middle
 
+-- the radius of a ring round a point, and what follows it
+abbrev pub ring_back : Style → List ℕ
+ring_back style = if has_cells style then codes "\" r=\"18\" fill=\"none\" stroke=\"#c00\" stroke-width=\"4\"/>\n" else codes "\" r=\"31\" fill=\"none\" stroke=\"#c00\" stroke-width=\"4\"/>\n"
+
+-- the head of an arrow
+abbrev pub svg_head : List ℕ
+svg_head =
+    codes "<defs><marker id=\"head\" viewBox=\"0 0 6 6\" refX=\"4\" refY=\"3\" markerWidth=\"4\" markerHeight=\"4\" orient=\"auto\"><path d=\"M0 0l6 3-6 3z\" fill=\"#c00\" stroke=\"none\"/></marker></defs>\n"
+
+-- an arrow from a place to another
+unfoldable pub svg_arrow : Place → Place → List ℕ
+svg_arrow p q =
+    svg_head ++ svg_path p.x p.y (codes "L") ++ at_point [] q.x (codes " ") q.y (codes "\" fill=\"none\" stroke=\"#c00\" stroke-width=\"4\" marker-end=\"url(#head)\"/>\n")
+
+-- the mark of a move, over the men
+unfoldable pub svg_mark : Style → Mark → List ℕ
+svg_mark style Nothing = []
+svg_mark style (Ring p) = circle p.x p.y (ring_back style)
+svg_mark style (Arrow p q) = svg_arrow p q
+
 unfoldable pub svg_back : ℕ → ℕ → List ℕ → List ℕ
 svg_back middle height caption = caption_words middle height caption ++ codes "</g>\n</svg>\n"
 
--- the SVG document of a position with this text and this drawing
-unfoldable pub svg_of : Style → List ℕ → List ℕ → List ℕ → List ℕ → List ℕ → List ℕ
-svg_of style title board text drawing caption =
+-- the SVG document of a position with this text and this drawing, and the mark of a move
+unfoldable pub svg_of : Style → List ℕ → List ℕ → List ℕ → List ℕ → Mark → List ℕ → List ℕ
+svg_of style title board text drawing mark caption =
     svg_front (left_edge_of style) (margin_of style drawing) (width_of style drawing) (height_of drawing) title text caption
-    ++ svg_net style board ++ svg_men style board text drawing (middle_of style drawing) ++ svg_back (middle_of style drawing) (height_of drawing) caption
+    ++ svg_net style board ++ svg_men style board text drawing (middle_of style drawing) ++ svg_mark style mark ++ svg_back (middle_of style drawing) (height_of drawing) caption
 
 -- the caption under a board: the side to move, and its value if it is to be shown
 abbrev pub caption_of : List ℕ → Solved → Bool → List ℕ
 caption_of mover s valued = mover ++ codes " to move" ++ (if valued then codes ": " ++ text_of s else [])
 
+-- the diagram of a position with this value, and with the mark of the move with this text
+abbrev pub diagram_with : PictureSpec → (Position → List ℕ) → Look → List ℕ → Position → Solved → List ℕ
+diagram_with picture shown look move p s =
+    svg_of (style_by look.figures picture.style) picture.title picture.board (shown p) (drawn picture shown p)
+    (mark_of picture.style picture.points picture.board move) (caption_of (picture.mover p) s look.valued)
+
 -- the diagram of a position with this value
 abbrev pub diagram_of : PictureSpec → (Position → List ℕ) → Bool → Position → Solved → List ℕ
-diagram_of picture shown valued p s =
-    svg_of picture.style picture.title picture.board (shown p) (drawn picture shown p) (caption_of (picture.mover p) s valued)
+diagram_of picture shown valued p s = diagram_with picture shown (plain_look valued) [] p s

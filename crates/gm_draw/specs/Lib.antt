@@ -4,7 +4,11 @@ pub mod Pictures
 pub mod GameSpecs
 pub mod Drawn
 pub mod Points
+pub mod Figures
+pub mod Marks
+pub mod Looks
 pub mod Pictured
 pub mod Diagrams
+pub mod Tikz
 pub mod Spots
 pub mod laws

@@ -5,7 +5,7 @@ use Rattle.gm_game.specs.declared.position.Position.{Position}
 use Rattle.gm_game.specs.Rules.{Rules}
 use Rattle.gm_draw.specs.declared.drawn.TheConstants.{DRAWING}
 use Rattle.gm_draw.specs.declared.pictured.Style.{Style}
-use Rattle.gm_draw.specs.declared.pictured.Style.TheVariants.{Chess}
+use Rattle.gm_draw.specs.declared.pictured.Style.TheVariants.{Chess, Figures}
 use Rattle.gm_draw.specs.declared.pictured.Layout.{Layout}
 use Rattle.gm_draw.specs.declared.pictured.Layout.TheVariants.{Template, Rows, Squares}
 use Rattle.gm_draw.specs.Templates.{is_slot}
@@ -48,6 +48,7 @@ most_points layout = 26
 -- the text of a move names its points; in chess the man's letter comes before them
 abbrev pub IsMoveWord : Style → List (List ℕ) → List ℕ → Type 0
 IsMoveWord Chess points text = (man : ℕ) × (word : List ℕ) × (text ≡ man ∷ word) × IsPointWord points word
+IsMoveWord Figures points text = (man : ℕ) × (word : List ℕ) × (text ≡ man ∷ word) × IsPointWord points word
 IsMoveWord style points text = IsPointWord points text
 
 -- drawings fit and distinguish positions; the board fits too; names of points are not empty and have no `-`, and no name occurs twice; the text of each move

@@ -3,7 +3,7 @@ use Rattle.std.specs.Prelude.{◌≡◌, ℕ, ◌-◌, ◌==◌, List, [], map, 
 use Rattle.std.specs.Borrow.{Bor}
 use Rattle.gm_game.specs.declared.position.Position.{Position}
 use Rattle.gm_draw.specs.declared.pictured.Style.{Style}
-use Rattle.gm_draw.specs.declared.pictured.Style.TheVariants.{Row, Chess, Hounds}
+use Rattle.gm_draw.specs.declared.pictured.Style.TheVariants.{Row, Chess, Figures, Hounds}
 use Rattle.gm_draw.specs.declared.pictured.Layout.{Layout}
 use Rattle.gm_draw.specs.declared.pictured.Layout.TheVariants.{Template, Rows, Squares}
 use Rattle.gm_draw.specs.declared.pictured.Mover.{Mover}
@@ -41,6 +41,7 @@ player_moves p = codes "player"
 abbrev pub layout_of : Style → Layout
 layout_of Row = Rows
 layout_of Chess = Squares
+layout_of Figures = Squares
 layout_of Hounds = Squares
 layout_of style = Template
 

@@ -1,14 +1,18 @@
 //! Diagrams of positions for print: SVG documents.
 ghost use Rattle.std.specs.Prelude.{◌≡◌, ◌≤◌, ◌++◌, length, true, OnOk, IfOk};
-ghost use Rattle.gm_draw.specs.Diagrams.{start_of, svg_box, svg_size, svg_title, svg_paper, svg_front, svg_net, svg_men, svg_back, svg_of, over_all, under_all, caption_words, diagram_of};
+ghost use Rattle.gm_draw.specs.Diagrams.{start_of, svg_box, svg_size, svg_title, svg_paper, svg_front, svg_net, svg_men, svg_back, svg_of, over_all, under_all, caption_of, caption_words, ring_back as ring_back_spec, svg_arrow, svg_mark, diagram_of, diagram_with as diagram_with_spec};
+ghost use Rattle.gm_draw.specs.Looks.{style_by};
+ghost use Rattle.gm_draw.specs.Marks.{mark_of as mark_of_spec};
 ghost use Rattle.gm_draw.specs.Pictures.{drawn};
 ghost use Rattle.gm_draw.specs.Spots.{IsEachOnce};
 
 use crate::drawn::{DRAWING, draw, mover};
 use crate::frame::{Frame, frame_of};
+use crate::look::Look;
+use crate::marks::{Mark, Place, mark_of};
 use crate::markup::push_escaped;
 use crate::pictured::{Pictured, Style};
-use crate::svg::{push_at, push_board, push_number, push_words};
+use crate::svg::{has_cells, push_at, push_board, push_circle, push_number, push_path, push_words};
 use gm_game::position::{Position, Solved};
 use gm_game::text::value_text;
 use std::alloc::{AllocError, Global};
@@ -24,6 +28,41 @@ pub fn diagram<G: Pictured>(
     requires { G.Game.rules.is_legal p ≡ true }
     ensures { IfOk result (λ v. v.items ≡ diagram_of G.picture G.shown valued p value) }
 {
+    let look = Look {
+        valued,
+        figures: false,
+    };
+    diagram_with::<G>(alloc, p, value, look, b"")
+}
+
+/// Returns the SVG document of a legal position of this value with this look. The move with this text is marked, unless it is
+/// empty.
+pub fn diagram_with<G: Pictured>(
+    alloc: Global,
+    p: Position,
+    value: Solved,
+    look: Look,
+    move_text: &[u8],
+) -> Result<Vec<u8>, AllocError>
+    requires { G.Game.rules.is_legal p ≡ true }
+    ensures { IfOk result (λ v. v.items ≡ diagram_with_spec G.picture G.shown look move_text.now p value) }
+{
+    let caption = caption_text::<G>(alloc, p, value, look.valued)?;
+    let mut text = Vec::new(alloc);
+    push_svg::<G>(&mut text, p, look, move_text, caption.as_slice())?;
+    Ok(text)
+}
+
+/// Returns the caption: the side to move, and if `valued` is set the value.
+pub(crate) fn caption_text<G: Pictured>(
+    alloc: Global,
+    p: Position,
+    value: Solved,
+    valued: bool,
+) -> Result<Vec<u8>, AllocError>
+    requires { G.Game.rules.is_legal p ≡ true }
+    ensures { IfOk result (λ v. v.items ≡ caption_of (G.picture.mover p) value valued) }
+{
     let mut caption = Vec::new(alloc);
     caption.extend_from_slice(mover::<G>(p))?;
     caption.extend_from_slice(b" to move")?;
@@ -31,9 +70,7 @@ pub fn diagram<G: Pictured>(
         caption.extend_from_slice(b": ")?;
         caption.extend_from_slice(value_text(value).as_slice())?;
     }
-    let mut text = Vec::new(alloc);
-    push_svg::<G>(&mut text, p, caption.as_slice())?;
-    Ok(text)
+    Ok(caption)
 }
 
 /// Has no effect; its contract states that a diagram draws each man once. Over the net of the board, the man of each byte of a
@@ -42,26 +79,36 @@ pub fn each_once<G: Pictured>(bytes: &[u8])
     ensures { IsEachOnce G.picture.style bytes.now G.picture.board }
 {}
 
-// Appends the SVG document of a legal position with this caption.
+// Appends the SVG document of a legal position with this look, the mark of a move and this caption.
 #[tactic(auto, unfolding(crate::specs::Diagrams::svg_of))]
-fn push_svg<G: Pictured>(text: &mut Vec<u8>, p: Position, caption: &[u8]) -> Result<(), AllocError>
+fn push_svg<G: Pictured>(
+    text: &mut Vec<u8>,
+    p: Position,
+    look: Look,
+    move_text: &[u8],
+    caption: &[u8],
+) -> Result<(), AllocError>
     requires { G.Game.rules.is_legal p ≡ true }
-    ensures { OnOk result (text.new.items ≡ text.old.items ++ svg_of G.picture.style G.picture.title G.picture.board (G.shown p) (drawn G.picture G.shown p) caption.now) }
+    ensures { OnOk result (text.new.items ≡ text.old.items ++ svg_of (style_by look.figures G.picture.style) G.picture.title G.picture.board (G.shown p) (drawn G.picture G.shown p)
+        (mark_of_spec G.picture.style G.picture.points G.picture.board move_text.now) caption.now) }
 {
     let picture = G::picture();
     let bytes = G::show(p);
     let drawing = draw::<G>(p);
-    let frame = frame_of(picture.style, drawing.as_slice());
+    let style = look.style(picture.style);
+    let mark = mark_of(picture.style, picture.points, picture.board, move_text);
+    let frame = frame_of(style, drawing.as_slice());
     push_front(text, frame, picture.title, bytes.as_slice(), caption)?;
-    push_net_group(text, picture.style, picture.board)?;
+    push_net_group(text, style, picture.board)?;
     push_men_group(
         text,
-        picture.style,
+        style,
         picture.board,
         bytes.as_slice(),
         drawing.as_slice(),
         frame.middle,
     )?;
+    push_mark(text, style, mark)?;
     push_back(text, frame, caption)
 }
 
@@ -108,6 +155,47 @@ fn push_men_group(
 {
     text.extend_from_slice(b"<g stroke=\"#000\" stroke-width=\"2\">\n")?;
     push_over_all(text, style, board, bytes, drawing, middle)
+}
+
+// Returns the radius of a ring round a point, and what follows it.
+fn ring_back(style: Style) -> &'static [u8]
+    ensures { result.now ≡ ring_back_spec style }
+{
+    if has_cells(style) {
+        b"\" r=\"18\" fill=\"none\" stroke=\"#c00\" stroke-width=\"4\"/>\n"
+    } else {
+        b"\" r=\"31\" fill=\"none\" stroke=\"#c00\" stroke-width=\"4\"/>\n"
+    }
+}
+
+// Appends an arrow from a place to another.
+fn push_arrow(text: &mut Vec<u8>, from: Place, to: Place) -> Result<(), AllocError>
+    ensures { OnOk result (text.new.items ≡ text.old.items ++ svg_arrow from to) }
+{
+    text.extend_from_slice(
+        b"<defs><marker id=\"head\" viewBox=\"0 0 6 6\" refX=\"4\" refY=\"3\" markerWidth=\"4\" markerHeight=\"4\" orient=\"auto\"><path d=\"M0 0l6 3-6 3z\" fill=\"#c00\" stroke=\"none\"/></marker></defs>\n",
+    )?;
+    push_path(text, from.x, from.y, b"L")?;
+    push_at(
+        text,
+        b"",
+        to.x,
+        b" ",
+        to.y,
+        b"\" fill=\"none\" stroke=\"#c00\" stroke-width=\"4\" marker-end=\"url(#head)\"/>\n",
+    )
+}
+
+// Appends the mark of a move.
+#[tactic(auto, unfolding(crate::specs::Diagrams::svg_mark))]
+fn push_mark(text: &mut Vec<u8>, style: Style, mark: Mark) -> Result<(), AllocError>
+    ensures { OnOk result (text.new.items ≡ text.old.items ++ svg_mark style mark) }
+{
+    match mark {
+        Mark::Nothing => Ok(()),
+        Mark::Ring(place) => push_circle(text, place.x, place.y, ring_back(style)),
+        Mark::Arrow(from, to) => push_arrow(text, from, to),
+    }
 }
 
 // Appends the last part of the document, with the caption.

@@ -1,7 +1,8 @@
 //! The men of a diagram, each at its point.
 ghost use Rattle.std.specs.Prelude.{◌≡◌, ◌≤◌, ◌++◌, ◌+◌, OnOk};
-ghost use Rattle.gm_draw.specs.Diagrams.{circle, words_at, cross_of, counter_of, digit_of, stone_of, disc_of, letter_of, is_first as is_first_spec, chessman_of, man_of};
+ghost use Rattle.gm_draw.specs.Diagrams.{circle, words_at, cross_of, counter_of, digit_of, stone_of, disc_of, letter_of, is_first as is_first_spec, chessman_of, figure_fill as figure_fill_spec, figure_of, man_of};
 
+use crate::figures::{has_figure, outline};
 use crate::pictured::Style;
 use crate::svg::{push_circle, push_path, push_words};
 use std::alloc::AllocError;
@@ -107,8 +108,8 @@ fn push_letter(text: &mut Vec<u8>, x: u64, y: u64, byte: u8) -> Result<(), Alloc
     }
 }
 
-// Tests whether a letter is of the side that is drawn white.
-fn is_first(style: Style, byte: u8) -> bool
+/// Tests whether a letter is of the side that is drawn white.
+pub(crate) fn is_first(style: Style, byte: u8) -> bool
     ensures { result ≡ is_first_spec style byte }
 {
     match style {
@@ -150,6 +151,28 @@ fn push_chessman(
             &[byte],
         )
     }
+}
+
+// Returns the end of a figure: white for capitals, black for small letters.
+fn figure_fill(byte: u8) -> &'static [u8]
+    ensures { result.now ≡ figure_fill_spec byte }
+{
+    if byte.is_ascii_uppercase() {
+        b"\" fill=\"#fff\"/>\n"
+    } else {
+        b"\" fill=\"#000\"/>\n"
+    }
+}
+
+// Appends the figure of a chess man.
+#[tactic(auto, unfolding(crate::specs::Diagrams::figure_of))]
+fn push_figure(text: &mut Vec<u8>, x: u64, y: u64, byte: u8) -> Result<(), AllocError>
+    requires right { 40 ≤ x }
+    requires down { y ≤ 16000 }
+    ensures { OnOk result (text.new.items ≡ text.old.items ++ figure_of x y byte) }
+{
+    push_path(text, x - 11, y + 14, outline(byte))?;
+    text.extend_from_slice(figure_fill(byte))
 }
 
 // Appends a digit.
@@ -202,7 +225,10 @@ pub(crate) fn push_man(
         (Style::Stones, _) => push_stone(text, x, y, byte),
         (Style::Discs, _) => push_disc(text, x, y, byte),
         (Style::Letters, _) => push_letter(text, x, y, byte),
-        (Style::Chess | Style::Hounds, _) => push_chessman(text, style, x, y, byte),
+        (Style::Figures, _) if has_figure(byte) => push_figure(text, x, y, byte),
+        (Style::Chess | Style::Figures | Style::Hounds, _) => push_chessman(
+            text, style, x, y, byte,
+        ),
         (Style::Digits, _) => push_digit(text, x, y, byte),
         _ => Ok(()),
     }

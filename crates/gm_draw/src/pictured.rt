@@ -23,7 +23,9 @@ pub enum Style {
     /// Letters on the squares of a chess board: capitals for White, small letters for Black. A position's text has a word for each
     /// man, its letter and its square; the last byte is the side to move.
     Chess,
-    /// The same with `f`, the fox, and `h`, a hound.
+    /// The same with figures in place of the letters of chess men.
+    Figures,
+    /// The same as `Chess` with `f`, the fox, and `h`, a hound.
     Hounds,
     /// Digits, which the places between them separate. There are no men.
     Digits,
@@ -47,7 +49,7 @@ impl Style {
     {
         match self {
             Style::Row => Layout::Rows,
-            Style::Chess | Style::Hounds => Layout::Squares,
+            Style::Chess | Style::Figures | Style::Hounds => Layout::Squares,
             _ => Layout::Template,
         }
     }

@@ -1,11 +1,12 @@
 //! The elements of a diagram.
 ghost use Rattle.std.specs.Prelude.{◌≡◌, ◌≤◌, ◌++◌, ◌+◌, ◌-◌, length, true, OnOk};
 ghost use Rattle.std.specs.Fmt.{decimal};
-ghost use Rattle.gm_draw.specs.Diagrams.{at_point, svg_path, circle, words_at, stroke_of, has_cells as has_cells_spec, has_points as has_points_spec, is_stroke as is_stroke_spec, has_squares as has_squares_spec, square_of, slot_byte as slot_byte_spec, under_at, over_at, part_at, point_of, label_x as label_x_spec, label_y as label_y_spec, label_of};
+ghost use Rattle.gm_draw.specs.Diagrams.{at_point, svg_path, circle, words_at, stroke_of, has_cells as has_cells_spec, has_points as has_points_spec, is_stroke as is_stroke_spec, square_of, slot_byte as slot_byte_spec, under_at, over_at, part_at, point_of, label_x as label_x_spec, label_y as label_y_spec, label_of};
 ghost use Rattle.gm_draw.specs.Templates.{is_slot, next_x as next_x_spec, next_y as next_y_spec, spread};
 
 use crate::chessboard::{is_dark, man_at};
 use crate::drawn::{DRAWING, byte_for};
+use crate::marks::has_squares;
 use crate::markup::push_escaped;
 use crate::men::push_man;
 use crate::pictured::Style;
@@ -96,19 +97,12 @@ pub(crate) fn has_cells(style: Style) -> bool
 {
     matches!(
         style,
-        Style::Counters | Style::Stones | Style::Chess | Style::Hounds
+        Style::Counters | Style::Stones | Style::Chess | Style::Figures | Style::Hounds
     )
 }
 
-// Tests whether men are on the squares of a chess board.
-fn has_squares(style: Style) -> bool
-    ensures { result ≡ has_squares_spec style }
-{
-    matches!(style, Style::Chess | Style::Hounds)
-}
-
-// Tests whether men are drawn on points.
-fn has_points(style: Style) -> bool
+/// Tests whether men are drawn on points.
+pub(crate) fn has_points(style: Style) -> bool
     ensures { result ≡ has_points_spec style }
 {
     matches!(style, Style::Discs | Style::Letters)
@@ -146,15 +140,15 @@ fn push_point(text: &mut Vec<u8>, style: Style, x: u64, y: u64) -> Result<(), Al
     }
 }
 
-// Returns the distance of the name of a row or a column from the left.
-fn label_x(style: Style, x: u64) -> u64
+/// Returns the distance of the name of a row or a column from the left.
+pub(crate) fn label_x(style: Style, x: u64) -> u64
     ensures { result ≡ label_x_spec style x }
 {
     if has_cells(style) && x == 40 { 70 } else { x }
 }
 
-// Returns the distance of the name of a row or a column from the top.
-fn label_y(style: Style, y: u64) -> u64
+/// Returns the distance of the name of a row or a column from the top.
+pub(crate) fn label_y(style: Style, y: u64) -> u64
     requires { y ≤ 16000 }
     ensures { result ≡ label_y_spec style y }
 {
@@ -179,8 +173,8 @@ fn push_label(text: &mut Vec<u8>, style: Style, x: u64, y: u64, byte: u8) -> Res
     )
 }
 
-// Tests whether a byte is a stroke of the net, a space or the end of a line.
-fn is_stroke(byte: u8) -> bool
+/// Tests whether a byte is a stroke of the net, a space or the end of a line.
+pub(crate) fn is_stroke(byte: u8) -> bool
     ensures { result ≡ is_stroke_spec byte }
 {
     matches!(byte, b'-' | b'|' | b'/' | b'\\' | b'+' | b' ' | b'\n')
@@ -211,8 +205,8 @@ fn push_over(
     }
 }
 
-// Returns the byte of the man in a slot of the board.
-fn slot_byte(style: Style, bytes: &[u8], x: u64, y: u64, letter: u8) -> u8
+/// Returns the byte of the man in a slot of the board.
+pub(crate) fn slot_byte(style: Style, bytes: &[u8], x: u64, y: u64, letter: u8) -> u8
     requires near { x + y ≤ 16000 }
     requires slot { is_slot letter ≡ true }
     ensures { result ≡ slot_byte_spec style bytes.now x y letter }

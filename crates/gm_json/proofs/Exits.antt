@@ -29,3 +29,7 @@ none_read a b n buffer e h = go a b (subst (λ (k : ℕ). Consumes a b (take k b
     go None b p = tt
     go (Some xs) None p = absurd p
     go (Some xs) (Some ys) p = sym p
+
+pub err_both : {T E : Type 0} → (r : Result T E) (P Q S : E → Type 0) → ((e : E) → P e → Q e → S e) → IfErr r P → IfErr r Q → IfErr r S
+err_both (Ok x) P Q S f p q = tt
+err_both (Err e) P Q S f p q = f e p q

@@ -2,7 +2,7 @@
 pub use Rattle.gm_game.specs.Rules.{Rules, at}
 pub use Rattle.gm_game.specs.declared.position.Position.{Position}
 pub use Rattle.gm_json.specs.Answers.{IsAnswer}
-pub use Rattle.gm_json.specs.Asking.{IsAskOutputError, block_bytes, kept_bytes}
+pub use Rattle.gm_json.specs.Asking.{kept_bytes}
 pub use Rattle.gm_json.specs.Extras.{move_texts_along, parents_in}
 pub use Rattle.gm_json.specs.Founds.{found_line}
 pub use Rattle.gm_json.specs.Lines.{step_tree, steps_from}

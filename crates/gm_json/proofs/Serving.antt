@@ -1,17 +1,17 @@
 -- A service in its midst.
-use Rattle.gm_json.proofs.Lower.{◌≡◌, ℕ, ◌+◌, ◌≤◌, ◌<◌, true, false, List, [], ◌∷◌, ◌++◌, length, take, codes, Option, refl, sym, ap, subst, ◌∙◌, append_assoc, arith, ◌==◌, length-take, length-append, Consumes, GoesOn, Midst, kept_bytes, block_bytes, IsAskOutputError, inl, inr}
+use Rattle.gm_json.proofs.Lower.{◌≡◌, ℕ, ◌+◌, ◌≤◌, ◌<◌, true, false, List, [], ◌∷◌, ◌++◌, length, take, codes, Option, refl, sym, ap, subst, ◌∙◌, append_assoc, arith, ◌==◌, length-take, length-append, Consumes, GoesOn, Midst, kept_bytes, inl, inr}
 use Rattle.std.specs.Io.KnownBytes.{Keeps, Appends, IsAtEnd}
 use Rattle.std.proofs.KnownBytes.{Consumes-trans, Consumes-kept, Consumes-nil, Appends-trans, Appends-nil, Appends-kept}
 use Rattle.gm_json.specs.declared.ask_error.AskError.{AskError}
 use Rattle.gm_json.specs.declared.ask_error.AskError.TheVariants.{OutOfMemory, NotHeld, ReadFailed, WriteFailed, OutputClosed}
 use Rattle.gm_play.specs.Sessions.{AppendsPart}
-use Rattle.gm_json.specs.Asking.{lines_from, lines_of, AreAnswers, IsServed, IsServiceUnread, IsUnanswered, IsServiceUnwritten, IsServiceBroken, IsOfLine, IsLineDone, IsCut, IsLineBroken}
+use Rattle.gm_json.specs.Asking.{block_bytes, IsAskOutputError, lines_from, lines_of, AreAnswers, IsServed, IsServiceUnread, IsUnanswered, IsServiceUnwritten, IsServiceBroken, IsOfLine, IsLineDone, IsCut, IsLineBroken}
 use Rattle.std.proofs.Common.{append-nil}
 use Rattle.gm_json.proofs.Splitting.{lines_more, lines_next, lines_end, lines_none, none_kept, kept_push, kept_full, one_begun}
 
 module _ (Says : List ℕ → ℕ → List ℕ → Type 0) where
   -- the answers to some lines, and to those after them
-  answers_join : (n : ℕ) (xs ys : List (List ℕ)) (t u : List ℕ) → AreAnswers Says n xs t → AreAnswers Says (n + length xs) ys u → AreAnswers Says n
+  pub answers_join : (n : ℕ) (xs ys : List (List ℕ)) (t u : List ℕ) → AreAnswers Says n xs t → AreAnswers Says (n + length xs) ys u → AreAnswers Says n
       (xs ++ ys) (t ++ u)
   answers_join n [] ys t u e h =
       let same : n + 0 ≡ n = omega arith in
@@ -111,7 +111,7 @@ module _ (Says : List ℕ → ℕ → List ℕ → Type 0) where
 
   -- ---- a byte more
   module _ (number : ℕ) (kept pending ahead : List ℕ) (b : ℕ) (r0 r1 w0 w1 : Option (List ℕ)) (h : Midst Says number kept pending (b ∷ ahead) r0 r1 w0 w1) where
-    moved : h.bytes ++ (h.block ++ b ∷ ahead) ≡ h.bytes ++ ((h.block ++ b ∷ []) ++ ahead)
+    pub moved : h.bytes ++ (h.block ++ b ∷ ahead) ≡ h.bytes ++ ((h.block ++ b ∷ []) ++ ahead)
     moved = ap (λ (l : List ℕ). h.bytes ++ l) (sym (append_assoc h.block (b ∷ []) ahead))
 
     still_few : length (h.block ++ b ∷ []) + length ahead ≤ block_bytes
@@ -150,14 +150,14 @@ module _ (Says : List ℕ → ℕ → List ℕ → Type 0) where
     byte_past new e full is = same_line new e (is ∙ kept_full kept h.line b h.keeps full)
 
     -- a line ends here
-    one_line : (more : List ℕ) → (b == 10) ≡ true → lines_of ((h.bytes ++ (h.block ++ b ∷ [])) ++ more) ≡ (h.lines ++ (h.later ++ h.line ∷ [])) ++
+    pub one_line : (more : List ℕ) → (b == 10) ≡ true → lines_of ((h.bytes ++ (h.block ++ b ∷ [])) ++ more) ≡ (h.lines ++ (h.later ++ h.line ∷ [])) ++
         lines_from [] more
     one_line more e =
         reached more ∙ ap (λ (ls : List (List ℕ)). (h.lines ++ h.later) ++ ls) (lines_next h.line b more e) ∙ sym
         (append_assoc (h.lines ++ h.later) (h.line ∷ []) (lines_from [] more))
         ∙ ap (λ (ls : List (List ℕ)). ls ++ lines_from [] more) (append_assoc h.lines h.later (h.line ∷ []))
 
-    ended : (b == 10) ≡ true → lines_of (h.bytes ++ (h.block ++ b ∷ [])) ≡ h.lines ++ (h.later ++ h.line ∷ [])
+    pub ended : (b == 10) ≡ true → lines_of (h.bytes ++ (h.block ++ b ∷ [])) ≡ h.lines ++ (h.later ++ h.line ∷ [])
     ended e =
         ap lines_of (sym (append-nil (h.bytes ++ (h.block ++ b ∷ [])))) ∙ one_line [] e ∙ ap
         (λ (ls : List (List ℕ)). (h.lines ++ (h.later ++ h.line ∷ [])) ++ ls) lines_none
@@ -246,7 +246,7 @@ module _ (Says : List ℕ → ℕ → List ℕ → Type 0) where
     whole : lines_of h.bytes ≡ h.lines ++ lines_from h.line []
     whole = ap lines_of (sym (append-nil h.bytes)) ∙ h.goes []
 
-    all_read : Consumes r0 r2 h.bytes
+    pub all_read : Consumes r0 r2 h.bytes
     all_read = Consumes-kept r0 r1 r2 h.bytes h.reads same
 
     -- nothing is left to answer
@@ -279,10 +279,10 @@ module _ (Says : List ℕ → ℕ → List ℕ → Type 0) where
 
     -- the last line has no end
     module _ (w2 : Option (List ℕ)) (some : 0 < length kept) where
-      last_lines : lines_of h.bytes ≡ h.lines ++ h.line ∷ []
+      pub last_lines : lines_of h.bytes ≡ h.lines ++ h.line ∷ []
       last_lines = whole ∙ ap (λ (ls : List (List ℕ)). h.lines ++ ls) (lines_end h.line (omega (arith, ap length h.keeps, length-take kept_bytes h.line)))
 
-      last_answer : (out : List ℕ) → Says kept number out → AreAnswers Says (1 + length h.lines) (h.line ∷ []) (out ++ codes "\n")
+      pub last_answer : (out : List ℕ) → Says kept number out → AreAnswers Says (1 + length h.lines) (h.line ∷ []) (out ++ codes "\n")
       last_answer out is = one_answer (1 + length h.lines) h.line out (subst (λ (k : ℕ). Says (take kept_bytes h.line) k out) h.numbered
           (subst (λ (l : List ℕ). Says l number out) h.keeps is))
 
@@ -300,7 +300,7 @@ module _ (Says : List ℕ → ℕ → List ℕ → Type 0) where
         writes = Appends-kept w0 w1 w2 h.text h.writes kept_out;
       }
 
-      last_unwritten : (out : List ℕ) → Says kept number out → AppendsPart w1 w2 (out ++ codes "\n") → IsServiceUnwritten Says r0 r2 w0 w2
+      pub last_unwritten : (out : List ℕ) → Says kept number out → AppendsPart w1 w2 (out ++ codes "\n") → IsServiceUnwritten Says r0 r2 w0 w2
       last_unwritten out is (done, rest, e, written) = record {
         bytes = h.bytes;
         lines = h.lines;

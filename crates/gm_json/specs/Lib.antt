@@ -11,4 +11,5 @@ pub mod Boards
 pub mod Whys
 pub mod RepliesLines
 pub mod Asking
+pub mod Turns
 pub mod inner

@@ -1,43 +1,32 @@
 //! A service that reads positions, one per line, and answers each with a line of JSON.
-ghost use Rattle.std.specs.Prelude.{◌≡◌, ◌+◌, ◌≤◌, ◌∷◌, ◌++◌, [], List, ℕ, Option, codes, length, IfOk, OnOk, IfErr, IsErrOf, ◌<◌, ◌^◌, OnErr};
-ghost use Rattle.std.specs.Io.KnownBytes.{Appends, Consumes, Keeps, IsAtEnd};
+ghost use Rattle.std.specs.Prelude.{◌≡◌, ◌+◌, ◌≤◌, ◌∷◌, [], List, ℕ, Option, None, true, drop, length, IfOk, IfSome, OnOk, IfErr, IsErrOf, ◌<◌, ◌^◌};
+ghost use Rattle.std.specs.Io.KnownBytes.{Consumes, Keeps, IsAtEnd};
 ghost use Rattle.gm_game.specs.declared.position.Position.{Position};
-ghost use Rattle.gm_play.specs.Sessions.{AppendsPart};
 ghost use Rattle.gm_play.specs.Refusals.{IsNotHeld};
 ghost use Rattle.gm_json.specs.Answers.{IsAnswer};
-ghost use Rattle.gm_json.specs.Asking.{IsServed, IsServiceBroken, IsLineDone, IsLineBroken, IsAskOutputError, IsOfLine};
+ghost use Rattle.gm_json.specs.Asking.{IsServed, IsServiceBroken, IsLineDone};
+ghost use Rattle.gm_json.specs.inner.Feeds.{unread, ahead};
+ghost use Rattle.gm_json.specs.Turns.{IsTurnedTo, answers_after};
 ghost use Rattle.gm_json.specs.inner.Midst.{GoesOn, Midst};
+ghost use Rattle.gm_json.specs.inner.Stops.{IfTurn, IsErrorOf, IsLineStop, IsStopped, IsLineStopped};
 
-use crate::answer::ask_line;
 use crate::ask_error::AskError;
 use crate::asked::Asked;
-use crate::object::LONGEST;
-use arrayvec::ArrayVec;
+use crate::blocks::{begin, read_block};
+pub use crate::feed::BLOCK;
+use crate::feed::Feed;
+use crate::hand::{Course, Hand, flush, new_hand, next_line, take_answer};
+use crate::turn::{Stop, Turn};
 use gm_game::shown::Shown;
 use gm_play::closed::Closed;
-use gm_play::streams::write_text;
 use std::alloc::Global;
-use std::io::{ErrorKind, Read, Write};
-
-/// The size of the input and output buffers in bytes.
-pub const BLOCK: usize = 65_536;
+use std::io::{Read, Write};
 
 /// The line that tells that the tables are there.
 pub const READY: &[u8] = b"{\"ready\":true}\n";
 
-// The most reads: with this many the number of a line is below 2^64.
-const READS: u64 = 281_474_976_710_655;
-
-// How much of a line is kept: the longest object, its return, and a byte that marks a longer line.
-const KEPT: usize = LONGEST + 2;
-
-// What a service has at hand: the line that has begun, its number, and the answers that are not written yet.
-#[derive(Drop)]
-struct Hand {
-    line: ArrayVec<u8, KEPT>,
-    number: u64,
-    answers: Vec<u8>,
-}
+// The last line before which a block is read: each line that ends in the block, and one more, has a number below 2^64.
+const LAST: u64 = u64::MAX - 65_540;
 
 /// Reads positions, one per line, and answers each with one line of JSON: the position with its value and the other parts of the query, or `{"error":"no such
 /// position","line":N,"read":".."}` with the number of the line, from 1, and its first 64 bytes. A carriage return before the end of a line is no part of it;
@@ -62,87 +51,206 @@ pub fn ask<G: Shown, R: Read, W: Write>(
         (W.contents output.old) (W.contents output.new)) }
     ensures not_held { IsErrOf result AskError.NotHeld → ((p : Position) × IsNotHeld G.Game.rules tables.now.tables.now p) }
 {
-    let mut block = match Vec::from_elem(alloc, 0u8, BLOCK) {
-        Ok(block) => block,
-        Err(_) => return Err(AskError::OutOfMemory),
+    let mut feed = Feed::new(alloc);
+    begin(alloc, &mut feed)?;
+    let course = Course {
+        before: 0,
+        turns: false,
     };
-    let mut hand = Hand {
-        line: ArrayVec::new(),
-        number: 1,
-        answers: Vec::new(alloc),
-    };
+    let mut hand = new_hand(alloc);
     let served = serve(
-        alloc,
-        tables,
-        tiers,
-        asked,
-        block.as_mut_slice(),
-        &mut hand,
-        input,
-        output,
+        alloc, tables, tiers, asked, course, &mut feed, &mut hand, input, output,
     );
-    drop((block, hand));
-    served
+    drop((feed, hand));
+    match served {
+        Ok(()) => Ok(()),
+        Err(stop) => Err(error_of(stop)),
+    }
 }
 
-// Reads block by block to the end.
+// Returns the error by which a service stopped that doesn't stop at a line that names a game.
+fn error_of(stop: Stop) -> AskError
+    ensures { IsErrorOf stop result }
+{
+    match stop {
+        Stop::Error(error) => error,
+        Stop::Turn(turn) => {
+            drop(turn);
+            AskError::ReadFailed
+        }
+    }
+}
+
+/// Reads and answers lines as `ask` does, but stops after a line that names a game, and returns the turn to it. It takes no byte after that line: what it has
+/// read of them is left in the feed, for the service that goes on. The numbers of lines go on from those that the feed has taken.
+pub fn ask_until<G: Shown, R: Read, W: Write>(
+    alloc: Global,
+    tables: &Closed<'_, G>,
+    tiers: &[u64],
+    asked: Asked,
+    feed: &mut Feed,
+    input: &mut R,
+    output: &mut W,
+) -> Result<Option<Turn>, AskError>
+    ensures all { IfOk result (λ o. o ≡ None → IsServed (answers_after true feed.old.lines (IsAnswer G.Game.rules G.shown G.move_shown asked tiers.now)) (ahead feed.old (R.remaining input.old))
+        (R.remaining input.new) (W.contents output.old) (W.contents output.new)) }
+    ensures turned { IfOk result (λ o. IfSome o (λ turn. (n : ℕ) × (feed.new.lines ≡ feed.old.lines + n) × IsTurnedTo
+        (answers_after true feed.old.lines (IsAnswer G.Game.rules G.shown G.move_shown asked tiers.now)) feed.old.lines n turn (ahead feed.old (R.remaining input.old))
+        (ahead feed.new (R.remaining input.new)) (W.contents output.old) (W.contents output.new))) }
+    ensures err { IfErr result (λ e. IsServiceBroken (answers_after true feed.old.lines (IsAnswer G.Game.rules G.shown G.move_shown asked tiers.now)) e
+        (ahead feed.old (R.remaining input.old)) (R.remaining input.new) (W.contents output.old) (W.contents output.new)) }
+    ensures not_held { IsErrOf result AskError.NotHeld → ((p : Position) × IsNotHeld G.Game.rules tables.now.tables.now p) }
+{
+    begin(alloc, feed)?;
+    let course = Course {
+        before: feed.lines,
+        turns: true,
+    };
+    let mut hand = new_hand(alloc);
+    let served = serve(
+        alloc, tables, tiers, asked, course, feed, &mut hand, input, output,
+    );
+    let number = hand.number;
+    drop(hand);
+    match served {
+        Ok(()) => Ok(None),
+        Err(Stop::Turn(turn)) => {
+            feed.lines += number;
+            Ok(Some(turn))
+        }
+        Err(Stop::Error(error)) => Err(error),
+    }
+}
+
+// Takes what is read and not taken, and then reads block by block to the end.
 fn serve<G: Shown, R: Read, W: Write>(
     alloc: Global,
     tables: &Closed<'_, G>,
     tiers: &[u64],
     asked: Asked,
-    block: &mut [u8],
+    course: Course,
+    feed: &mut Feed,
     hand: &mut Hand,
     input: &mut R,
     output: &mut W,
-) -> Result<(), AskError>
-    requires block { length block.old ≡ BLOCK }
+) -> Result<(), Stop>
+    requires block { length feed.old.block.items ≡ BLOCK }
+    requires before { course.before ≡ feed.old.lines }
     requires line { hand.old.line.items ≡ [] }
     requires number { hand.old.number ≡ 1 }
     requires answers { hand.old.answers.items ≡ [] }
-    ensures ok { OnOk result (IsServed (IsAnswer G.Game.rules G.shown G.move_shown asked tiers.now) (R.remaining input.old) (R.remaining input.new)
+    ensures ok { OnOk result (IsServed (answers_after course.turns course.before (IsAnswer G.Game.rules G.shown G.move_shown asked tiers.now)) (ahead feed.old (R.remaining input.old)) (R.remaining input.new)
         (W.contents output.old) (W.contents output.new)) }
-    ensures err { IfErr result (λ e. IsServiceBroken (IsAnswer G.Game.rules G.shown G.move_shown asked tiers.now) e (R.remaining input.old)
-        (R.remaining input.new)
-        (W.contents output.old) (W.contents output.new)) }
-    ensures not_held { IsErrOf result AskError.NotHeld → ((p : Position) × IsNotHeld G.Game.rules tables.now.tables.now p) }
+    ensures err { IfErr result (λ s. IsStopped (answers_after course.turns course.before (IsAnswer G.Game.rules G.shown G.move_shown asked tiers.now)) course.before s hand.new.number (unread feed.new)
+        (ahead feed.old (R.remaining input.old)) (R.remaining input.new) (W.contents output.old) (W.contents output.new)) }
+    ensures late { IfErr result (λ s. IfTurn s (course.before + hand.new.number + 1 + feed.new.to < 2 ^ 64 + feed.new.from)) }
+    ensures turns { IfErr result (λ s. IfTurn s (course.turns ≡ true)) }
+    ensures lines { feed.new.lines ≡ feed.old.lines }
+    ensures not_held { IsErrOf result (Stop.Error AskError.NotHeld) → ((p : Position) × IsNotHeld G.Game.rules tables.now.tables.now p) }
 {
-    for turn in 0..READS {
-        match input.read(block) {
-            Ok(0) => return answer_last(alloc, tables, tiers, asked, hand, output),
-            Ok(count) => answer_block(alloc, tables, tiers, asked, &block[..count], hand, output)?,
-            Err(_) => return Err(AskError::ReadFailed),
+    answer_unread(alloc, tables, tiers, asked, course, feed, hand, output)?;
+    for turn in 0..u64::MAX {
+        if course.before + hand.number > LAST {
+            return Err(Stop::Error(AskError::ReadFailed));
         }
+        if read_block(feed, input)? == 0 {
+            return answer_last(alloc, tables, tiers, asked, course, hand, output);
+        }
+        answer_unread(alloc, tables, tiers, asked, course, feed, hand, output)?;
     }
-    Err(AskError::ReadFailed)
+    Err(Stop::Error(AskError::ReadFailed))
 }
 
-// Answers each line that ends in what a read gave.
+// Answers each line that ends in what is read and not taken.
+fn answer_unread<G: Shown, W: Write>(
+    alloc: Global,
+    tables: &Closed<'_, G>,
+    tiers: &[u64],
+    asked: Asked,
+    course: Course,
+    feed: &mut Feed,
+    hand: &mut Hand,
+    output: &mut W,
+) -> Result<(), Stop>
+    requires block { length feed.old.block.items ≡ BLOCK }
+    requires few { course.before + hand.old.number + feed.old.to < 2 ^ 64 + feed.old.from }
+    requires answers { hand.old.answers.items ≡ [] }
+    ensures ok { (r0 r1 r2 w0 : Option (List ℕ)) → GoesOn (answers_after course.turns course.before (IsAnswer G.Game.rules G.shown G.move_shown asked tiers.now)) hand.old.number hand.old.line.items r0
+        r1 w0 (W.contents output.old) → Consumes r1 r2 (unread feed.old)
+        → OnOk result (GoesOn (answers_after course.turns course.before (IsAnswer G.Game.rules G.shown G.move_shown asked tiers.now)) hand.new.number hand.new.line.items r0 r2 w0
+        (W.contents output.new)) }
+    ensures err { (r0 r1 r2 w0 : Option (List ℕ)) → GoesOn (answers_after course.turns course.before (IsAnswer G.Game.rules G.shown G.move_shown asked tiers.now)) hand.old.number hand.old.line.items
+        r0 r1 w0 (W.contents output.old) → Consumes r1 r2 (unread feed.old)
+        → IfErr result (λ s. IsStopped (answers_after course.turns course.before (IsAnswer G.Game.rules G.shown G.move_shown asked tiers.now)) course.before s hand.new.number (unread feed.new) r0 r2 w0
+        (W.contents output.new)) }
+    ensures empty { OnOk result (hand.new.answers.items ≡ []) }
+    ensures taken { OnOk result (feed.new.to ≤ feed.new.from) }
+    ensures number { OnOk result (course.before + hand.new.number < 2 ^ 64) }
+    ensures late { IfErr result (λ s. IfTurn s (course.before + hand.new.number + 1 + feed.new.to < 2 ^ 64 + feed.new.from)) }
+    ensures turns { IfErr result (λ s. IfTurn s (course.turns ≡ true)) }
+    ensures block { length feed.new.block.items ≡ BLOCK }
+    ensures lines { feed.new.lines ≡ feed.old.lines }
+    ensures not_held { IsErrOf result (Stop.Error AskError.NotHeld) → ((p : Position) × IsNotHeld G.Game.rules tables.now.tables.now p) }
+{
+    let block = &feed.block[..feed.to];
+    answer_block(
+        alloc,
+        tables,
+        tiers,
+        asked,
+        course,
+        block,
+        &mut feed.from,
+        hand,
+        output,
+    )
+}
+
+// Answers each line that ends in a block, from a byte on.
 fn answer_block<G: Shown, W: Write>(
     alloc: Global,
     tables: &Closed<'_, G>,
     tiers: &[u64],
     asked: Asked,
+    course: Course,
     block: &[u8],
+    from: &mut usize,
     hand: &mut Hand,
     output: &mut W,
-) -> Result<(), AskError>
-    requires few { hand.old.number + length block.now < 2 ^ 64 }
+) -> Result<(), Stop>
+    requires few { course.before + hand.old.number + length block.now < 2 ^ 64 + from.old }
     requires short { length block.now ≤ BLOCK }
+    requires from { from.old ≤ length block.now }
     requires answers { hand.old.answers.items ≡ [] }
-    ensures ok { (r0 r1 r2 w0 : Option (List ℕ)) → GoesOn (IsAnswer G.Game.rules G.shown G.move_shown asked tiers.now) hand.old.number hand.old.line.items r0
-        r1 w0 (W.contents output.old) → Consumes r1 r2 block.now
-        → OnOk result (GoesOn (IsAnswer G.Game.rules G.shown G.move_shown asked tiers.now) hand.new.number hand.new.line.items r0 r2 w0
+    ensures ok { (r0 r1 r2 w0 : Option (List ℕ)) → GoesOn (answers_after course.turns course.before (IsAnswer G.Game.rules G.shown G.move_shown asked tiers.now)) hand.old.number hand.old.line.items r0
+        r1 w0 (W.contents output.old) → Consumes r1 r2 (drop from.old block.now)
+        → OnOk result (GoesOn (answers_after course.turns course.before (IsAnswer G.Game.rules G.shown G.move_shown asked tiers.now)) hand.new.number hand.new.line.items r0 r2 w0
         (W.contents output.new)) }
-    ensures err { (r0 r1 r2 w0 : Option (List ℕ)) → GoesOn (IsAnswer G.Game.rules G.shown G.move_shown asked tiers.now) hand.old.number hand.old.line.items
-        r0 r1 w0 (W.contents output.old) → Consumes r1 r2 block.now
-        → IfErr result (λ e. IsServiceBroken (IsAnswer G.Game.rules G.shown G.move_shown asked tiers.now) e r0 r2 w0 (W.contents output.new)) }
+    ensures err { (r0 r1 r2 w0 : Option (List ℕ)) → GoesOn (answers_after course.turns course.before (IsAnswer G.Game.rules G.shown G.move_shown asked tiers.now)) hand.old.number hand.old.line.items
+        r0 r1 w0 (W.contents output.old) → Consumes r1 r2 (drop from.old block.now)
+        → IfErr result (λ s. IsStopped (answers_after course.turns course.before (IsAnswer G.Game.rules G.shown G.move_shown asked tiers.now)) course.before s hand.new.number (drop from.new block.now) r0 r2 w0
+        (W.contents output.new)) }
     ensures empty { OnOk result (hand.new.answers.items ≡ []) }
-    ensures number { OnOk result (hand.new.number ≤ hand.old.number + length block.now) }
-    ensures not_held { IsErrOf result AskError.NotHeld → ((p : Position) × IsNotHeld G.Game.rules tables.now.tables.now p) }
+    ensures taken { OnOk result (length block.now ≤ from.new) }
+    ensures from { from.old ≤ from.new }
+    ensures most { from.new ≤ length block.now }
+    ensures number { OnOk result (hand.new.number + from.old ≤ hand.old.number + from.new) }
+    ensures late { IfErr result (λ s. IfTurn s (hand.new.number + 1 + from.old ≤ hand.old.number + from.new)) }
+    ensures turns { IfErr result (λ s. IfTurn s (course.turns ≡ true)) }
+    ensures not_held { IsErrOf result (Stop.Error AskError.NotHeld) → ((p : Position) × IsNotHeld G.Game.rules tables.now.tables.now p) }
 {
-    for byte in block {
-        take_byte(alloc, tables, tiers, asked, *byte, hand, output)?;
+    for index in *from..block.len() {
+        *from = index + 1;
+        take_byte(
+            alloc,
+            tables,
+            tiers,
+            asked,
+            course,
+            block[index],
+            hand,
+            output,
+        )?;
     }
     flush(&mut hand.answers, output)
 }
@@ -153,29 +261,33 @@ fn take_byte<G: Shown, W: Write>(
     tables: &Closed<'_, G>,
     tiers: &[u64],
     asked: Asked,
+    course: Course,
     byte: u8,
     hand: &mut Hand,
     output: &mut W,
-) -> Result<(), AskError>
-    requires few { hand.old.number + 1 < 2 ^ 64 }
+) -> Result<(), Stop>
+    requires few { course.before + hand.old.number + 1 < 2 ^ 64 }
     ensures ok { (ahead : List ℕ) (r0 r1 w0 : Option (List ℕ))
-        → Midst (IsAnswer G.Game.rules G.shown G.move_shown asked tiers.now) hand.old.number hand.old.line.items hand.old.answers.items
+        → Midst (answers_after course.turns course.before (IsAnswer G.Game.rules G.shown G.move_shown asked tiers.now)) hand.old.number hand.old.line.items hand.old.answers.items
         (byte ∷ ahead) r0 r1 w0 (W.contents output.old)
-        → OnOk result (Midst (IsAnswer G.Game.rules G.shown G.move_shown asked tiers.now) hand.new.number hand.new.line.items hand.new.answers.items ahead r0
+        → OnOk result (Midst (answers_after course.turns course.before (IsAnswer G.Game.rules G.shown G.move_shown asked tiers.now)) hand.new.number hand.new.line.items hand.new.answers.items ahead r0
         r1 w0 (W.contents output.new)) }
     ensures err { (ahead : List ℕ) (r0 r1 w0 : Option (List ℕ))
-        → Midst (IsAnswer G.Game.rules G.shown G.move_shown asked tiers.now) hand.old.number hand.old.line.items hand.old.answers.items
+        → Midst (answers_after course.turns course.before (IsAnswer G.Game.rules G.shown G.move_shown asked tiers.now)) hand.old.number hand.old.line.items hand.old.answers.items
         (byte ∷ ahead) r0 r1 w0 (W.contents output.old)
-        → IfErr result (λ e. IsServiceBroken (IsAnswer G.Game.rules G.shown G.move_shown asked tiers.now) e r0 r1 w0 (W.contents output.new)) }
+        → IfErr result (λ s. IsStopped (answers_after course.turns course.before (IsAnswer G.Game.rules G.shown G.move_shown asked tiers.now)) course.before s hand.new.number ahead r0 r1 w0 (W.contents output.new)) }
     ensures number { OnOk result (hand.new.number ≤ hand.old.number + 1) }
-    ensures not_held { IsErrOf result AskError.NotHeld → ((p : Position) × IsNotHeld G.Game.rules tables.now.tables.now p) }
+    ensures late { IfErr result (λ s. IfTurn s (hand.new.number ≡ hand.old.number)) }
+    ensures turns { IfErr result (λ s. IfTurn s (course.turns ≡ true)) }
+    ensures not_held { IsErrOf result (Stop.Error AskError.NotHeld) → ((p : Position) × IsNotHeld G.Game.rules tables.now.tables.now p) }
 {
     if byte == b'\n' {
-        return end_line(alloc, tables, tiers, asked, hand, output);
+        return end_line(alloc, tables, tiers, asked, course, hand, output);
     }
-    if !hand.line.is_full() {
-        hand.line.push(byte);
+    if hand.line.is_full() {
+        return Ok(());
     }
+    hand.line.push(byte);
     Ok(())
 }
 
@@ -185,43 +297,28 @@ fn end_line<G: Shown, W: Write>(
     tables: &Closed<'_, G>,
     tiers: &[u64],
     asked: Asked,
+    course: Course,
     hand: &mut Hand,
     output: &mut W,
-) -> Result<(), AskError>
-    requires few { hand.old.number + 1 < 2 ^ 64 }
-    ensures ok { OnOk result (IsLineDone (IsAnswer G.Game.rules G.shown G.move_shown asked tiers.now) hand.old.line.items hand.old.number
+) -> Result<(), Stop>
+    requires few { course.before + hand.old.number + 1 < 2 ^ 64 }
+    ensures ok { OnOk result (IsLineDone (answers_after course.turns course.before (IsAnswer G.Game.rules G.shown G.move_shown asked tiers.now)) hand.old.line.items hand.old.number
         hand.old.answers.items hand.new.answers.items (W.contents output.old) (W.contents output.new)) }
     ensures line { OnOk result (hand.new.line.items ≡ []) }
     ensures number { OnOk result (hand.new.number ≡ hand.old.number + 1) }
-    ensures err { IfErr result (λ e. IsLineBroken (IsAnswer G.Game.rules G.shown G.move_shown asked tiers.now) e hand.old.line.items hand.old.number
+    ensures err { IfErr result (λ s. IsLineStopped (answers_after course.turns course.before (IsAnswer G.Game.rules G.shown G.move_shown asked tiers.now)) course.before s hand.old.line.items hand.old.number
         hand.old.answers.items (W.contents output.old) (W.contents output.new)) }
-    ensures not_held { IsErrOf result AskError.NotHeld → ((p : Position) × IsNotHeld G.Game.rules tables.now.tables.now p) }
+    ensures late { IfErr result (λ s. IfTurn s (hand.new.number ≡ hand.old.number)) }
+    ensures turns { IfErr result (λ s. IfTurn s (course.turns ≡ true)) }
+    ensures not_held { IsErrOf result (Stop.Error AskError.NotHeld) → ((p : Position) × IsNotHeld G.Game.rules tables.now.tables.now p) }
 {
-    match take_answer(alloc, tables, tiers, asked, hand) {
+    match take_answer(alloc, tables, tiers, asked, course, hand) {
         Ok(()) => next_line(hand, output),
-        Err(error) => {
+        Err(stop) => {
             flush(&mut hand.answers, output)?;
-            Err(error)
+            Err(stop)
         }
     }
-}
-
-// Begins the next line. What is answered is written once it is as long as a block.
-fn next_line<W: Write>(hand: &mut Hand, output: &mut W) -> Result<(), AskError>
-    requires few { hand.old.number + 1 < 2 ^ 64 }
-    ensures ok { OnOk result ((done : List ℕ) × (hand.old.answers.items ≡ done ++ hand.new.answers.items)
-        × Appends (W.contents output.old) (W.contents output.new) done) }
-    ensures line { OnOk result (hand.new.line.items ≡ []) }
-    ensures number { OnOk result (hand.new.number ≡ hand.old.number + 1) }
-    ensures err { OnErr result (AppendsPart (W.contents output.old) (W.contents output.new) hand.old.answers.items) }
-    ensures kind { IfErr result IsAskOutputError }
-{
-    hand.line.clear();
-    hand.number += 1;
-    if hand.answers.len() < BLOCK {
-        return Ok(());
-    }
-    flush(&mut hand.answers, output)
 }
 
 // Answers the line at hand, if there is one, at the end of the input.
@@ -230,81 +327,25 @@ fn answer_last<G: Shown, W: Write>(
     tables: &Closed<'_, G>,
     tiers: &[u64],
     asked: Asked,
+    course: Course,
     hand: &mut Hand,
     output: &mut W,
-) -> Result<(), AskError>
+) -> Result<(), Stop>
+    requires few { course.before + hand.old.number + 1 < 2 ^ 64 }
     requires answers { hand.old.answers.items ≡ [] }
-    ensures ok { (r0 r1 r2 w0 : Option (List ℕ)) → GoesOn (IsAnswer G.Game.rules G.shown G.move_shown asked tiers.now) hand.old.number hand.old.line.items r0
+    ensures ok { (r0 r1 r2 w0 : Option (List ℕ)) → GoesOn (answers_after course.turns course.before (IsAnswer G.Game.rules G.shown G.move_shown asked tiers.now)) hand.old.number hand.old.line.items r0
         r1 w0 (W.contents output.old) → Keeps r1 r2 → IsAtEnd r2
-        → OnOk result (IsServed (IsAnswer G.Game.rules G.shown G.move_shown asked tiers.now) r0 r2 w0 (W.contents output.new)) }
-    ensures err { (r0 r1 r2 w0 : Option (List ℕ)) → GoesOn (IsAnswer G.Game.rules G.shown G.move_shown asked tiers.now) hand.old.number hand.old.line.items
-        r0 r1 w0 (W.contents output.old) → Keeps r1 r2
-        → IfErr result (λ e. IsServiceBroken (IsAnswer G.Game.rules G.shown G.move_shown asked tiers.now) e r0 r2 w0 (W.contents output.new)) }
-    ensures not_held { IsErrOf result AskError.NotHeld → ((p : Position) × IsNotHeld G.Game.rules tables.now.tables.now p) }
+        → OnOk result (IsServed (answers_after course.turns course.before (IsAnswer G.Game.rules G.shown G.move_shown asked tiers.now)) r0 r2 w0 (W.contents output.new)) }
+    ensures err { (r0 r1 r2 w0 : Option (List ℕ)) → GoesOn (answers_after course.turns course.before (IsAnswer G.Game.rules G.shown G.move_shown asked tiers.now)) hand.old.number hand.old.line.items
+        r0 r1 w0 (W.contents output.old) → Keeps r1 r2 → IsAtEnd r2
+        → IfErr result (λ s. IsStopped (answers_after course.turns course.before (IsAnswer G.Game.rules G.shown G.move_shown asked tiers.now)) course.before s hand.new.number [] r0 r2 w0 (W.contents output.new)) }
+    ensures late { IfErr result (λ s. IfTurn s (hand.new.number ≡ hand.old.number)) }
+    ensures turns { IfErr result (λ s. IfTurn s (course.turns ≡ true)) }
+    ensures not_held { IsErrOf result (Stop.Error AskError.NotHeld) → ((p : Position) × IsNotHeld G.Game.rules tables.now.tables.now p) }
 {
     if hand.line.is_empty() {
         return Ok(());
     }
-    take_answer(alloc, tables, tiers, asked, hand)?;
+    take_answer(alloc, tables, tiers, asked, course, hand)?;
     flush(&mut hand.answers, output)
-}
-
-// Appends the answer to the line at hand to the answers.
-fn take_answer<G: Shown>(
-    alloc: Global,
-    tables: &Closed<'_, G>,
-    tiers: &[u64],
-    asked: Asked,
-    hand: &mut Hand,
-) -> Result<(), AskError>
-    ensures ok { OnOk result ((out : List ℕ) × IsAnswer G.Game.rules G.shown G.move_shown asked tiers.now hand.old.line.items hand.old.number out
-        × (hand.new.answers.items ≡ hand.old.answers.items ++ (out ++ codes "\n"))) }
-    ensures err { OnErr result (hand.new.answers.items ≡ hand.old.answers.items) }
-    ensures kind { IfErr result IsOfLine }
-    ensures number { hand.new.number ≡ hand.old.number }
-    ensures not_held { IsErrOf result AskError.NotHeld → ((p : Position) × IsNotHeld G.Game.rules tables.now.tables.now p) }
-{
-    let line = answer_line(alloc, tables, tiers, asked, &hand.line, hand.number)?;
-    match hand.answers.extend_from_slice(line.as_slice()) {
-        Ok(()) => Ok(()),
-        Err(_) => Err(AskError::OutOfMemory),
-    }
-}
-
-// Returns the answer to a line, with its end.
-fn answer_line<G: Shown>(
-    alloc: Global,
-    tables: &Closed<'_, G>,
-    tiers: &[u64],
-    asked: Asked,
-    line: &[u8],
-    number: u64,
-) -> Result<Vec<u8>, AskError>
-    ensures ok { IfOk result (λ v. (out : List ℕ) × IsAnswer G.Game.rules G.shown G.move_shown asked tiers.now line.now number out
-        × (v.items ≡ out ++ codes "\n")) }
-    ensures kind { IfErr result IsOfLine }
-    ensures not_held { IsErrOf result AskError.NotHeld → ((p : Position) × IsNotHeld G.Game.rules tables.now.tables.now p) }
-{
-    let mut text = ask_line(alloc, tables, tiers, asked, line, number)?;
-    match text.extend_from_slice(b"\n") {
-        Ok(()) => Ok(text),
-        Err(_) => Err(AskError::OutOfMemory),
-    }
-}
-
-// Writes the answers, by one call if the writer takes them whole, and has none left.
-fn flush<W: Write>(answers: &mut Vec<u8>, output: &mut W) -> Result<(), AskError>
-    ensures ok { OnOk result (Appends (W.contents output.old) (W.contents output.new) answers.old.items) }
-    ensures empty { OnOk result (answers.new.items ≡ []) }
-    ensures err { OnErr result (AppendsPart (W.contents output.old) (W.contents output.new) answers.old.items) }
-    ensures kind { IfErr result IsAskOutputError }
-{
-    match write_text(output, answers.as_slice()) {
-        Ok(()) => {
-            answers.clear();
-            Ok(())
-        }
-        Err(error) if error.kind() == ErrorKind::BrokenPipe => Err(AskError::OutputClosed),
-        Err(_) => Err(AskError::WriteFailed),
-    }
 }

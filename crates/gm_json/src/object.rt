@@ -121,8 +121,8 @@ fn is_id(id: &Json) -> bool
     id.is_string() || (id.is_number() && !id.is_f64())
 }
 
-// Tests whether an object has an id, or no member of that name.
-fn is_named(tree: &Json) -> bool
+/// Tests whether an object has an id, or no member of that name.
+pub(crate) fn is_named(tree: &Json) -> bool
     ensures { result ≡ is_named (view tree.now) }
 {
     match tree.get("id") {

@@ -79,8 +79,13 @@ pub(crate) fn no_position(alloc: Global, number: u64, line: &[u8]) -> Result<Vec
     }
 }
 
-// Returns the answer to a line that can't be answered for this reason.
-fn refusal(alloc: Global, why: &str, number: u64, line: &[u8]) -> Result<Vec<u8>, AllocError>
+/// Returns the answer to a line that can't be answered for this reason.
+pub(crate) fn refusal(
+    alloc: Global,
+    why: &str,
+    number: u64,
+    line: &[u8],
+) -> Result<Vec<u8>, AllocError>
     requires { list_all is_clear why.now ≡ true }
     ensures { IfOk result (λ out. out.items ≡ compact_text (unread_tree why.now number (take read_bytes line.now))) }
 {

@@ -40,7 +40,7 @@ chomp_picture = record {
   rows = [];
   points = number_places;
   mover = player_moves;
-  naming = codes "A position is how long the four rows of the bar\nare, the top row first, as 7 7 3 1. A move is the\nrow and the column of a square, as 2-5: this square\nis bitten off, with all to the right and below.\n";
+  naming = codes "A position is how long the four rows of the bar\nare, the top row first, as 7 7 3 1. A move is the\nrow and the column of a square, as 2-5: this\nsquare is bitten off, with all to the right and\nbelow.\n";
 }
 
 abbrev pub chomp_spec : GameSpec

@@ -63,7 +63,7 @@ impl PicturedMoves for ChompRules {
             rows: &[],
             points: number_places(),
             mover: Mover::Same(b"player"),
-            naming: b"A position is how long the four rows of the bar\nare, the top row first, as 7 7 3 1. A move is the\nrow and the column of a square, as 2-5: this square\nis bitten off, with all to the right and below.\n",
+            naming: b"A position is how long the four rows of the bar\nare, the top row first, as 7 7 3 1. A move is the\nrow and the column of a square, as 2-5: this\nsquare is bitten off, with all to the right and\nbelow.\n",
         }
     }
 }

@@ -1,6 +1,7 @@
 -- Sheets: entries one by one, and solutions move by move.
-use Rattle.gm_page.proofs.Lower.{◌≡◌, ℕ, List, ◌∷◌, ◌++◌, ap, ◌∙◌, codes, flat_map, append_assoc, Position, Rules, Found, PictureSpec, Entry, entry_text, solution_item, AreEntries, steps_text}
+use Rattle.gm_page.proofs.Lower.{◌≡◌, ◌+◌, ◌<◌, ◌≤◌, length, take, take_all, get_or, refl, ℕ, List, ◌∷◌, ◌++◌, ap, ◌∙◌, codes, flat_map, append_assoc, Position, Rules, Found, PictureSpec, Entry, entry_text, solution_item, AreEntries, steps_text}
 use Rattle.gm_draw.specs.Diagrams.{escaped}
+use Rattle.gm_play.proofs.Rows.{flat_more}
 
 -- ---- moves
 -- one more move
@@ -24,3 +25,16 @@ abbrev pub HasEntries : Rules → (Position → List ℕ) → (Position → ℕ 
 HasEntries r shown move_shown picture xs old old_answers new answers =
     (es : List Entry) × AreEntries r shown move_shown picture xs es × (new ≡ old ++ flat_map entry_text es) ×
     (answers ≡ old_answers ++ flat_map solution_item es)
+
+-- ---- items
+-- the items of the first elements, after an earlier text, and of one more; and those of all
+pub items_more : {X : Type 0} (f : X → List ℕ) (xs : List X) (i : ℕ) (d : X) (start old new piece : List ℕ) → i < length xs
+    → old ≡ start ++ flat_map f (take i xs) → new ≡ old ++ piece → piece ≡ f (get_or xs i d) → new ≡ start ++ flat_map f (take (i + 1) xs)
+items_more f xs i d start old new piece less o n p =
+    let done = flat_map f (take i xs) in
+    n ∙ ap (λ (t : List ℕ). t ++ piece) o ∙ append_assoc start done piece
+    ∙ ap (λ (t : List ℕ). start ++ t) (flat_more f xs i d done (done ++ piece) piece less refl refl p)
+
+pub items_all : {X : Type 0} (f : X → List ℕ) (xs : List X) (i : ℕ) (start all : List ℕ) → length xs ≤ i → all ≡ start ++ flat_map f (take i xs)
+    → all ≡ start ++ flat_map f xs
+items_all f xs i start all less e = e ∙ ap (λ (ps : List _). start ++ flat_map f ps) (take_all i xs less)

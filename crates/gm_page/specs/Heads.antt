@@ -6,7 +6,7 @@ use Rattle.gm_json.specs.Words.{text}
 use Rattle.gm_draw.specs.Pictures.{PictureSpec}
 use Rattle.std.specs.List.{before_first}
 use Rattle.gm_draw.specs.declared.pictured.Style.{Style}
-use Rattle.gm_draw.specs.declared.pictured.Style.TheVariants.{Row, Crosses, Counters, Stones, Discs, Letters, Chess, Hounds, Digits}
+use Rattle.gm_draw.specs.declared.pictured.Style.TheVariants.{Row, Crosses, Counters, Stones, Discs, Letters, Chess, Figures, Hounds, Digits}
 
 -- the bytes of a position's text that are men; on a board of chess the last is that of the second side, and the others are of the first
 abbrev pub men_of : Style → List ℕ
@@ -17,6 +17,7 @@ men_of Stones = codes "xo"
 men_of Discs = codes "xo"
 men_of Letters = codes "dh"
 men_of Chess = codes "KQRBNPk"
+men_of Figures = codes "KQRBNPk"
 men_of Hounds = codes "fh"
 men_of Digits = []
 
@@ -29,6 +30,7 @@ first_side Stones = codes "Black"
 first_side Discs = codes "Black"
 first_side Letters = codes "Hounds"
 first_side Chess = codes "White"
+first_side Figures = codes "White"
 first_side Hounds = codes "Fox"
 first_side Digits = codes "First"
 
@@ -40,6 +42,7 @@ second_side Stones = codes "White"
 second_side Discs = codes "White"
 second_side Letters = codes "Hare"
 second_side Chess = codes "Black"
+second_side Figures = codes "Black"
 second_side Hounds = codes "Hounds"
 second_side Digits = codes "Second"
 
@@ -52,6 +55,7 @@ swaps Stones = true
 swaps Discs = true
 swaps Letters = false
 swaps Chess = false
+swaps Figures = false
 swaps Hounds = false
 swaps Digits = false
 

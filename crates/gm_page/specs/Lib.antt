@@ -7,3 +7,4 @@ pub mod Rows
 pub mod Pages
 pub mod Engines
 pub mod Sheets
+pub mod Puzzles

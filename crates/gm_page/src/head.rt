@@ -106,7 +106,7 @@ fn men(style: Style) -> &'static str
         Style::Counters => "x",
         Style::Crosses | Style::Stones | Style::Discs => "xo",
         Style::Letters => "dh",
-        Style::Chess => "KQRBNPk",
+        Style::Chess | Style::Figures => "KQRBNPk",
         Style::Hounds => "fh",
     }
 }
@@ -121,7 +121,7 @@ fn sides(style: Style) -> (&'static str, &'static str)
         Style::Crosses => ("X", "O"),
         Style::Stones | Style::Discs => ("Black", "White"),
         Style::Letters => ("Hounds", "Hare"),
-        Style::Chess => ("White", "Black"),
+        Style::Chess | Style::Figures => ("White", "Black"),
         Style::Hounds => ("Fox", "Hounds"),
     }
 }
@@ -136,6 +136,7 @@ fn swaps(style: Style) -> bool
         | Style::Counters
         | Style::Letters
         | Style::Chess
+        | Style::Figures
         | Style::Hounds
         | Style::Digits => false,
     }

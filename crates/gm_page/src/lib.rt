@@ -11,6 +11,7 @@ mod head;
 pub mod listing;
 pub mod page;
 pub mod parts;
+pub mod puzzles;
 mod rows;
 pub mod script;
 pub mod sheet;

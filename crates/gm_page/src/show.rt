@@ -1,11 +1,15 @@
 //! A position for people: the text with its board, the side to move and the value, and its diagram.
 ghost use Rattle.std.specs.Prelude.{◌≡◌, ◌++◌, codes, true, OnOk, IfOk};
-ghost use Rattle.gm_page.specs.ShowTexts.{naming_text, first_move, IsShowText, IsDiagram};
+ghost use Rattle.gm_page.specs.ShowTexts.{naming_text, first_move, marked_text, IsShowText, IsDiagram, IsSvg, IsTikz};
+ghost use Rattle.gm_play.specs.BestMoves.{IsBestMove};
 
-use gm_draw::diagram::diagram;
+use gm_draw::diagram::{diagram, diagram_with};
 use gm_draw::drawn::{draw, mover};
+use gm_draw::look::Look;
 use gm_draw::pictured::Pictured;
+use gm_draw::tikz::tikz;
 use gm_game::position::Position;
+use gm_game::shown::Line;
 use gm_game::text::value_text;
 use gm_play::known::Known;
 use std::alloc::{AllocError, Global};
@@ -46,6 +50,58 @@ pub fn diagram_text<G: Pictured>(
         (G.shown known.now.position) v.items) }
 {
     diagram::<G>(alloc, known.position, known.value(), valued)
+}
+
+/// Returns the SVG document of a position with this look. If `arrow` is set, its best move is marked.
+pub fn svg_text<G: Pictured>(
+    alloc: Global,
+    known: &Known<'_, G>,
+    look: Look,
+    arrow: bool,
+) -> Result<Vec<u8>, AllocError>
+    ensures { IfOk result (λ v. IsSvg G.Game.rules G.shown G.move_shown G.picture look arrow
+        (G.shown known.now.position) v.items) }
+{
+    let marked = marked_move::<G>(known.position, known.best_move(), arrow);
+    diagram_with::<G>(
+        alloc,
+        known.position,
+        known.value(),
+        look,
+        marked.as_slice(),
+    )
+}
+
+/// Returns the TikZ picture of a position with this look. If `arrow` is set, its best move is marked.
+pub fn tikz_text<G: Pictured>(
+    alloc: Global,
+    known: &Known<'_, G>,
+    look: Look,
+    arrow: bool,
+) -> Result<Vec<u8>, AllocError>
+    ensures { IfOk result (λ v. IsTikz G.Game.rules G.shown G.move_shown G.picture look arrow
+        (G.shown known.now.position) v.items) }
+{
+    let marked = marked_move::<G>(known.position, known.best_move(), arrow);
+    tikz::<G>(
+        alloc,
+        known.position,
+        known.value(),
+        look,
+        marked.as_slice(),
+    )
+}
+
+// Returns the text of the best move, if it is to be marked, and otherwise an empty one.
+fn marked_move<G: Pictured>(p: Position, best: Option<u32>, arrow: bool) -> Line
+    requires legal { G.Game.rules.is_legal p ≡ true }
+    requires best { IsBestMove G.Game.rules p best }
+    ensures { result.items ≡ marked_text G.Game.rules G.shown G.move_shown G.picture arrow p best }
+{
+    match best {
+        Some(number) if arrow => G::move_text(p, number),
+        _ => Line::new(),
+    }
 }
 
 // Appends a line of two texts.

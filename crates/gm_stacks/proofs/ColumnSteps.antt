@@ -1,13 +1,15 @@
 -- The steps of counting, ranking and unranking the heights of columns.
-use Rattle.std.proofs.Common.{◌≡◌, ℕ, zero, suc, ◌+◌, ◌-◌, ◌*◌, ◌/◌, ◌^◌, ◌<◌, ◌≤◌, Bool, true, false, cond, List, [], ◌∷◌, length, drop, refl, sym, ap, ap₂, ◌∙◌, arith, mul-le-mul_right}
+use Rattle.std.proofs.Common.{◌≡◌, ℕ, suc, ◌+◌, ◌-◌, ◌*◌, ◌/◌, ◌^◌, ◌<◌, ◌≤◌, Bool, true, false, cond, List, [], ◌∷◌, length, get_or, refl, sym, ap, ap₂, ◌∙◌, subst, arith, mul-le-mul_right}
 use Rattle.std.proofs.lemmas.Nat.Bits.{bit_at-lt, shr_and_one}
-use Rattle.std.proofs.lemmas.List.{drop_all, drop_more, length-drop}
 use Rattle.std.specs.Prelude.{bit_and}
 use Rattle.gm_board.specs.Masks.{has_cell, bit_weight}
 use Rattle.gm_board.specs.laws.Masks.{weight_bit}
-use Rattle.gm_stacks.specs.Heights.{stackings, total, rank_heights, sum_down}
+use Rattle.gm_stacks.specs.Heights.{stackings, total, rank_heights, unrank_heights, rank_split, side, middle_heights, outer_heights, all_heights}
 use Rattle.gm_stacks.specs.Stacks.{how_many, height_of, heights}
 use Rattle.gm_stacks.specs.laws.Columns.{how_many_le, heights_length, heights_at, heights_total}
+use Rattle.gm_stacks.specs.laws.HeightRanks.{ranked}
+use Rattle.gm_stacks.specs.laws.SplitRanks.{middle_length, outer_length, all_back, total_parts}
+use Rattle.gm_stacks.proofs.SplitSteps.{before, AreLeft, IsMiddle, none_left, middle_put, outer_put, part_few}
 
 -- a cell of a row and a column is one of the board
 pub cell_within : (h w r c : ℕ) → r < h → c < w → r * w + c < h * w
@@ -28,56 +30,85 @@ one_row p m n k e =
     weighed false = refl
 
 -- what holds when the columns from some on are ranked
-pub record IsRanking (w h : ℕ) (p : ℕ → Bool) (column pieces rank : ℕ) : Type 0 where
-  pub all : pieces ≡ total (drop column (heights w h p))
-  pub ranked : rank ≡ rank_heights h (drop column (heights w h p))
-  pub fits : rank ≤ (w - column) * 4294967296
+pub record IsRanking (w h k : ℕ) (p : ℕ → Bool) (c a b : ℕ) (xs ys : List ℕ) : Type 0 where
+  pub middle_rows : a ≡ h
+  pub outer_rows : b ≡ h
+  pub left : AreLeft w k c (middle_heights k (heights w h p)) (outer_heights k (heights w h p)) xs ys
 
--- nothing is ranked yet
-pub ranking : (w h : ℕ) (p : ℕ → Bool) → IsRanking w h p w 0 0
-unfolding rank_heights
-ranking w h p =
-    let e : drop w (heights w h p) ≡ [] = drop_all w (heights w h p) (let n = heights_length w h p in omega (arith, n)) in
-    record { all = rw e refl; ranked = rw e refl; fits = omega arith }
+module _ (w h k : ℕ) (p : ℕ → Bool) (wide : k ≤ w) where
+  abbrev hs : List ℕ
+  hs = heights w h p
 
-total_rest : (i : ℕ) (hs : List ℕ) → total (drop i hs) ≤ total hs
-total_rest zero hs = omega arith
-total_rest (suc i) [] = omega arith
-total_rest (suc i) (x ∷ hs) = omega (arith, total_rest i hs)
+  abbrev ms : List ℕ
+  ms = middle_heights k hs
 
--- one column more
-module _ (w h : ℕ) (p : ℕ → Bool) (column pieces rank x : ℕ) (r : IsRanking w h p column pieces rank) (low : 0 < column) (high : column ≤ w)
-    (e : x ≡ height_of w h p (column - 1)) where
-  more : drop (column - 1) (heights w h p) ≡ x ∷ drop column (heights w h p)
-  more =
-      let n = heights_length w h p in
-      drop_more (heights w h p) (column - 1) 0 (omega (arith, n, low, high))
-      ∙ ap₂ (λ (y : ℕ) (ys : List ℕ). y ∷ ys) (heights_at w h p (column - 1) (omega (arith, low, high)) ∙ sym e)
-      (ap (λ (k : ℕ). drop k (heights w h p)) (let z : column - 1 + 1 ≡ column = omega (arith, low) in z))
+  abbrev os : List ℕ
+  os = outer_heights k hs
 
-  all_more : pieces + x ≡ total (drop (column - 1) (heights w h p))
-  all_more = (let z : pieces + x ≡ x + total (drop column (heights w h p)) = omega (arith, r.all) in z) ∙ sym (ap total more)
+  inside : k ≤ length hs
+  inside = let n = heights_length w h p in omega (arith, n, wide)
 
-  -- no more pieces than cells
-  pub pieces_few : pieces + x ≤ h * w
-  pieces_few =
-      let a = total_rest (column - 1) (heights w h p) in
-      let b = heights_total w h p in
-      let d = how_many_le p (h * w) in
-      omega (arith, all_more, a, b, d)
+  ms_long : length ms ≡ k
+  ms_long = middle_length k hs inside
 
-  pub ranking_more : (less : ℕ) → less ≡ sum_down (stackings h (w - 1 - (column - 1))) x (pieces + x) → less < 2 ^ 32
-      → IsRanking w h p (column - 1) (pieces + x) (rank + less)
-  unfolding rank_heights
-  ranking_more less f small =
-      let xs = drop column (heights w h p) in
-      let n : length xs ≡ w - 1 - (column - 1) = length-drop column (heights w h p) ∙ (let m = heights_length w h p in omega (arith, m, low)) in
-      let s : pieces + x ≡ x + total xs = omega (arith, r.all) in
-      record {
-        all = all_more;
-        ranked =
-            (let z : rank + less ≡ less + rank_heights h xs = omega (arith, r.ranked) in z)
-            ∙ ap (λ (v : ℕ). v + rank_heights h xs) (f ∙ ap₂ (λ (k m : ℕ). sum_down (stackings h k) x m) (sym n) s)
-            ∙ sym (ap (rank_heights h) more);
-        fits = omega (arith, r.fits, small, low, high);
-      }
+  os_long : length os ≡ w - k
+  os_long = outer_length k hs inside ∙ ap (λ (n : ℕ). n - k) (heights_length w h p)
+
+  -- nothing is ranked yet
+  pub ranking : (a b : ℕ) (xs ys : List ℕ) → a ≡ h → b ≡ h → xs ≡ [] → ys ≡ [] → IsRanking w h k p w a b xs ys
+  ranking a b xs ys d e f g =
+      let z = none_left w k ms os wide ms_long os_long in
+      record { middle_rows = d; outer_rows = e; left = record { middle = f ∙ z.middle; outer = g ∙ z.outer } }
+
+  -- one column more
+  module _ (c a b : ℕ) (xs ys : List ℕ) (r : IsRanking w h k p c a b xs ys) (low : 0 < c) (high : c ≤ w) (x : ℕ) (e : x ≡ height_of w h p (c - 1)) where
+    column : c - 1 < w
+    column = omega (arith, low, high)
+
+    now : AreLeft w k (c - 1 + 1) ms os xs ys
+    now = subst (λ (v : ℕ). AreLeft w k v ms os xs ys) (let z : c ≡ c - 1 + 1 = omega (arith, low) in z) r.left
+
+    here : x ≡ get_or (all_heights ms os) (c - 1) 0
+    here = e ∙ sym (heights_at w h p (c - 1) column) ∙ ap (λ (zs : List ℕ). get_or zs (c - 1) 0) (sym (all_back k hs inside))
+
+    few : total ms + total os ≤ h * w
+    few = let t = total_parts k hs inside in let s = heights_total w h p in let n = how_many_le p (h * w) in omega (arith, t, s, n)
+
+    pub middle_ranked : IsMiddle w k (c - 1) → (z : ℕ) (zs : List ℕ) → z ≡ a → zs ≡ x ∷ xs → IsRanking w h k p (c - 1) z b zs ys
+    middle_ranked d z zs f g =
+        let t = middle_put w k (c - 1) ms os wide ms_long os_long column xs ys now x here d in
+        record { middle_rows = f ∙ r.middle_rows; outer_rows = r.outer_rows; left = record { middle = g ∙ t.middle; outer = t.outer } }
+
+    pub outer_ranked : (IsMiddle w k (c - 1) → ⊥) → (z : ℕ) (zs : List ℕ) → z ≡ b → zs ≡ x ∷ ys → IsRanking w h k p (c - 1) a z xs zs
+    outer_ranked d z zs f g =
+        let t = outer_put w k (c - 1) ms os wide ms_long os_long column xs ys now x here d in
+        record { middle_rows = r.middle_rows; outer_rows = f ∙ r.outer_rows; left = record { middle = t.middle; outer = g ∙ t.outer } }
+
+    -- there are fewer columns than the board has, and no more pieces than cells
+    pub middle_few : IsMiddle w k (c - 1) → (j s i : ℕ) → i < stackings a j s → xs ≡ unrank_heights a j s i → (j < w) × (s + x ≤ h * w)
+    middle_few d j s i l f =
+        let t = middle_put w k (c - 1) ms os wide ms_long os_long column xs ys now x here d in
+        let z = part_few a j s i x (c - 1 - side w k) ms l (ap (λ (zs : List ℕ). x ∷ zs) (sym f) ∙ t.middle) in
+        let n = z.0 in
+        let m = z.1 in
+        (omega (arith, n, ms_long, wide), omega (arith, m, few))
+
+    pub outer_few : (IsMiddle w k (c - 1) → ⊥) → (j s i : ℕ) → i < stackings b j s → ys ≡ unrank_heights b j s i → (j < w) × (s + x ≤ h * w)
+    outer_few d j s i l f =
+        let t = outer_put w k (c - 1) ms os wide ms_long os_long column xs ys now x here d in
+        let z = part_few b j s i x (before w k (c - 1)) os l (ap (λ (zs : List ℕ). x ∷ zs) (sym f) ∙ t.outer) in
+        let n = z.0 in
+        let m = z.1 in
+        (omega (arith, n, os_long, wide), omega (arith, m, few))
+
+-- the rank of a list by those of its parts
+pub rank_by : (h k : ℕ) (zs : List ℕ) (a ca pa ra b cb pb rb ways : ℕ) → a ≡ h → b ≡ h → ra < stackings a ca pa → rb < stackings b cb pb
+    → unrank_heights a ca pa ra ≡ middle_heights k zs → unrank_heights b cb pb rb ≡ outer_heights k zs → ways ≡ stackings h cb pb → ra * ways + rb ≡ rank_split h k zs
+unfolding rank_split
+rank_by h k zs a ca pa ra b cb pb rb ways ea eb la lb fa fb e =
+    let x = ranked a ca pa ra la in
+    let y = ranked b cb pb rb lb in
+    ap₂ (λ (u v : ℕ). u + v)
+    (ap₂ (λ (u v : ℕ). u * v) (sym x.back ∙ ap₂ rank_heights ea fa)
+    (e ∙ ap₂ (stackings h) (sym y.columns ∙ ap length fb) (sym y.all ∙ ap total fb)))
+    (sym y.back ∙ ap₂ rank_heights eb fb)

@@ -1,8 +1,7 @@
 -- The steps of filling columns by the rank of their heights.
-use Rattle.std.proofs.Common.{◌≡◌, ℕ, suc, ◌+◌, ◌-◌, ◌*◌, ◌/◌, ◌%◌, ◌^◌, ◌<◌, ◌≤◌, ◌≢◌, Bool, false, ◌&&◌, ◌||◌, eqb, eq-eqb, ltb, lt-ltb, leb, le-leb, List, ◌∷◌, length, get_or, drop, w32, sym, ap, ap₂, ◌∙◌, subst, arith, inl, inr, mod-lt, pow_pos, mul-le-mul_right}
+use Rattle.std.proofs.Common.{◌≡◌, ℕ, ◌+◌, ◌-◌, ◌*◌, ◌/◌, ◌%◌, ◌^◌, ◌<◌, ◌≤◌, ◌≢◌, Bool, false, ◌&&◌, ◌||◌, eqb, eq-eqb, ltb, lt-ltb, leb, le-leb, List, ◌∷◌, length, get_or, w32, sym, ap, ap₂, ◌∙◌, arith, inl, inr, mod-lt, pow_pos, mul-le-mul_right}
 use Rattle.std.proofs.lemmas.Bool.{cases_eq, cases_lt, ne_eqb}
 use Rattle.std.proofs.lemmas.Bool.Decides.{nat_tests}
-use Rattle.std.proofs.lemmas.List.{drop_more}
 use Rattle.std.proofs.lemmas.Nat.{div-mul-add, mod-mul-add, div-add-mod', or_lt}
 use Rattle.std.proofs.lemmas.Nat.Bits.{bit_at_above, bit_at-zero, bit_at_set_same, bit_at_set_other}
 use Rattle.std.specs.Prelude.{bit_or}
@@ -10,10 +9,12 @@ use Rattle.gm_board.specs.Masks.{has_cell}
 use Rattle.gm_board.specs.laws.Arrangements.{pos_of_lt_mul}
 use Rattle.gm_board.specs.laws.Lists.{and_false}
 use Rattle.gm_board.specs.laws.MaskChanges.{with_within, has_or}
-use Rattle.gm_stacks.specs.Heights.{stackings, sum_down, first_height, unrank_heights}
+use Rattle.gm_stacks.specs.Heights.{stackings, split_stackings, unrank_heights, unrank_split, all_heights}
 use Rattle.gm_stacks.specs.Stacks.{is_filled}
-use Rattle.gm_stacks.specs.laws.HeightRanks.{ranked, first_is}
+use Rattle.gm_stacks.specs.laws.HeightRanks.{ranked}
+use Rattle.gm_stacks.specs.laws.SplitRanks.{middle_below, outer_below}
 use Rattle.gm_stacks.proofs.ColumnSteps.{cell_within}
+use Rattle.gm_stacks.proofs.SplitSteps.{AreLeft, IsMiddle, all_left, middle_taken, outer_taken, middle_some, outer_some}
 
 not_below : (a b : ℕ) → b ≤ a → ltb a b ≡ false
 not_below a b l = grind (arith, nat_tests)
@@ -110,40 +111,34 @@ column_done w h column x row mask c l k i =
     c.cells k ∙ ap (λ (b : Bool). b && is_low w h column x k) (lt-ltb k (row * w) (omega (arith, i, up)))
 
 -- ---- all columns
+-- the heights of the middle columns, and of the others, by a rank
+abbrev pub inner : ℕ → ℕ → ℕ → ℕ → ℕ → ℕ → List ℕ
+inner w h k n m rank = unrank_heights h k m (rank / stackings h (w - k) n)
+
+abbrev pub others : ℕ → ℕ → ℕ → ℕ → ℕ → ℕ → List ℕ
+others w h k n m rank = unrank_heights h (w - k) n (rank % stackings h (w - k) n)
+
 -- what holds when the columns before some column are filled, by the heights of a rank
-pub record IsFilling (w h pieces rank column left rest taken : ℕ) : Type 0 where
-  pub rest_is : drop column (unrank_heights h w pieces rank) ≡ unrank_heights h (w - column) left rest
-  pub below : rest < stackings h (w - column) left
-  pub few : left ≤ pieces
+pub record IsFilling (w h k n m rank c p q : ℕ) (xs ys : List ℕ) (taken : ℕ) : Type 0 where
+  pub inner_rows : p ≡ h
+  pub other_rows : q ≡ h
+  pub left : AreLeft w k c (inner w h k n m rank) (others w h k n m rank) xs ys
   pub within : taken < 2 ^ (h * w)
-  pub cells : (k : ℕ) → has_cell taken k ≡ (ltb k (h * w) && (ltb (k % w) column && is_filled w h (unrank_heights h w pieces rank) k))
+  pub cells : (i : ℕ) → has_cell taken i ≡ (ltb i (h * w) && (ltb (i % w) c && is_filled w h (unrank_split h w k n m rank) i))
 
 -- no column is filled yet
-pub filling : (w h pieces rank : ℕ) → rank < stackings h w pieces → IsFilling w h pieces rank 0 pieces rank 0
-filling w h pieces rank l = record {
-  rest_is = ap (λ (k : ℕ). unrank_heights h k pieces rank) (let z : w ≡ w - 0 = omega arith in z);
-  below = subst (λ (k : ℕ). rank < stackings h k pieces) (let z : w ≡ w - 0 = omega arith in z) l;
-  few = omega arith;
-  within = pow_pos (h * w);
-  cells = λ k. ap (λ (v : ℕ). eqb v 1) (bit_at-zero k) ∙ sym (ap (λ (b : Bool). ltb k (h * w) && (b && is_filled w h (unrank_heights h w pieces rank) k))
-      (not_below (k % w) 0 (omega arith)) ∙ and_false (ltb k (h * w)));
-}
-
--- what a turn does: the height of the next column, and the cells of that height
-pub record IsFillTurn (w h pieces rank column left rest taken x : ℕ) : Type 0 where
-  pub bound : rest < sum_down (stackings h (w - 1 - column)) (h + 1) left
-  pub room : x ≤ h
-  pub few : x ≤ left
-  pub low : sum_down (stackings h (w - 1 - column)) x left ≤ rest
-  pub after : (mask : ℕ) → mask < 2 ^ (h * w) → ((k : ℕ) → k < h * w → has_cell mask k ≡ is_low w h column x k)
-      → IsFilling w h pieces rank (column + 1) (left - x) (rest - sum_down (stackings h (w - 1 - column)) x left) (bit_or taken mask)
-
--- the two parts of a list that is given in two ways
-same_head : (x y : ℕ) (xs ys : List ℕ) → x ∷ xs ≡ y ∷ ys → x ≡ y
-same_head x y xs ys e = cc
-
-same_tail : (x y : ℕ) (xs ys : List ℕ) → x ∷ xs ≡ y ∷ ys → xs ≡ ys
-same_tail x y xs ys e = cc
+pub filling : (w h k n m rank p q : ℕ) (xs ys : List ℕ) → p ≡ h → q ≡ h → xs ≡ inner w h k n m rank → ys ≡ others w h k n m rank
+    → IsFilling w h k n m rank 0 p q xs ys 0
+filling w h k n m rank p q xs ys d e f g =
+    let a = all_left w k (inner w h k n m rank) (others w h k n m rank) in
+    record {
+      inner_rows = d;
+      other_rows = e;
+      left = record { middle = f ∙ a.middle; outer = g ∙ a.outer };
+      within = pow_pos (h * w);
+      cells = λ i. ap (λ (v : ℕ). eqb v 1) (bit_at-zero i) ∙ sym (ap (λ (b : Bool). ltb i (h * w) && (b && is_filled w h (unrank_split h w k n m rank) i))
+          (not_below (i % w) 0 (omega arith)) ∙ and_false (ltb i (h * w)));
+    }
 
 -- the tests of one more column
 tests_more : (m c : ℕ) (a b : Bool) → (m ≡ c → a ≡ b) → ((ltb m c && a) || (eqb m c && b)) ≡ (ltb m (c + 1) && a)
@@ -171,54 +166,46 @@ merged w h column x taken mask hs c m s here k = elim (cases_lt k (h * w)) [
       ∙ sym (ap (λ (b : Bool). b && (ltb (k % w) (column + 1) && is_filled w h hs k)) (not_below k (h * w) l))
 ]
 
-pub fill_turn : (w h pieces rank column left rest taken : ℕ) → IsFilling w h pieces rank column left rest taken → rank < stackings h w pieces → column < w
-    → IsFillTurn w h pieces rank column left rest taken (first_height (stackings h (w - 1 - column)) h left rest)
-unfolding stackings unrank_heights
-fill_turn w h pieces rank column left rest taken c r l =
-    let k = w - 1 - column in
-    let f = stackings h k in
-    let all = unrank_heights h w pieces rank in
-    let x = first_height f h left rest in
-    let one : w - column ≡ suc k = omega (arith, l) in
-    let bound : rest < sum_down f (suc h) left = subst (λ (j : ℕ). rest < stackings h j left) one c.below in
-    let first = first_is f h left rest bound in
-    let low = first.low in
-    let high = first.high in
-    let n : column < length all = (let m = (ranked h w pieces rank r).columns in omega (arith, m, l)) in
-    let both : get_or all column 0 ∷ drop (column + 1) all ≡ x ∷ unrank_heights h k (left - x) (rest - sum_down f x left) =
-    sym (drop_more all column 0 n) ∙ c.rest_is ∙ ap (λ (j : ℕ). unrank_heights h j left rest) one in
-    let here : get_or all column 0 ≡ x = same_head _ _ _ _ both in
-    let later : w - (column + 1) ≡ k = omega arith in
-    record {
-      bound = subst (λ (j : ℕ). rest < sum_down f j left) (let z : suc h ≡ h + 1 = omega arith in z) bound;
-      room = first.room;
-      few = first.few;
-      low = low;
-      after = λ mask m s. record {
-        rest_is = same_tail _ _ _ _ both ∙ ap (λ (j : ℕ). unrank_heights h j (left - x) (rest - sum_down f x left)) (sym later);
-        below = subst (λ (j : ℕ). rest - sum_down f x left < stackings h j (left - x)) (sym later) (omega (arith, low, high));
-        few = (let few = c.few in omega (arith, few));
-        within = or_lt (h * w) taken mask c.within m;
-        cells = λ i. has_or taken mask i ∙ merged w h column x taken mask all c.cells m s here i;
-      };
-    }
+-- one column more
+module _ (w h k n m rank c p q : ℕ) (xs ys : List ℕ) (taken : ℕ) (f : IsFilling w h k n m rank c p q xs ys taken) (wide : k ≤ w)
+    (r : rank < split_stackings h w k n m) (l : c < w) where
+  inner_long : length (inner w h k n m rank) ≡ k
+  inner_long = (ranked h k m (rank / stackings h (w - k) n) (middle_below h w k n m wide rank r)).columns
 
--- the same, for the height as the code has it
-pub turn_at : (w h pieces rank column left rest taken x : ℕ) → IsFilling w h pieces rank column left rest taken → rank < stackings h w pieces → column < w
-    → x ≡ first_height (stackings h (w - 1 - column)) h left rest → IsFillTurn w h pieces rank column left rest taken x
-turn_at w h pieces rank column left rest taken x c r l e =
-    subst (λ (y : ℕ). IsFillTurn w h pieces rank column left rest taken y) (sym e) (fill_turn w h pieces rank column left rest taken c r l)
+  others_long : length (others w h k n m rank) ≡ w - k
+  others_long = (ranked h (w - k) n (rank % stackings h (w - k) n) (outer_below h w k n m wide rank r)).columns
 
--- the bound of the first height is known before it is
-pub turn_bound : (w h pieces rank column left rest taken : ℕ) → IsFilling w h pieces rank column left rest taken → rank < stackings h w pieces → column < w
-    → rest < sum_down (stackings h (w - 1 - column)) (h + 1) left
-turn_bound w h pieces rank column left rest taken c r l = (fill_turn w h pieces rank column left rest taken c r l).bound
+  -- there is a height for it
+  pub inner_some : IsMiddle w k c → (j s i : ℕ) → i < stackings p j s → xs ≡ unrank_heights p j s i → 0 < j
+  inner_some d j s i b e =
+      middle_some w k c (inner w h k n m rank) (others w h k n m rank) wide inner_long others_long l xs ys f.left d p j s i b e
+
+  pub others_some : (IsMiddle w k c → ⊥) → (j s i : ℕ) → i < stackings q j s → ys ≡ unrank_heights q j s i → 0 < j
+  others_some d j s i b e =
+      outer_some w k c (inner w h k n m rank) (others w h k n m rank) wide inner_long others_long l xs ys f.left d q j s i b e
+
+  -- its cells are filled
+  module _ (x mask : ℕ) (zs : List ℕ) (z : ℕ) (b : mask < 2 ^ (h * w)) (s : (i : ℕ) → i < h * w → has_cell mask i ≡ is_low w h c x i) where
+    more : get_or (all_heights (inner w h k n m rank) (others w h k n m rank)) c 0 ≡ x → (i : ℕ)
+        → has_cell (bit_or taken mask) i ≡ (ltb i (h * w) && (ltb (i % w) (c + 1) && is_filled w h (unrank_split h w k n m rank) i))
+    unfolding unrank_split
+    more here i = has_or taken mask i ∙ merged w h c x taken mask (unrank_split h w k n m rank) f.cells b s here i
+
+    pub inner_filled : IsMiddle w k c → z ≡ p → xs ≡ x ∷ zs → IsFilling w h k n m rank (c + 1) z q zs ys (bit_or taken mask)
+    inner_filled d e g =
+        let t = middle_taken w k c (inner w h k n m rank) (others w h k n m rank) wide inner_long others_long l xs ys f.left d x zs g in
+        record { inner_rows = e ∙ f.inner_rows; other_rows = f.other_rows; left = t.0; within = or_lt (h * w) taken mask f.within b; cells = more t.1 }
+
+    pub others_filled : (IsMiddle w k c → ⊥) → z ≡ q → ys ≡ x ∷ zs → IsFilling w h k n m rank (c + 1) p z xs zs (bit_or taken mask)
+    others_filled d e g =
+        let t = outer_taken w k c (inner w h k n m rank) (others w h k n m rank) wide inner_long others_long l xs ys f.left d x zs g in
+        record { inner_rows = f.inner_rows; other_rows = e ∙ f.other_rows; left = t.0; within = or_lt (h * w) taken mask f.within b; cells = more t.1 }
 
 -- all columns are filled
-pub fill_done : (w h pieces rank column left rest taken : ℕ) → IsFilling w h pieces rank column left rest taken → w ≤ column → (k : ℕ) → k < h * w
-    → has_cell taken k ≡ is_filled w h (unrank_heights h w pieces rank) k
-fill_done w h pieces rank column left rest taken c l k i =
-    let pos = pos_of_lt_mul k h w i in
-    let m = mod-lt k pos in
-    c.cells k ∙ ap₂ (λ (a b : Bool). a && (b && is_filled w h (unrank_heights h w pieces rank) k)) (lt-ltb k (h * w) i)
-    (lt-ltb (k % w) column (omega (arith, m, l)))
+pub fill_done : (w h k n m rank c p q : ℕ) (xs ys : List ℕ) (taken : ℕ) → IsFilling w h k n m rank c p q xs ys taken → w ≤ c → (i : ℕ) → i < h * w
+    → has_cell taken i ≡ is_filled w h (unrank_split h w k n m rank) i
+fill_done w h k n m rank c p q xs ys taken f l i j =
+    let pos = pos_of_lt_mul i h w j in
+    let b = mod-lt i pos in
+    f.cells i ∙ ap₂ (λ (x y : Bool). x && (y && is_filled w h (unrank_split h w k n m rank) i)) (lt-ltb i (h * w) j)
+    (lt-ltb (i % w) c (omega (arith, b, l)))

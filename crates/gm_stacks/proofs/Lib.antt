@@ -1,4 +1,5 @@
 pub mod FewerRows
+pub mod SplitSteps
 pub mod ColumnSteps
 pub mod FilledSteps
 pub mod NumberingSteps

@@ -24,10 +24,10 @@ use Rattle.gm_board.specs.laws.MaskChanges.{has_and, has_or, has_not, has_none, 
 use Rattle.gm_board.specs.laws.Masks.{mask_below, mask_rank_at, mask_tests_small, members_small, tests_mask, tests_more, tests_none, tests_unrank}
 use Rattle.gm_board.specs.laws.Pieces.{apart_below, cells_back, cells_length, cells_more, cells_none, mine_bits_cells}
 use Rattle.gm_board.specs.laws.Ranks.{members_le, unrank_length}
-use Rattle.gm_stacks.specs.Heights.{stackings, total, rank_heights, unrank_heights}
+use Rattle.gm_stacks.specs.Heights.{stackings, total, middle_heights, outer_heights, split_stackings, rank_split, unrank_split}
 use Rattle.gm_stacks.specs.Stacks.{how_many, heights, is_filled, down, own_bits, placed, has_piece, owners, stacked_boards, stacked_index, stacked_board}
 use Rattle.gm_stacks.specs.laws.Columns.{heights_length, heights_low, filled_many, same_heights, same_many}
-use Rattle.gm_stacks.specs.laws.HeightRanks.{rank_within, ranked, stackings_few}
+use Rattle.gm_stacks.specs.laws.SplitRanks.{split_within, split_is, split_total, split_few}
 use Rattle.gm_stacks.specs.laws.StackedBoards.{same_down, down_length, down_many, own_members, pieces_many, placed_taken, placed_length}
 
 -- ---- masks as lists of tests
@@ -157,23 +157,33 @@ module _ (n mine theirs free : ℕ) (few : n ≤ 25) (la : mine < 2 ^ n) (lb : t
       ∙ ap (λ (cs : List Cell). members (own_bits cs)) (sym (reverse_board n mine theirs))
 
   -- the index of a board by the ranks of its heights and of its packed pieces
-  pub index_is : (w h a b own : ℕ) → n ≡ h * w → a ≡ rank_heights h (heights w h (has_cell taken)) → b ≡ binomial (count_ones taken) (count_ones mine)
-      → own ≡ mask_rank (mask_of (their_bits (cells_of n free mine))) → a * b + own ≡ stacked_index w h (board_of n mine theirs)
+  pub index_is : (w h k a b own : ℕ) → n ≡ h * w → a ≡ rank_split h k (heights w h (has_cell taken)) → b ≡ binomial (count_ones taken) (count_ones mine)
+      → own ≡ mask_rank (mask_of (their_bits (cells_of n free mine))) → a * b + own ≡ stacked_index w h k (board_of n mine theirs)
   unfolding stacked_index
-  index_is w h a b own size ea eb eo =
+  index_is w h k a b own size ea eb eo =
       ap₂ (λ (x y : ℕ). x + y)
       (ap₂ (λ (x y : ℕ). x * y)
-      (ea ∙ ap (rank_heights h) (same_heights w h (has_cell taken) (has_piece (board_of n mine theirs)) (λ k l. taken_is k (omega (arith, size, l)))))
+      (ea ∙ ap (rank_split h k) (same_heights w h (has_cell taken) (has_piece (board_of n mine theirs)) (λ i l. taken_is i (omega (arith, size, l)))))
       (eb ∙ ap₂ binomial all_many own_many))
       (eo ∙ rank_of_tests (their_bits (cells_of n free mine)) packed_short ∙ ap rank own_packed)
 
 -- the rank of heights is small
-pub rank_small : (w h : ℕ) (p : ℕ → Bool) → h ≤ 6 → w ≤ 6 → rank_heights h (heights w h p) < 117649
-rank_small w h p l m =
-    let a = rank_within h (heights w h p) (heights_low w h p) in
-    let n = heights_length w h p in
-    let b = stackings_few h (length (heights w h p)) (total (heights w h p)) l (omega (arith, n, m)) in
+pub rank_small : (w h k : ℕ) (p : ℕ → Bool) → h ≤ 6 → w ≤ 6 → k ≤ w → rank_split h k (heights w h p) < 117649
+rank_small w h k p l j wide =
+    let hs = heights w h p in
+    let a = split_within h w k (total (outer_heights k hs)) (total (middle_heights k hs)) wide hs
+    (record { columns = heights_length w h p; low = heights_low w h p; outer = refl; middle = refl }) in
+    let b = split_few h w k (total (outer_heights k hs)) (total (middle_heights k hs)) l j wide in
     omega (arith, a, b)
+
+-- a number of lists of heights times a number of ways fits
+pub boards_fit : (w h k n m a b c : ℕ) → h ≤ 6 → w ≤ 6 → k ≤ w → a ≡ stackings h k m → b ≡ stackings h (w - k) n → c < 2 ^ 32 → a * b * c < 2 ^ 63
+unfolding split_stackings
+boards_fit w h k n m a b c l j wide ea eb small =
+    let s = split_few h w k n m l j wide in
+    let e : a * b ≡ stackings h k m * stackings h (w - k) n = ap₂ (λ (x y : ℕ). x * y) ea eb in
+    let p = mul-lt (a * b) c 117650 (2 ^ 32) (omega (arith, s, e)) small in
+    omega (arith, p)
 
 -- a rank of heights times a number of ways fits
 pub index_fits : (a b : ℕ) → a < 117649 → b < 2 ^ 32 → a * b < 2 ^ 63
@@ -189,17 +199,17 @@ count_few n m l = let a = members_small n m l in let b = members_le (tests_of n 
 
 -- ---- the masks of an index
 -- the two ranks of an index, by the number of ways for the mover's pieces
-pub record AreRanks (w h pieces own index ways : ℕ) : Type 0 where
+pub record AreRanks (w h k n m own index ways : ℕ) : Type 0 where
   pub some : 0 < ways
-  pub high : index / ways < stackings h w pieces
-  pub low : index % ways < binomial pieces own
+  pub high : index / ways < split_stackings h w k n m
+  pub low : index % ways < binomial (n + m) own
 
-pub ranks : (w h pieces own index ways : ℕ) → index < stacked_boards w h pieces own → ways ≡ binomial pieces own → AreRanks w h pieces own index ways
+pub ranks : (w h k n m own index ways : ℕ) → index < stacked_boards w h k n m own → ways ≡ binomial (n + m) own → AreRanks w h k n m own index ways
 unfolding stacked_boards
-ranks w h pieces own index ways l e =
-    let k : index < stackings h w pieces * ways = subst (λ (v : ℕ). index < stackings h w pieces * v) (sym e) l in
-    let p : 0 < ways = pos_of_lt_mul index (stackings h w pieces) ways k in
-    record { some = p; high = (div-lt_iff_lt-mul p).1 k; low = subst (λ (v : ℕ). index % ways < v) e (mod-lt index p) }
+ranks w h k n m own index ways l e =
+    let i : index < split_stackings h w k n m * ways = subst (λ (v : ℕ). index < split_stackings h w k n m * v) (sym e) l in
+    let p : 0 < ways = pos_of_lt_mul index (split_stackings h w k n m) ways i in
+    record { some = p; high = (div-lt_iff_lt-mul p).1 i; low = subst (λ (v : ℕ). index % ways < v) e (mod-lt index p) }
 
 -- the mover's pieces of the tests of a board are those that are spread over the cells that have one
 spread_placed : (ts os : List Bool) → their_tests (merge (map not ts) os) ≡ mine_bits (placed ts os)
@@ -228,23 +238,24 @@ their_but (Theirs ∷ cs) = ap (λ (bs : List Bool). true ∷ bs) (their_but cs)
 their_but (Empty ∷ cs) = ap (λ (bs : List Bool). false ∷ bs) (their_but cs)
 
 -- the masks of an index
-pub record AreMasks (w h pieces own index mine theirs : ℕ) : Type 0 where
+pub record AreMasks (w h k n m own index mine theirs : ℕ) : Type 0 where
   pub mine_within : mine < 2 ^ (h * w)
   pub theirs_within : theirs < 2 ^ (h * w)
   pub apart : bit_and mine theirs ≡ 0
-  pub board : board_of (h * w) mine theirs ≡ stacked_board w h pieces own index
+  pub board : board_of (h * w) mine theirs ≡ stacked_board w h k n m own index
 
-module _ (w h pieces own index ways taken free packed : ℕ) (few : h * w ≤ 25) (l : index < stacked_boards w h pieces own) (e : ways ≡ binomial pieces own)
-    (f : AreFree (h * w) taken free) (c : (k : ℕ) → k < h * w → has_cell taken k ≡ is_filled w h (unrank_heights h w pieces (index / ways)) k)
-    (p : packed ≡ mask_unrank pieces own (index % ways)) where
+module _ (w h k n m own index ways taken free packed : ℕ) (few : h * w ≤ 25) (wide : k ≤ w) (l : index < stacked_boards w h k n m own)
+    (e : ways ≡ binomial (n + m) own) (f : AreFree (h * w) taken free)
+    (c : (i : ℕ) → i < h * w → has_cell taken i ≡ is_filled w h (unrank_split h w k n m (index / ways)) i)
+    (p : packed ≡ mask_unrank (n + m) own (index % ways)) where
   abbrev hs : List ℕ
-  hs = unrank_heights h w pieces (index / ways)
+  hs = unrank_split h w k n m (index / ways)
 
   abbrev ts : List Bool
   ts = down (is_filled w h hs) (h * w)
 
   abbrev os : List Bool
-  os = unrank pieces own (index % ways)
+  os = unrank (n + m) own (index % ways)
 
   abbrev mine : ℕ
   mine = spread_mask (h * w) free packed
@@ -252,21 +263,23 @@ module _ (w h pieces own index ways taken free packed : ℕ) (few : h * w ≤ 25
   abbrev theirs : ℕ
   theirs = bit_and taken (bit_not w32 mine)
 
-  filled_all : how_many (is_filled w h hs) (h * w) ≡ pieces
-  filled_all = let r = ranked h w pieces (index / ways) (ranks w h pieces own index ways l e).high in filled_many w h hs r.columns r.low ∙ r.all
+  filled_all : how_many (is_filled w h hs) (h * w) ≡ n + m
+  filled_all =
+      let r = split_is h w k n m wide (index / ways) (ranks w h k n m own index ways l e).high in
+      filled_many w h hs r.columns r.low ∙ split_total h w k n m wide hs r
 
-  taken_many : count_ones taken ≡ pieces
+  taken_many : count_ones taken ≡ n + m
   taken_many = ones_many (h * w) taken f.taken_within ∙ same_many (has_cell taken) (is_filled w h hs) (h * w) c ∙ filled_all
 
   -- as many cells have a piece
-  pub free_pieces : h * w - count_ones free ≡ pieces
+  pub free_pieces : h * w - count_ones free ≡ n + m
   free_pieces = free_many (h * w) taken free f ∙ taken_many
 
   taken_tests : tests_of (h * w) taken ≡ ts
   taken_tests = tests_down (h * w) taken ∙ same_down (has_cell taken) (is_filled w h hs) (h * w) c
 
   fit : length os ≡ members ts
-  fit = unrank_length pieces own (index % ways) ∙ sym filled_all ∙ sym (down_many (is_filled w h hs) (h * w))
+  fit = unrank_length (n + m) own (index % ways) ∙ sym filled_all ∙ sym (down_many (is_filled w h hs) (h * w))
 
   cells_length_is : length (placed ts os) ≡ h * w
   cells_length_is = placed_length ts os ∙ down_length (is_filled w h hs) (h * w)
@@ -275,15 +288,15 @@ module _ (w h pieces own index ways taken free packed : ℕ) (few : h * w ≤ 25
   unfolding spread_mask
   mine_is =
       let t = free_tests (h * w) taken free f ∙ ap (map not) taken_tests in
-      let m : h * w - members (tests_of (h * w) free) ≡ pieces = ap (λ (k : ℕ). h * w - k) (members_small (h * w) free f.within) ∙ free_pieces in
-      ap₂ (λ (bs : List Bool) (k : ℕ). mask_of (their_tests (merge bs (tests_of k packed)))) t m
-      ∙ ap (λ (bs : List Bool). mask_of (their_tests (merge (map not ts) bs))) (ap (tests_of pieces) p ∙ tests_unrank pieces own (index % ways))
+      let j : h * w - members (tests_of (h * w) free) ≡ n + m = ap (λ (x : ℕ). h * w - x) (members_small (h * w) free f.within) ∙ free_pieces in
+      ap₂ (λ (bs : List Bool) (x : ℕ). mask_of (their_tests (merge bs (tests_of x packed)))) t j
+      ∙ ap (λ (bs : List Bool). mask_of (their_tests (merge (map not ts) bs))) (ap (tests_of (n + m)) p ∙ tests_unrank (n + m) own (index % ways))
       ∙ ap mask_of (spread_placed ts os)
 
   -- the masks fit the board, and no cell is in both
   mine_within : mine < 2 ^ (h * w)
   mine_within = subst (λ (m : ℕ). m < 2 ^ (h * w)) (sym mine_is)
-      (subst (λ (k : ℕ). mask_of (mine_bits (placed ts os)) < 2 ^ k) (mine_bits_length (placed ts os) ∙ cells_length_is) (mask_below (mine_bits (placed ts os))))
+      (subst (λ (x : ℕ). mask_of (mine_bits (placed ts os)) < 2 ^ x) (mine_bits_length (placed ts os) ∙ cells_length_is) (mask_below (mine_bits (placed ts os))))
 
   without_is : (k : ℕ) → k < h * w → has_cell theirs k ≡ (has_cell taken k && not (has_cell mine k))
   without_is k i =
@@ -315,16 +328,16 @@ module _ (w h pieces own index ways taken free packed : ℕ) (few : h * w ≤ 25
       ∙ tests_at (h * w) (mine_bits (placed ts os)) (mine_bits_length (placed ts os) ∙ cells_length_is))
       ∙ sym (their_but (placed ts os)))
 
-  board_is : board_of (h * w) mine theirs ≡ stacked_board w h pieces own index
+  board_is : board_of (h * w) mine theirs ≡ stacked_board w h k n m own index
   unfolding stacked_board
   board_is =
       sym (reverse-reverse (board_of (h * w) mine theirs))
       ∙ ap reverse (reverse_board (h * w) mine theirs
       ∙ ap₂ (cells_of (h * w)) mine_is theirs_is
       ∙ cells_back (h * w) (placed ts os) cells_length_is
-      ∙ ap (λ (v : ℕ). placed (down (is_filled w h (unrank_heights h w pieces (index / v))) (h * w)) (unrank pieces own (index % v))) e)
+      ∙ ap (λ (v : ℕ). placed (down (is_filled w h (unrank_split h w k n m (index / v))) (h * w)) (unrank (n + m) own (index % v))) e)
 
   -- the masks of the mover's pieces spread over the cells with a piece, and of the others
-  pub masks_are : (m : ℕ) → m ≡ mine → AreMasks w h pieces own index m (bit_and taken (bit_not w32 m))
-  masks_are m q = subst (λ (x : ℕ). AreMasks w h pieces own index x (bit_and taken (bit_not w32 x))) (sym q)
+  pub masks_are : (a : ℕ) → a ≡ mine → AreMasks w h k n m own index a (bit_and taken (bit_not w32 a))
+  masks_are a q = subst (λ (x : ℕ). AreMasks w h k n m own index x (bit_and taken (bit_not w32 x))) (sym q)
       (record { mine_within = mine_within; theirs_within = theirs_within; apart = masks_apart; board = board_is })

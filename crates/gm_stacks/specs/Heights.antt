@@ -1,5 +1,5 @@
 -- Heights of columns: in how many ways pieces can stand on columns, and the ranks of lists of heights.
-use Rattle.std.proofs.Common.{ℕ, zero, suc, ◌+◌, ◌-◌, ◌≤◌, cond, ltb, List, [], ◌∷◌, length}
+use Rattle.std.proofs.Common.{ℕ, zero, suc, ◌+◌, ◌-◌, ◌*◌, ◌/◌, ◌%◌, ◌≤◌, cond, ltb, List, [], ◌∷◌, ◌++◌, length, take, drop}
 
 -- f s + f (s - 1) + .., as many terms as the first number says, but none past f 0
 abbrev pub sum_down : (ℕ → ℕ) → ℕ → ℕ → ℕ
@@ -45,3 +45,33 @@ unrank_heights h zero s r = []
 unrank_heights h (suc k) s r =
     first_height (stackings h k) h s r
     ∷ unrank_heights h k (s - first_height (stackings h k) h s r) (r - sum_down (stackings h k) (first_height (stackings h k) h s r) s)
+
+-- ---- the middle columns and the others
+-- how many of w columns are to the left of the k middle ones
+abbrev pub side : ℕ → ℕ → ℕ
+side w k = (w - k) / 2
+
+-- the heights of the k middle columns
+unfoldable pub middle_heights : ℕ → List ℕ → List ℕ
+middle_heights k hs = take k (drop (side (length hs) k) hs)
+
+-- the heights of the others, from the left
+unfoldable pub outer_heights : ℕ → List ℕ → List ℕ
+outer_heights k hs = take (side (length hs) k) hs ++ drop (side (length hs) k + k) hs
+
+-- the heights of all columns, from those of the middle ones and of the others
+unfoldable pub all_heights : List ℕ → List ℕ → List ℕ
+all_heights ms os = take (length os / 2) os ++ (ms ++ drop (length os / 2) os)
+
+-- in how many ways n pieces can stand on the others of w columns, and m pieces on the k middle ones
+unfoldable pub split_stackings : ℕ → ℕ → ℕ → ℕ → ℕ → ℕ
+split_stackings h w k n m = stackings h k m * stackings h (w - k) n
+
+-- the rank of a list of heights among those with as many pieces on the middle columns and on the others: first by the middle columns, then by the others
+unfoldable pub rank_split : ℕ → ℕ → List ℕ → ℕ
+rank_split h k hs =
+    rank_heights h (middle_heights k hs) * stackings h (length (outer_heights k hs)) (total (outer_heights k hs)) + rank_heights h (outer_heights k hs)
+
+-- the list of w heights that has this rank
+unfoldable pub unrank_split : ℕ → ℕ → ℕ → ℕ → ℕ → ℕ → List ℕ
+unrank_split h w k n m r = all_heights (unrank_heights h k m (r / stackings h (w - k) n)) (unrank_heights h (w - k) n (r % stackings h (w - k) n))

@@ -6,7 +6,7 @@ use Rattle.gm_board.specs.declared.cell.Cell.TheVariants.{Empty, Mine, Theirs}
 use Rattle.gm_board.specs.Binomials.{binomial}
 use Rattle.gm_board.specs.Cells.{is_taken, cell_at}
 use Rattle.gm_board.specs.Ranks.{members, rank, unrank}
-use Rattle.gm_stacks.specs.Heights.{stackings, rank_heights, unrank_heights}
+use Rattle.gm_stacks.specs.Heights.{split_stackings, rank_split, unrank_split}
 
 -- ---- heights of columns
 -- how many numbers below n pass a test
@@ -64,22 +64,22 @@ has_piece b k = is_taken (cell_at b k)
 abbrev pub owners : List Cell → List Bool
 owners b = own_bits (reverse b)
 
--- how many boards have this number of pieces, of which the mover has m
-unfoldable pub stacked_boards : ℕ → ℕ → ℕ → ℕ → ℕ
-stacked_boards w h pieces m = stackings h w pieces * binomial pieces m
+-- how many boards have m pieces on the k middle columns and n on the others, of which `own` are the mover's
+unfoldable pub stacked_boards : ℕ → ℕ → ℕ → ℕ → ℕ → ℕ → ℕ
+stacked_boards w h k n m own = split_stackings h w k n m * binomial (n + m) own
 
--- the index of a board among those with as many pieces of each side
-unfoldable pub stacked_index : ℕ → ℕ → List Cell → ℕ
-stacked_index w h b = rank_heights h (heights w h (has_piece b)) * binomial (length (owners b)) (members (owners b)) + rank (owners b)
+-- the index of a board among those with as many pieces on the k middle columns, on the others, and of each side
+unfoldable pub stacked_index : ℕ → ℕ → ℕ → List Cell → ℕ
+stacked_index w h k b = rank_split h k (heights w h (has_piece b)) * binomial (length (owners b)) (members (owners b)) + rank (owners b)
 
 -- the heights of the board with an index
-abbrev pub stacked_heights : ℕ → ℕ → ℕ → ℕ → ℕ → List ℕ
-stacked_heights w h pieces m i = unrank_heights h w pieces (i / binomial pieces m)
+abbrev pub stacked_heights : ℕ → ℕ → ℕ → ℕ → ℕ → ℕ → ℕ → List ℕ
+stacked_heights w h k n m own i = unrank_split h w k n m (i / binomial (n + m) own)
 
 -- the board with an index
-unfoldable pub stacked_board : ℕ → ℕ → ℕ → ℕ → ℕ → List Cell
-stacked_board w h pieces m i =
-    reverse (placed (down (is_filled w h (stacked_heights w h pieces m i)) (h * w)) (unrank pieces m (i % binomial pieces m)))
+unfoldable pub stacked_board : ℕ → ℕ → ℕ → ℕ → ℕ → ℕ → ℕ → List Cell
+stacked_board w h k n m own i =
+    reverse (placed (down (is_filled w h (stacked_heights w h k n m own i)) (h * w)) (unrank (n + m) own (i % binomial (n + m) own)))
 
 -- ---- left and right exchanged
 -- the cell of the same row that is as far from the right as a cell is from the left

@@ -1,5 +1,6 @@
 -- What follows from the definitions.
 pub mod HeightRanks
+pub mod SplitRanks
 pub mod Sums
 pub mod Columns
 pub mod StackedBoards

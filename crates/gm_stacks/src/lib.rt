@@ -6,4 +6,5 @@ pub mod counts;
 pub mod filled;
 pub mod mirror;
 pub mod numbering;
+pub mod ranked;
 pub mod standing;

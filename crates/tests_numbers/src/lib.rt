@@ -8,6 +8,8 @@ mod connect;
 #[cfg(test)]
 mod kpk;
 #[cfg(test)]
+mod larger;
+#[cfg(test)]
 mod nim;
 #[cfg(test)]
 mod whole;

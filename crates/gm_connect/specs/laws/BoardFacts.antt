@@ -1,14 +1,14 @@
 -- Boards of Connect Four: legal boards and images.
-use Rattle.std.specs.Prelude.{◌≡◌, ◌+◌, ◌/◌, ◌<◌, ◌≤◌, ◌||◌, ◌↔◌}
-use Rattle.gm_pieces.specs.Common.{ℕ, Bool, true, false, not, List, length, get_or, refl, sym, ap, ap₂, ◌∙◌, arith, inl, inr, cond, eqb, eqb-true, eq-eqb, leb, leb-true, le-leb, ltb, lt-ltb, Contains, not-true, true≢false, cases_lt, cases_Bool, nat_tests, or_right, range_with_len, all_at, all_from, contains_range, range_below, Cell, Empty, Mine, Theirs, and_left, and_right, and_both, IsGroup, IsPermutationOf, group_from_table, image_length, filled_image, permute, is_mine, is_theirs, is_empty, is_taken, cell_at, image_number, image_cell}
+use Rattle.std.specs.Prelude.{◌≡◌, ◌+◌, ◌-◌, ◌/◌, ◌<◌, ◌≤◌, ◌||◌, ◌↔◌}
+use Rattle.gm_pieces.specs.Common.{ℕ, Bool, true, false, not, List, length, get_or, refl, sym, ap, ap₂, ◌∙◌, arith, inl, inr, cond, eqb, eqb-true, eq-eqb, leb, leb-true, le-leb, ltb, lt-ltb, Contains, not-true, true≢false, cases_lt, cases_Bool, nat_tests, or_right, range_with_len, all_at, all_from, contains_range, range_below, Cell, Empty, Mine, Theirs, and_left, and_right, and_both, IsGroup, IsPermutationOf, group_from_table, image_length, filled_image, permute, is_mine, is_theirs, is_empty, is_taken, cell_at, image_number, image_cell, div-mul-add, mod-mul-add}
 use Rattle.gm_board.specs.laws.Groups.{group_permutation}
 use Rattle.gm_board.specs.laws.Permutations.{below_at}
 use Rattle.gm_stacks.specs.Stacks.{IsStacked, has_piece, mirror}
-use Rattle.gm_stacks.specs.laws.StackedBoards.{IsStackedBoard}
+use Rattle.gm_stacks.specs.laws.StackedBoards.{IsStackedBoard, all_pieces, heights_parts}
 use Rattle.gm_connect.specs.declared.size.Size.{Size}
-use Rattle.gm_connect.specs.ConnectFour.{mine, theirs, pieces, has_line, is_supported, all_stand, legal, end_by_last_move, mirrors}
+use Rattle.gm_connect.specs.ConnectFour.{mine, theirs, pieces, has_line, is_supported, all_stand, legal, end_by_last_move, mirrors, middle_pieces, middle_range, tier_of, outer_in, middle_in, pieces_in}
 use Rattle.gm_connect.specs.Lines.{lines}
-use Rattle.gm_connect.specs.Sizes.{columns, rows, cells}
+use Rattle.gm_connect.specs.Sizes.{columns, rows, middle, cells, middle_cells, outer_cells}
 use Rattle.gm_connect.specs.laws.SizeFacts.{right, keeps_below}
 
 -- ---- sizes
@@ -27,6 +27,10 @@ few_rows s = leb-true _ _ (right s).low
 
 pub few_cells : (s : Size) → cells s ≤ 25
 few_cells s = leb-true _ _ (right s).few
+
+-- the middle columns are among all
+pub middle_inside : (s : Size) → middle s ≤ columns s
+middle_inside s = leb-true _ _ (right s).inside
 
 -- ---- pieces that stand on one another
 empty_or_taken : (c : Cell) → is_taken c ≡ true → is_empty c ≡ false
@@ -103,9 +107,46 @@ pub legal_from : (s : Size) (b : List Cell) → IsLegal s b → legal s b ≡ tr
 unfolding legal
 legal_from s b h = and_both _ _ (eq-eqb _ _ h.cells_are) (and_both _ _ (eq-eqb _ _ h.half) (and_both _ _ (stand_from s b h.stand) (ap not h.no_line)))
 
+-- ---- tiers
+-- what holds of the numbers of pieces in the middle columns and in the others
+pub record AreParts (s : Size) (b : List Cell) : Type 0 where
+  pub among : middle_pieces s b ≤ pieces b
+  pub middle_few : middle_pieces s b ≤ middle_cells s
+  pub outer_few : pieces b - middle_pieces s b ≤ outer_cells s
+
+pub parts : (s : Size) (b : List Cell) → length b ≡ cells s → AreParts s b
+unfolding middle_pieces
+parts s b e =
+    let all = all_pieces (columns s) (rows s) b e in
+    let both = heights_parts (columns s) (rows s) (middle s) (has_piece b) (middle_inside s) in
+    let a = both.all in
+    let m = both.middle in
+    let o = both.outer in
+    record { among = omega (arith, all, a); middle_few = m; outer_few = omega (arith, all, a, o) }
+
+-- a tier tells how many pieces both have
+pub outer_back : (s : Size) (b : List Cell) → length b ≡ cells s → outer_in s (tier_of s b) ≡ pieces b - middle_pieces s b
+outer_back s b e = let m = (parts s b e).middle_few in div-mul-add (pieces b - middle_pieces s b) (middle_range s) (middle_pieces s b) (omega (arith, m))
+
+pub middle_back : (s : Size) (b : List Cell) → length b ≡ cells s → middle_in s (tier_of s b) ≡ middle_pieces s b
+middle_back s b e = let m = (parts s b e).middle_few in mod-mul-add (pieces b - middle_pieces s b) (middle_range s) (middle_pieces s b) (omega (arith, m))
+
+pub pieces_back : (s : Size) (b : List Cell) → length b ≡ cells s → pieces_in s (tier_of s b) ≡ pieces b
+pieces_back s b e =
+    ap₂ (λ (x y : ℕ). x + y) (outer_back s b e) (middle_back s b e)
+    ∙ (let m = (parts s b e).among in let z : pieces b - middle_pieces s b + middle_pieces s b ≡ pieces b = omega (arith, m) in z)
+
 -- a legal board is one of those that are numbered
-pub legal_stacked : (s : Size) (b : List Cell) → IsLegal s b → IsStackedBoard (columns s) (rows s) (pieces b) (pieces b / 2) b
-legal_stacked s b h = record { cells = h.cells_are; all = refl; own = h.half; stacked = stacked_in s b h.stand }
+pub legal_stacked : (s : Size) (b : List Cell) → IsLegal s b
+    → IsStackedBoard (columns s) (rows s) (middle s) (outer_in s (tier_of s b)) (middle_in s (tier_of s b)) (pieces_in s (tier_of s b) / 2) b
+unfolding middle_pieces
+legal_stacked s b h = record {
+  cells = h.cells_are;
+  all = sym (pieces_back s b h.cells_are);
+  own = h.half ∙ ap (λ (n : ℕ). n / 2) (sym (pieces_back s b h.cells_are));
+  middle = sym (middle_back s b h.cells_are);
+  stacked = stacked_in s b h.stand;
+}
 
 -- ---- images
 -- left and right as they are, and exchanged

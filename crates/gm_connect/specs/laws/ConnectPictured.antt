@@ -9,7 +9,7 @@ use Rattle.gm_draw.specs.Pictured.{IsMoveWord, IsPictured}
 use Rattle.gm_draw.specs.laws.Points.{named_point}
 use Rattle.gm_draw.specs.laws.Templates.{is_set, pictured_by}
 use Rattle.gm_connect.specs.declared.size.Size.{Size}
-use Rattle.gm_connect.specs.declared.size.Size.TheVariants.{FourByFour, FiveByFour, FourByFive, FourBySix}
+use Rattle.gm_connect.specs.declared.size.Size.TheVariants.{FourByFour, FiveByFour, FourByFive, FourBySix, FiveByFive, SixByFour}
 use Rattle.gm_connect.specs.ConnectFour.{board_at, connect_four}
 use Rattle.gm_connect.specs.ConnectPicture.{cell_name, cell_names, connect_title, connect_board, connect_picture}
 use Rattle.gm_connect.specs.Sizes.{columns, rows, cells}
@@ -24,6 +24,8 @@ set FourByFour = refl
 set FiveByFour = refl
 set FourByFive = refl
 set FourBySix = refl
+set FiveByFive = refl
+set SixByFour = refl
 
 -- a move is the cell in the top row of its column
 step_word : (s : Size) (c : ℕ) → c < columns s → IsMoveWord (connect_picture s).style (connect_picture s).points (step_text c)

@@ -1,14 +1,15 @@
 -- Moves of Connect Four: a piece is dropped into a column, and taken back.
-use Rattle.std.specs.Prelude.{◌≡◌, ◌+◌, ◌%◌, ◌<◌, ◌≤◌, ◌≢◌, ◌||◌, ◌∷◌, if◌then◌else◌}
-use Rattle.gm_pieces.specs.Common.{ℕ, Bool, true, false, List, [], map, length, set, None, Some, inl, inr, refl, sym, ap, ◌∙◌, subst, arith, leb, lt-ltb, cases_lt, or_cases, or_right, get_or-set_same, get_or-set_other, get_or_past, cond-true, true≢false, length-map, Contains, Lose, Cell, Empty, Mine, Theirs, their_cell, turned, turned_cell, turned_twice, mine_turned, theirs_turned, permute_turned, filled_turned, cell_at, is_mine, is_theirs, is_empty, is_taken, image_set, image_cell, permute, IsMove, placed_left, set_and_back, all_cells}
+use Rattle.std.specs.Prelude.{◌≡◌, ◌+◌, ◌%◌, ◌<◌, ◌≤◌, ◌≢◌, ◌||◌, if◌then◌else◌}
+use Rattle.gm_pieces.specs.Common.{ℕ, Bool, true, false, List, map, length, set, None, Some, inl, inr, refl, sym, ap, ◌∙◌, arith, leb, cases_lt, or_cases, or_right, get_or-set_same, get_or-set_other, get_or_past, true≢false, length-map, Contains, Lose, Cell, Empty, Mine, Theirs, their_cell, turned, turned_cell, turned_twice, mine_turned, theirs_turned, permute_turned, filled_turned, cell_at, is_mine, is_theirs, is_empty, is_taken, image_set, image_cell, permute, IsMove, placed_left, set_and_back, all_cells}
 use Rattle.std.proofs.Common.{mod-lt}
 use Rattle.gm_board.specs.laws.Turned.{cell_turned}
 use Rattle.gm_connect.specs.declared.size.Size.{Size}
-use Rattle.gm_connect.specs.ConnectFour.{pieces, legal, has_line, is_supported, end_by_last_move, can_move, play, landing, topmost, can_have_led_here, undo, mirrors, child_tiers_of, connect_four}
+use Rattle.gm_connect.specs.ConnectFour.{pieces, legal, has_line, is_supported, end_by_last_move, can_move, play, landing, topmost, can_have_led_here, undo, mirrors, tier_of, child_tiers_of, connect_four}
 use Rattle.gm_connect.specs.Lines.{lines}
 use Rattle.gm_connect.specs.Sizes.{columns, cells}
 use Rattle.gm_connect.specs.laws.BoardFacts.{some_columns, Stand, IsLegal, legal_in, group, image_over, image_supported, image_legal}
 use Rattle.gm_connect.specs.laws.DropFacts.{CanDrop, inside, stand_after, uncovered, taken_turned, landing_is, has_room, lands_on, topmost_is, topmost_column}
+use Rattle.gm_connect.specs.laws.TierFacts.{middle_sum, one_at, middle_once, middle_after, tier_after}
 
 -- ---- making a move
 -- a move drops a piece onto a cell of its column
@@ -134,16 +135,13 @@ lands s b c h m =
       all,
     )
 
--- that is a child tier
-pub lands_in : (s : Size) (b : List Cell) (c : ℕ) → IsLegal s b → IsMove (connect_four s) b c → Contains (child_tiers_of s (pieces b)) (pieces (play s b c))
-unfolding child_tiers_of
+-- that is of a child tier
+pub lands_in : (s : Size) (b : List Cell) (c : ℕ) → IsLegal s b → IsMove (connect_four s) b c → Contains (child_tiers_of s (tier_of s b)) (tier_of s (play s b c))
 lands_in s b c h m =
     let z = lands s b c h m in
-    let n = few_pieces s (play s b c) z.0.cells_are in
-    let e = z.1 in
-    let less : pieces b < cells s = omega (arith, n, e) in
-    subst (λ (ts : List ℕ). Contains ts (pieces (play s b c))) (sym (cond-true _ _ _ (lt-ltb (pieces b) (cells s) less)))
-    (subst (λ (n : ℕ). Contains ((pieces b + 1) ∷ []) n) (sym e) (0, omega arith, refl))
+    let k = landing s b c in
+    tier_after s b (play s b c) (middle_sum s (one_at (k % columns s))) h.cells_are z.0.cells_are z.1
+    (middle_after s b k h.cells_are h.stand (drop_in s b c h m).0) (middle_once s (k % columns s))
 
 -- ---- images
 -- a move of a board has an image among the moves of the image

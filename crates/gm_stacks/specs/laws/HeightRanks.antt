@@ -115,7 +115,7 @@ sum_small f b zero s l = omega arith
 sum_small f b (suc x) zero l = omega (arith, l 0)
 sum_small f b (suc x) (suc s) l = omega (arith, l (suc s), sum_small f b x s l)
 
-stackings_small : (h k s : ℕ) → h ≤ 6 → stackings h k s ≤ 7 ^ k
+pub stackings_small : (h k s : ℕ) → h ≤ 6 → stackings h k s ≤ 7 ^ k
 unfolding stackings
 stackings_small h zero zero l = omega arith
 stackings_small h zero (suc s) l = omega arith
@@ -124,18 +124,18 @@ stackings_small h (suc k) s l =
     let b : suc h * 7 ^ k ≤ 7 * 7 ^ k = mul-le-mul_right (7 ^ k) (omega arith) in
     omega (arith, a, b, pow-suc 7 k)
 
+pub low_power : (k : ℕ) → k ≤ 6 → 7 ^ k ≤ 117649
+low_power zero l = omega arith
+low_power (suc zero) l = omega arith
+low_power (suc (suc zero)) l = omega arith
+low_power (suc (suc (suc zero))) l = omega arith
+low_power (suc (suc (suc (suc zero)))) l = omega arith
+low_power (suc (suc (suc (suc (suc zero))))) l = omega arith
+low_power (suc (suc (suc (suc (suc (suc zero)))))) l = omega arith
+low_power (suc (suc (suc (suc (suc (suc (suc k))))))) l = absurd (omega arith)
+
 pub stackings_few : (h k s : ℕ) → h ≤ 6 → k ≤ 6 → stackings h k s ≤ 117649
 stackings_few h k s l m = let a = stackings_small h k s l in let b = low_power k m in omega (arith, a, b)
-  where
-    low_power : (k : ℕ) → k ≤ 6 → 7 ^ k ≤ 117649
-    low_power zero l = omega arith
-    low_power (suc zero) l = omega arith
-    low_power (suc (suc zero)) l = omega arith
-    low_power (suc (suc (suc zero))) l = omega arith
-    low_power (suc (suc (suc (suc zero)))) l = omega arith
-    low_power (suc (suc (suc (suc (suc zero))))) l = omega arith
-    low_power (suc (suc (suc (suc (suc (suc zero)))))) l = omega arith
-    low_power (suc (suc (suc (suc (suc (suc (suc k))))))) l = absurd (omega arith)
 
 -- the rank of a list of heights gives the list back
 pub heights_back : (h : ℕ) (hs : List ℕ) → AreHeights h hs → unrank_heights h (length hs) (total hs) (rank_heights h hs) ≡ hs
@@ -188,3 +188,57 @@ ranked h (suc k) s r l =
           ∙ ap (λ (n : ℕ). sum_down f x s + n) y.back
           ∙ (let e : sum_down f x s + q ≡ r = omega (arith, low) in e);
     }
+
+-- ---- one height more, and one less
+-- a list with one more height before the first
+module _ (h k s r x : ℕ) (l : r < stackings h k s) (low : x ≤ h) where
+  abbrev xs : List ℕ
+  xs = unrank_heights h k s r
+
+  more_low : AreHeights h (x ∷ xs)
+  more_low = (low, (ranked h k s r l).low)
+
+  more_long : length (x ∷ xs) ≡ k + 1
+  more_long = let e = (ranked h k s r l).columns in omega (arith, e)
+
+  more_total : total (x ∷ xs) ≡ s + x
+  more_total = let e = (ranked h k s r l).all in omega (arith, e)
+
+  more_rank : rank_heights h (x ∷ xs) ≡ sum_down (stackings h k) x (s + x) + r
+  unfolding rank_heights
+  more_rank =
+      ap₂ (λ (j n : ℕ). sum_down (stackings h j) x n + rank_heights h xs) (ranked h k s r l).columns more_total
+      ∙ ap (λ (n : ℕ). sum_down (stackings h k) x (s + x) + n) (ranked h k s r l).back
+
+  pub more_below : sum_down (stackings h k) x (s + x) + r < stackings h (k + 1) (s + x)
+  more_below = subst (λ (n : ℕ). n < stackings h (k + 1) (s + x)) more_rank
+      (subst (λ (n : ℕ). rank_heights h (x ∷ xs) < n) (ap₂ (stackings h) more_long more_total) (rank_within h (x ∷ xs) more_low))
+
+  pub more_is : unrank_heights h (k + 1) (s + x) (sum_down (stackings h k) x (s + x) + r) ≡ x ∷ unrank_heights h k s r
+  more_is =
+      ap (unrank_heights h (k + 1) (s + x)) (sym more_rank)
+      ∙ ap₂ (λ (j n : ℕ). unrank_heights h j n (rank_heights h (x ∷ xs))) (sym more_long) (sym more_total)
+      ∙ heights_back h (x ∷ xs) more_low
+
+-- a list without its first height
+module _ (h k s r : ℕ) (some : 0 < k) (l : r < stackings h k s) where
+  abbrev ways : ℕ → ℕ
+  ways = stackings h (k - 1)
+
+  one_less : k ≡ suc (k - 1)
+  one_less = omega (arith, some)
+
+  pub first_bound : r < sum_down (stackings h (k - 1)) (h + 1) s
+  unfolding stackings
+  first_bound = subst (λ (n : ℕ). r < sum_down ways n s) (let z : suc h ≡ h + 1 = omega arith in z) (subst (λ (j : ℕ). r < stackings h j s) one_less l)
+
+  pub first_fits : IsFirst (stackings h (k - 1)) h s r (first_height (stackings h (k - 1)) h s r)
+  first_fits = first_is ways h s r (subst (λ (n : ℕ). r < sum_down ways n s) (let z : h + 1 ≡ suc h = omega arith in z) first_bound)
+
+  pub rest_below : r - sum_down (stackings h (k - 1)) (first_height (stackings h (k - 1)) h s r) s < stackings h (k - 1) (s - first_height (stackings h (k - 1)) h s r)
+  rest_below = let a = first_fits.low in let b = first_fits.high in omega (arith, a, b)
+
+  pub rest_is : unrank_heights h k s r ≡ first_height (stackings h (k - 1)) h s r
+      ∷ unrank_heights h (k - 1) (s - first_height (stackings h (k - 1)) h s r) (r - sum_down (stackings h (k - 1)) (first_height (stackings h (k - 1)) h s r) s)
+  unfolding unrank_heights
+  rest_is = ap (λ (j : ℕ). unrank_heights h j s r) one_less

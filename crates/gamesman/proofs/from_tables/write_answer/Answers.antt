@@ -117,10 +117,6 @@ pub returns-in-Find : goal.returns-in-Find
 unfolding IsAnsweredFromTables
 returns-in-Find g c = rw c.in-Find.is c.find.ensures
 
-pub returns-in-Ask : goal.returns-in-Ask
-unfolding IsAnsweredFromTables
-returns-in-Ask g c = rw c.in-Ask.is c.serve.ensures
-
 pub returns-in-Play : goal.returns-in-Play
 unfolding IsAnsweredFromTables
 returns-in-Play g c =

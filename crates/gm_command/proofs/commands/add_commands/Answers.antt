@@ -12,7 +12,7 @@ unfolding command_lines
 loop-line-preserved c = λ off.
     let lines = c.lines-lines.result in
     let i = c.loop-line.line-index in
-    let long : length lines ≡ 19 = sym (length-map lines (λ line. line_of_spec line.now)) ∙ ap length c.lines-lines.ensures in
+    let long : length lines ≡ 20 = sym (length-map lines (λ line. line_of_spec line.now)) ∙ ap length c.lines-lines.ensures in
     let inside : i < length lines = omega (arith, long, c.loop-line-test.true) in
     let here = c.in_ok-command_of.ensures off in
     subst (λ (all : List Command). AllZip IsCommandFor (map (λ line. line_of_spec line.now) (take (i + 1) lines)) all) (sym c.in_ok-push.ensures.items)

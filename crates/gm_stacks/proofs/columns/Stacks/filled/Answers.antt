@@ -1,27 +1,23 @@
-use Rattle.std.proofs.Common.{arith}
-use Rattle.gm_stacks.proofs.FilledSteps.{IsFillTurn, turn_at, turn_bound}
-use Rattle.gm_stacks.proofs.columns.Stacks.filled.Goals.{After-first_height-height}
+use Rattle.std.proofs.Common.{refl, sym, ◌∙◌, arith}
+use Rattle.std.proofs.lemmas.Bool.{true≢false}
+use Rattle.gm_stacks.proofs.FilledSteps.{inner_some, others_some, inner_filled, others_filled}
+use Rattle.gm_stacks.proofs.columns.Stacks.filled.Goals.{then-is_middle, else-is_middle}
 use Rattle.gm_stacks.proofs.columns.Stacks.filled.Goals as goal
 
-turn : (c : After-first_height-height) → IsFillTurn c.args.self.columns c.args.self.rows c.args.pieces c.args.rank c.loop-column.column c.loop-column.left
-    c.loop-column.rest c.loop-column.taken c.first_height-height.result
-turn c = turn_at _ _ _ _ _ _ _ _ _ c.loop-column.invariant c.requires.rank (omega arith) c.first_height-height.ensures
+pub split_first-height-requires : goal.split_first-height-requires
+split_first-height-requires c = inner_some _ _ _ _ _ _ _ _ _ _ _ _ c.loop-column.invariant c.args.self.inside c.requires.rank (omega arith)
+    (c.is_middle.ensures.0 c.if-is_middle.true) c.loop-column.inner.columns c.loop-column.inner.pieces c.loop-column.inner.rank c.loop-column.inner.below refl
 
-pub first_height-height-requires-clause-rank : goal.first_height-height-requires-clause-rank
-first_height-height-requires-clause-rank c = turn_bound _ _ _ _ _ _ _ _ c.loop-column.invariant c.requires.rank (omega arith)
-
-pub with_less-rest-requires-clause-first : goal.with_less-rest-requires-clause-first
-with_less-rest-requires-clause-first c = (turn ((goal.at.with_less-rest-requires-clause-first c).After-first_height-height)).few
-
-pub overflow_sub-rest : goal.overflow_sub-rest
-overflow_sub-rest c = let t = (turn ((goal.at.overflow_sub-rest c).After-first_height-height)).low in let e = c.with_less-rest.ensures.value in omega (arith, t, e)
-
-pub overflow_sub-left : goal.overflow_sub-left
-overflow_sub-left c = (turn ((goal.at.overflow_sub-left c).After-first_height-height)).few
-
-pub column_cells-taken-requires-clause-height : goal.column_cells-taken-requires-clause-height
-column_cells-taken-requires-clause-height c = (turn ((goal.at.column_cells-taken-requires-clause-height c).After-first_height-height)).room
+pub split_first-height-requires-else-is_middle : goal.split_first-height-requires-else-is_middle
+split_first-height-requires-else-is_middle c = others_some _ _ _ _ _ _ _ _ _ _ _ _ c.loop-column.invariant c.args.self.inside c.requires.rank (omega arith)
+    (λ d. true≢false (sym (c.is_middle.ensures.1 d) ∙ c.if-is_middle.false)) c.loop-column.others.columns c.loop-column.others.pieces c.loop-column.others.rank c.loop-column.others.below refl
 
 pub loop-column-preserved : goal.loop-column-preserved
-loop-column-preserved c = rw c.with_less-rest.ensures.value
-    ((turn ((goal.at.loop-column-preserved c).After-first_height-height)).after _ c.column_cells-taken.ensures.within c.column_cells-taken.ensures.cells)
+loop-column-preserved c = elim c.if-is_middle.branch [
+  | then-is_middle i ↦ rw (i.inner-is, i.others-is, i.taken-is) (inner_filled _ _ _ _ _ _ _ _ _ _ _ _ c.loop-column.invariant c.args.self.inside c.requires.rank (omega arith)
+      i.split_first-height.result.0 i.column_cells-taken.result _ i.split_first-height.result.1.rows
+      i.column_cells-taken.ensures.within i.column_cells-taken.ensures.cells (c.is_middle.ensures.0 i.if-is_middle.true) i.split_first-height.ensures.rows i.split_first-height.ensures.list)
+  | else-is_middle i ↦ rw (i.inner-is, i.others-is, i.taken-is) (others_filled _ _ _ _ _ _ _ _ _ _ _ _ c.loop-column.invariant c.args.self.inside c.requires.rank (omega arith)
+      i.split_first-height-else-is_middle.result.0 i.column_cells-taken-else-is_middle.result _ i.split_first-height-else-is_middle.result.1.rows
+      i.column_cells-taken-else-is_middle.ensures.within i.column_cells-taken-else-is_middle.ensures.cells (λ d. true≢false (sym (c.is_middle.ensures.1 d) ∙ i.if-is_middle.false)) i.split_first-height-else-is_middle.ensures.rows i.split_first-height-else-is_middle.ensures.list)
+]

@@ -33,8 +33,8 @@ binomial-requires c =
 
 product : (c : After-binomial) → c.rank.result * c.binomial.result < 2 ^ 63
 product c =
-    let a = rank_small c.args.self.columns c.args.self.rows (has_cell (bit_or c.args.mine c.args.theirs)) c.args.self.low c.args.self.narrow in
-    index_fits c.rank.result c.binomial.result (let e = c.rank.ensures in omega (arith, a, e)) c.binomial.ensures.small
+    let a = rank_small c.args.self.columns c.args.self.rows c.args.self.middle (has_cell (bit_or c.args.mine c.args.theirs)) c.args.self.low c.args.self.narrow c.args.self.inside in
+    index_fits c.rank.result c.binomial.result (let e = c.rank.ensures.value in omega (arith, a, e)) c.binomial.ensures.small
 
 pub overflow_mul-result : goal.overflow_mul-result
 overflow_mul-result c = let p = product c in omega (arith, p)
@@ -49,6 +49,6 @@ pub returns : goal.returns
 returns c =
     let n = c.args.self.rows * c.args.self.columns in
     index_is n c.args.mine c.args.theirs c.free.result c.args.self.few c.requires.mine c.requires.theirs c.requires.apart
-    (free ((goal.at.returns c).After-free)) c.args.self.columns c.args.self.rows _ _ _ refl c.rank.ensures c.binomial.ensures.value
+    (free ((goal.at.returns c).After-free)) c.args.self.columns c.args.self.rows c.args.self.middle _ _ _ refl c.rank.ensures.value c.binomial.ensures.value
     (c.rank_subset-own.ensures.value ∙ ap mask_rank (c.pack.ensures
     ∙ ap (λ (k : ℕ). mask_of (their_bits (cells_of k c.free.result c.args.mine))) c.cells.ensures))

@@ -6,8 +6,8 @@ use Rattle.gm_stacks.proofs.NumberingSteps.{AreRanks, ranks, free_pieces, AreMas
 use Rattle.gm_stacks.proofs.columns.Stacks.masks.Goals.{After-binomial-ways, After-spread-mine}
 use Rattle.gm_stacks.proofs.columns.Stacks.masks.Goals as goal
 
-two : (c : After-binomial-ways) → AreRanks c.args.self.columns c.args.self.rows c.args.pieces c.args.own c.args.index c.binomial-ways.result
-two c = ranks _ _ _ _ _ _ c.requires.index c.binomial-ways.ensures.value
+two : (c : After-binomial-ways) → AreRanks c.args.self.columns c.args.self.rows c.args.self.middle c.args.outer c.args.middle c.args.own c.args.index c.binomial-ways.result
+two c = ranks _ _ _ _ _ _ _ _ c.requires.index c.binomial-ways.ensures.value
 
 pub nonzero_div-index : goal.nonzero_div-index
 nonzero_div-index c = (two c).some
@@ -23,16 +23,16 @@ unrank_subset-packed-requires-clause-below c = (two ((goal.at.unrank_subset-pack
 
 pub spread-mine-requires-clause-packed : goal.spread-mine-requires-clause-packed
 spread-mine-requires-clause-packed c =
-    let all = free_pieces c.args.self.columns c.args.self.rows c.args.pieces c.args.own c.args.index c.binomial-ways.result c.filled-taken.result c.free.result
-    c.unrank_subset-packed.result c.args.self.few c.requires.index c.binomial-ways.ensures.value
+    let all = free_pieces c.args.self.columns c.args.self.rows c.args.self.middle c.args.outer c.args.middle c.args.own c.args.index c.binomial-ways.result c.filled-taken.result c.free.result
+    c.unrank_subset-packed.result c.args.self.few c.args.self.inside c.requires.index c.binomial-ways.ensures.value
     (record { taken_within = c.filled-taken.ensures.within; within = c.free.ensures.within; cells = c.free.ensures.cells })
     c.filled-taken.ensures.cells c.unrank_subset-packed.ensures.value in
     subst (λ (k : ℕ). c.unrank_subset-packed.result < 2 ^ k)
     (sym all ∙ ap (λ (k : ℕ). k - count_ones c.free.result) (sym c.cells.ensures)) c.unrank_subset-packed.ensures.within
 
-masks : (c : After-spread-mine) → AreMasks c.args.self.columns c.args.self.rows c.args.pieces c.args.own c.args.index c.spread-mine.result
+masks : (c : After-spread-mine) → AreMasks c.args.self.columns c.args.self.rows c.args.self.middle c.args.outer c.args.middle c.args.own c.args.index c.spread-mine.result
     (bit_and c.filled-taken.result (bit_not w32 c.spread-mine.result))
-masks c = masks_are _ _ _ _ _ c.binomial-ways.result c.filled-taken.result c.free.result c.unrank_subset-packed.result c.args.self.few c.requires.index
+masks c = masks_are _ _ _ _ _ _ _ c.binomial-ways.result c.filled-taken.result c.free.result c.unrank_subset-packed.result c.args.self.few c.args.self.inside c.requires.index
     c.binomial-ways.ensures.value
     (record { taken_within = c.filled-taken.ensures.within; within = c.free.ensures.within; cells = c.free.ensures.cells })
     c.filled-taken.ensures.cells c.unrank_subset-packed.ensures.value _
