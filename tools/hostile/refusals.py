@@ -241,6 +241,8 @@ READING = (
     ("play tactix-2 --show", b"a1\nquit\n"),
     ("ask tactix-2", b"x..x\nx\n"),
     ("ask tactix-2 --distinct --with canonical,parents,symmetric,best --ready", b"x..x\nx\n"),
+    ("ask tactix-2", b'x..x\n{"game": "tactix-1"}\nx\n'),
+    ("sheet --title Two", b"tactix-2\txxxx\ntactix-1\tx\n"),
     ("query tactix-2 -", b"x..x\nxxxx\n"),
     ("moves tactix-2 - --json", b"x..x\n"),
 )

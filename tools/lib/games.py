@@ -19,4 +19,4 @@ def told_of_games() -> dict[str, dict[str, Any]]:
 TOLD = told_of_games()
 
 # The games of ten million indexes or more. Parts that solve each game leave them out.
-LARGE = frozenset("tactix-5 tactix-5-misere tictactoe-4 hex-4 clobber kono domineering-5 cram-5 connect4-4x6 connect4-6x4".split())
+LARGE = frozenset("tactix-5 tactix-5-misere tictactoe-4 hex-4 clobber kono domineering-5 cram-5 connect4-4x6 connect4-5x5 connect4-6x4".split())

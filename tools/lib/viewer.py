@@ -27,7 +27,7 @@ SCRIPT = (
     ("DRAWING", "viewer_drawing", ("replies.js", "drawing.js")),
 )
 PAGE = {"OPENING": "front", "STYLE": "front", "PARTS": "front", "BETWEEN": "engine"}
-SHEET = ("SHEET_FRONT", "SHEET_DIAGRAMS", "SHEET_SOLUTIONS", "SHEET_BACK")
+SHEET = ("LIST_FRONT", "LIST_LEGENDS", "LIST_PUZZLES", "LIST_SOLUTIONS", "LIST_BACK")
 
 # Each constant with its module.
 MODULES = PAGE | {name: module for name, module, _ in SCRIPT} | {name: "parts" for name in SHEET}

@@ -43,26 +43,28 @@ def end_of(lines):
     return ("." if lines[-1].endswith(" in 0") else " ..."), lines
 
 
-def solution(game, folder, position, best, moves):
+def others(game, folder, after):
+    """The other longest defences in a lost position, each with the best answer."""
+    moves = [row.split("\t") for row in told("moves", game, after, "--distinct", "--folder", folder).splitlines()]
+    answers = {row.split("\t")[0]: row.split("\t")[2] for row in told("why", game, after, "--folder", folder).splitlines()}
+    longest = [move for move, worth, *_ in moves[1:] if worth == moves[0][1]]
+    return "".join(f" Also 1... {move}{' 2. ' + answers[move] if answers[move] else ''}." for move in longest)
+
+
+def solution(game, folder, position, value, best, moves):
     if not best:
         return "The game has ended."
     end, lines = end_of(told("line", game, position, "--limit", MOVES, "--folder", folder).splitlines())
     steps = "".join(" " + line.split("\t")[0] for line in lines[1:])
     choice = ", the only move" if moves == "1" else f", one of {moves} moves"
-    return f"<b>{best}</b>{choice}. Best play:{steps}{end}"
+    more = others(game, folder, lines[1].split("\t")[1]) if value.startswith("win") else ""
+    return f"<b>{best}</b>{choice}. Best play:{steps}{end}{more}"
 
 
 def made(game, words, folder):
     """The sheet of what `find` finds."""
-    part, diagrams, answers = constants(), "", ""
-    for row in told("find", game, *words, "--folder", folder).splitlines():
-        position, _, best, moves = row.split("\t")
-        solved = solution(game, folder, position, best, moves)
-        svg = told("show", game, position, "--svg", "--folder", folder)
-        diagrams += f"<li>{svg}<details><summary>Solution</summary><p>{solved}</p>\n<p><code>{escaped(position)}</code></p></details></li>\n"
-        answers += f"<li>{solved}</li>\n"
-    heading = part["SHEET_FRONT"] + escaped(HEADS[game]["title"]) + part["SHEET_DIAGRAMS"]
-    return heading + diagrams + part["SHEET_SOLUTIONS"] + answers + part["SHEET_BACK"]
+    rows = [(game, row) for row in told("find", game, *words, "--folder", folder).splitlines()]
+    return listed("", rows, [game], {game: folder}, HEADS[game]["title"])
 
 
 def wrong(game, words, folder):
@@ -79,43 +81,60 @@ LISTS = [
     ("", ["dao --value win --remoteness 9 --only-move --limit 3", "hare --value win --whole-line --limit 3", "tactix-3-misere --value win --limit 3"]),
     ("--own-moves", ["krk --value win --remoteness 5 --only-fastest --limit 2", "wheel --value draw --limit 2", "countdown --value lose --limit 2"]),
     ("--no-value --title x<y", ["mutorere --value draw --limit 2", "achi --value win --remoteness 5 --limit 2"]),
+    ("--caption {number}:{side}:{value}:{moves}:{plies}:{game}<", ["krk --value win --remoteness 5 --limit 2", "wheel --value draw --limit 2", "hare --value lose --limit 2"]),
 ]
 
 # Whose the men are, by the letters of the men, of which `x` are of both sides in games without `o`.
 WHOSE = {
     "": "One of the numbers is the position.",
     "x": "The men belong to both sides.",
+    "XO": "Crosses belong to the side to move, x; noughts to the other, o.",
     "xo": "Black men belong to the side to move, x; white men, with a ring, to the other, o.",
     "dh": "White men with a d are the hounds; the black man with an h is the hare.",
     "K": "White men with capitals belong to White; black men with small letters to Black.",
     "fh": "The white man with an f is the fox; black men with an h are the hounds.",
 }
 
+
+def letters(game):
+    """The letters of the men of a game, by which `WHOSE` says whose they are."""
+    head = HEADS[game]
+    if head["sides"] == ["X", "O"]:
+        return "XO"
+    return "K" if head["men"][:1] == "K" else head["men"]
+
+
 OUTCOMES = {"win": "wins in", "tie": "ties in", "lose": "loses in", "draw": "draws"}
 
 
-def under(diagram, value, words):
-    """The line under a diagram."""
-    if "--own-moves" not in words:
+def under(diagram, value, words, number, game):
+    """The line under the diagram of the puzzle with this number."""
+    template = words.partition("--caption ")[2]
+    if not template and "--own-moves" not in words:
         return ""
     side = re.findall(">([^<>]*) to move</text>", diagram)[-1]
     word, _, count = value.partition(" in ")
-    return f"<p>{side} {OUTCOMES[word]}{f' {(int(count) + 1) // 2}' if count else ''}</p>"
+    moves = str((int(count) + 1) // 2) if count else ""
+    if "--own-moves" in words:
+        return f"<p>{side} {OUTCOMES[word]}{' ' + moves if count else ''}</p>"
+    fields = {"number": number, "side": side, "value": OUTCOMES[word].partition(" ")[0], "moves": moves or "-", "plies": count or "-", "game": HEADS[game]["title"]}
+    return f"<p>{escaped(template.format(**fields))}</p>"
 
 
-def listed(words, rows, games, folders):
+def listed(words, rows, games, folders, title="Puzzles"):
     """The sheet of these rows, each with its game and what `find` says of it."""
     part, items, answers = constants(), "", ""
     plain = ["--no-value"] if words else []
-    for game, row in rows:
+    for number, (game, row) in enumerate(rows, 1):
         position, value, best, moves = row.split("\t")
         svg = told("show", game, position, "--svg", *plain, "--folder", folders[game])
-        items += f"<li><h3>{escaped(HEADS[game]['title'])}</h3>\n{svg}{under(svg, value, words)}</li>\n"
-        answers += f"<li>{solution(game, folders[game], position, best, moves)}</li>\n"
-    men = {game: "K" if HEADS[game]["men"][:1] == "K" else HEADS[game]["men"] for game in games}
+        solved = solution(game, folders[game], position, value, best, moves)
+        items += f"<li><h3>{escaped(HEADS[game]['title'])}</h3>\n{svg}{under(svg, value, words, number, game)}<details><summary>Solution</summary>"
+        items += f"<p>{solved}</p>\n<p><code>{escaped(position)}</code></p></details></li>\n"
+        answers += f"<li>{solved}</li>\n"
+    men = {game: letters(game) for game in games}
     legends = "".join(f"<p><b>{escaped(HEADS[game]['title'])}</b>: {WHOSE[men[game]]}</p>\n" for game in games)
-    title = escaped(words.partition("--title ")[2] or "Puzzles")
-    front = part["LIST_FRONT"] + title + part["LIST_LEGENDS"] + legends + part["LIST_PUZZLES"]
+    front = part["LIST_FRONT"] + escaped(words.partition("--title ")[2] or title) + part["LIST_LEGENDS"] + legends + part["LIST_PUZZLES"]
     return front + items + part["LIST_SOLUTIONS"] + answers + part["LIST_BACK"]
 
 

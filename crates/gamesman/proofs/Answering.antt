@@ -1,5 +1,5 @@
 -- The answers to commands that are answered from tables: what they need is not there, or their tables are not built, or a text is put.
-use Rattle.gamesman.proofs.Lower.{◌≡◌, ℕ, Bool, true, List, [], Option, None, Some, Result, Ok, Err, refl, sym, ap, subst, inl, inr, Position, Rules, Fault, NoSuchPosition, GameSpec, IsUnbuilt, IsMemoryFault, IsPut, IsTextFor, IsEngineFault, IsUnsearched, PositionSearch, text_asked, first_of, max}
+use Rattle.gamesman.proofs.Lower.{◌≡◌, ℕ, Bool, List, [], Option, None, Some, Result, Ok, Err, refl, sym, ap, subst, inl, inr, Position, Rules, Fault, GameSpec, IsUnbuilt, IsMemoryFault, IsPut, IsTextFor, IsUnsearched, PositionSearch, text_asked, first_of, max}
 use Rattle.std.proofs.Common.{IfOk, IfErr, ◌⊎◌}
 use Rattle.std.specs.Borrow.{Bor}
 use Rattle.gm_play.specs.PlayTexts.{IsReadAs}
@@ -8,10 +8,9 @@ use Rattle.gamesman.specs.Answers.{IsAnsweredBy, IsPagedWith, IsAnsweredFromTabl
 use Rattle.gm_page.specs.Pages.{IsPage}
 use Rattle.gamesman.specs.Engines.{IsPaged}
 use Rattle.gamesman.specs.Solving.{IsReport}
-use Rattle.gamesman.specs.Searches.{IsAtText, IsUnplaced, IsCountsOf, IsLongestOf, IsUnnamed}
+use Rattle.gamesman.specs.Searches.{IsAtText, IsUnplaced, IsCountsOf, IsLongestOf}
 use Rattle.gamesman.specs.Analysing.{IsAnalysisText}
-use Rattle.gamesman.specs.Plays.{IsFrom}
-use Rattle.gamesman.specs.inner.Needed.{IsAbout, IsAboutNone, IsAtPlace, AreDigitsOf, IsEngineFaultOf, IsNeeded}
+use Rattle.gamesman.specs.inner.Needed.{IsAbout, IsAboutNone, AreDigitsOf, IsEngineFaultOf, IsNeeded}
 use Rattle.gamesman.specs.declared.needs.Needs.{Needs}
 use Rattle.gm_command.specs.declared.requests.TableCommand.{TableCommand}
 use Rattle.gm_command.specs.declared.requests.PageRequest.{PageRequest}

@@ -1,5 +1,5 @@
 -- The trees of lines have no float; the tables of entries.
-use Rattle.gamesman.proofs.Lower.{◌≡◌, ℕ, List, Option, None, Some, false, refl, GameSpec}
+use Rattle.gamesman.proofs.Lower.{◌≡◌, ℕ, List, Option, None, Some, false, refl}
 use Rattle.std.specs.Prelude.{codes}
 use Rattle.serde_json.specs.Data.{Data, object, member, no_members}
 use Rattle.serde_json.specs.Written.{has_float}
@@ -22,8 +22,8 @@ entry_parts : (remoteness : Option ℕ) (family name start title value : List �
 entry_parts None family name start title value legal = refl
 entry_parts (Some n) family name start title value legal = refl
 
-pub entry_no_float : (d : Data) (e : EntryData) (g : GameSpec) → d ≡ entry_tree e g → has_float d ≡ false
-entry_no_float d e g is = rw is (entry_parts e.remoteness e.family e.name (g.shown g.rules.initial) g.picture.title (value_word e.value) e.legal)
+pub entry_no_float : (d : Data) (e : EntryData) (start title : List ℕ) → d ≡ entry_tree e start title → has_float d ≡ false
+entry_no_float d e start title is = rw is (entry_parts e.remoteness e.family e.name start title (value_word e.value) e.legal)
 
 -- the tables of entries have the games of the tables of names
 pub are_the_games : AreTheGames

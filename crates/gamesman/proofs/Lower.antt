@@ -1,7 +1,7 @@
 -- Words that proofs here use.
 pub use Rattle.gamesman.specs.Analysing.{AreAnalysisLines}
 pub use Rattle.gamesman.specs.Answers.{text_asked}
-pub use Rattle.gamesman.specs.Engines.{IsEngineFault, game_line}
+pub use Rattle.gamesman.specs.Engines.{game_line}
 pub use Rattle.gamesman.specs.Filters.{IsOfNone}
 pub use Rattle.gamesman.specs.Finds.{AreLinesOf, board_row}
 pub use Rattle.gamesman.specs.Games.{GameSpec, game_spec}

@@ -1,6 +1,6 @@
 -- Why there is no page with an engine.
-use Rattle.gamesman.proofs.Lower.{ℕ, List, Option, Err, inr, Fault, IsCutOff, IsEngineFault}
-use Rattle.gamesman.specs.Engines.{IsGamesPage, IsEveryGame}
+use Rattle.gamesman.proofs.Lower.{ℕ, List, Option, Err, inr, Fault, IsCutOff}
+use Rattle.gamesman.specs.Engines.{IsEngineFault, IsGamesPage, IsEveryGame}
 use Rattle.gamesman.proofs.Cut.{kept_cut}
 
 -- no engine is there, so nothing is written

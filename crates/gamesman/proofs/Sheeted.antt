@@ -15,7 +15,7 @@ use Rattle.gm_play.specs.PlayTexts.{IsReadAs}
 use Rattle.gm_play.specs.Dialogue.{without_return}
 use Rattle.gm_play.proofs.Rows.{flat_more}
 use Rattle.gm_command.specs.declared.names.GameName.{GameName}
-use Rattle.gm_page.specs.declared.puzzles.Caption.{Caption}
+use Rattle.gm_caption.specs.declared.caption.Caption.{Caption}
 use Rattle.gm_page.specs.declared.puzzles.Puzzle.{Puzzle}
 use Rattle.gm_page.specs.Puzzles.{legend_of, listed_sheet}
 use Rattle.gamesman.specs.declared.list.ListLine.{ListLine}
@@ -258,7 +258,7 @@ module _ (g : GameSpec) (caption : Caption) (k : ℕ) (lines : List ListLine) (j
   same_line i l there one = some_inj (sym there ∙ ap (slice_get lines) one ∙ at)
 
   -- the puzzle of one line more is made
-  pub fill_one : (p : Puzzle) → line.game ≡ k → j < length old → IsPuzzleOf g caption line.text.items p
+  pub fill_one : (p : Puzzle) → line.game ≡ k → j < length old → IsPuzzleOf g caption (j + 1) line.text.items p
       → AreFilled g caption k lines (j + 1) start (set old j p)
   fill_one p same less is = record {
     many = set_long old j p ∙ so_far.many;
@@ -267,7 +267,8 @@ module _ (g : GameSpec) (caption : Caption) (k : ℕ) (lines : List ListLine) (j
       | inr one ↦ (
         p,
         subst (λ (n : ℕ). slice_get (set old j p) n ≡ Some p) (sym one) (set_here old j p less),
-        subst (λ (x : ListLine). IsPuzzleOf g caption x.text.items p) (sym (same_line i l there one)) is,
+        subst (λ (n : ℕ). IsPuzzleOf g caption (n + 1) l.text.items p) (sym one)
+            (subst (λ (x : ListLine). IsPuzzleOf g caption (j + 1) x.text.items p) (sym (same_line i l there one)) is),
       )
     ];
     others = λ i l there not.

@@ -2,8 +2,6 @@
 use Rattle.std.specs.Prelude.{◌≡◌, ℕ, ◌+◌, ◌⊎◌, Bool, true, false, List, [], ◌∷◌, codes, Option, Some, None, Result, Ok, Err, string_bytes}
 use Rattle.std.specs.Global.{Vec}
 use Rattle.std.specs.Io.KnownBytes.{Appends, Keeps}
-use Rattle.gm_game.specs.declared.position.Position.{Position}
-use Rattle.gm_game.specs.Rules.{Rules}
 use Rattle.gm_tiers.specs.Orders.{IsTierOrder}
 use Rattle.gm_play.specs.Sessions.{AppendsPart}
 use Rattle.gm_json.specs.declared.ask_error.AskError.{AskError}

@@ -11,7 +11,7 @@ use Rattle.gm_find.specs.declared.sought.Choice.TheVariants.{First, Random, Sort
 use Rattle.gm_find.specs.Founds.{AreFound, AreChosen}
 use Rattle.gm_find.specs.Rows.{found_row}
 use Rattle.gm_json.specs.Founds.{found_line}
-use Rattle.gm_page.specs.Sheets.{Entry, AreEntries, sheet_of}
+use Rattle.gm_page.specs.Puzzles.{IsSheetOf}
 use Rattle.gm_command.specs.declared.requests.LineForm.{LineForm}
 use Rattle.gm_command.specs.declared.requests.LineForm.TheVariants.{Rows, Json, Boards}
 use Rattle.gm_command.specs.declared.requests.Report.{Report}
@@ -37,8 +37,7 @@ AreLinesOf g Boards xs out = out ≡ flat_map (board_row g) xs
 -- found positions as a text: a line for each, or a sheet of all
 abbrev pub IsTextOf : GameSpec → Report → List Found → List ℕ → Type 0
 IsTextOf g (Lines form) xs out = AreLinesOf g form xs out
-IsTextOf g Sheet xs out = (es : List Entry)
-    × AreEntries g.rules g.shown g.move_shown g.picture xs es × (out ≡ sheet_of g.picture.title es)
+IsTextOf g Sheet xs out = IsSheetOf g xs out
 
 -- the chosen ones of the positions of these tiers that are searched for, as a text
 abbrev pub IsFoundIn : GameSpec → PositionSearch → List ℕ → List ℕ → Type 0

@@ -7,7 +7,7 @@ use Rattle.gm_command.specs.declared.names.GameName.TheVariants.{PongHauKi, Shis
 use Rattle.gm_command.specs.declared.names.GameName.TheVariants.{TicTacToeMisere, TicTacToe4, Notakto, Hex3, Hex4, Sim}
 use Rattle.gm_command.specs.declared.names.GameName.TheVariants.{Hexapawn, Hexapawn4, NineHoles, Picaria, Clobber, Toads, Kono}
 use Rattle.gm_command.specs.declared.names.GameName.TheVariants.{Domineering4, Domineering5, Cram4, Cram5, Kayles, Kpk}
-use Rattle.gm_command.specs.declared.names.GameName.TheVariants.{Connect4x4, Connect5x4, Connect4x5, Connect4x6, Connect6x4, Nim, NimMisere, Chomp}
+use Rattle.gm_command.specs.declared.names.GameName.TheVariants.{Connect4x4, Connect5x4, Connect4x5, Connect4x6, Connect5x5, Connect6x4, Nim, NimMisere, Chomp}
 pub use Rattle.gm_draw.specs.GameSpecs.{GameSpec, game_spec}
 pub use Rattle.gm_connect.specs.ConnectPicture.{connect_spec}
 pub use Rattle.gm_dao.specs.DaoPicture.{dao_spec}
@@ -77,6 +77,7 @@ spec_of Connect4x4 = connect_spec 4 4
 spec_of Connect5x4 = connect_spec 5 4
 spec_of Connect4x5 = connect_spec 4 5
 spec_of Connect4x6 = connect_spec 4 6
+spec_of Connect5x5 = connect_spec 5 5
 spec_of Connect6x4 = connect_spec 6 4
 spec_of Nim = nim_spec false
 spec_of NimMisere = nim_spec true

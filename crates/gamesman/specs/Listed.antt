@@ -8,9 +8,10 @@ use Rattle.gm_tiers.specs.Reach.{IsReached}
 use Rattle.gm_play.specs.Dialogue.{without_return}
 use Rattle.gm_play.specs.PlayTexts.{IsReadAs}
 use Rattle.gm_json.specs.Asking.{lines_of}
-use Rattle.gm_page.specs.declared.puzzles.Caption.{Caption}
+use Rattle.gm_caption.specs.declared.caption.Caption.{Caption}
 use Rattle.gm_page.specs.declared.puzzles.Puzzle.{Puzzle}
-use Rattle.gm_page.specs.Puzzles.{IsPuzzle, caption_for, legend_of, listed_sheet}
+use Rattle.gm_caption.specs.Captions.{caption_for}
+use Rattle.gm_page.specs.Puzzles.{IsPuzzle, legend_of, listed_sheet}
 use Rattle.gm_command.specs.declared.names.GameName.{GameName}
 use Rattle.gm_command.specs.Names.{game_of_name}
 use Rattle.gm_command.specs.declared.requests.SheetRequest.{SheetRequest}
@@ -30,13 +31,13 @@ use Rattle.gamesman.specs.Told.{IsTold}
 abbrev pub IsOfSome : GameSpec → List ℕ → Type 0
 IsOfSome g text = (p : Position) × IsReadAs g.rules g.shown g.move_shown text p × IsReached g.rules p.tier
 
--- the puzzle is that of the position of the game with this text
-abbrev pub IsPuzzleOf : GameSpec → Caption → List ℕ → Puzzle → Type 0
-IsPuzzleOf g caption text p = IsPuzzle g caption text p × IsOfSome g text
+-- the puzzle is that of the position of the game with this text, and has this number
+abbrev pub IsPuzzleOf : GameSpec → Caption → ℕ → List ℕ → Puzzle → Type 0
+IsPuzzleOf g caption number text p = IsPuzzle g caption number text p × IsOfSome g text
 
--- the puzzle at this place is
+-- the puzzle at this place is, with the number of its line
 abbrev pub IsPuzzleAt : GameSpec → Caption → List ℕ → List Puzzle → ℕ → Type 0
-IsPuzzleAt g caption text puzzles j = (p : Puzzle) × (slice_get puzzles j ≡ Some p) × IsPuzzleOf g caption text p
+IsPuzzleAt g caption text puzzles j = (p : Puzzle) × (slice_get puzzles j ≡ Some p) × IsPuzzleOf g caption (j + 1) text p
 
 -- of the first n lines those whose game is at the place k have their puzzles, and no other puzzle changes
 pub record AreFilled (g : GameSpec) (caption : Caption) (k : ℕ) (lines : List ListLine) (n : ℕ) (old new : List Puzzle) : Type 0 where
@@ -139,7 +140,7 @@ IsNoSheet all lines fault = IsTableless all lines fault
 -- the sheet of the lines of an input
 abbrev pub IsSheetOfInput : Option GameName → SheetRequest → Option (List ℕ) → List ℕ → Type 0
 IsSheetOfInput all request input out = (bytes : List ℕ) × IsWholeInput input bytes
-    × IsListedSheet all (caption_for request.valued request.own_moves) (title_of request.title) (lines_of bytes) out
+    × IsListedSheet all (caption_for request.template request.valued request.own_moves) (title_of request.title) (lines_of bytes) out
 
 -- why there is none
 abbrev pub IsNoSheetOfInput : Option GameName → Option (List ℕ) → Fault → Type 0

@@ -12,6 +12,7 @@ use Rattle.gm_play.specs.PlayTexts.{value_word}
 use Rattle.gamesman.specs.declared.catalog.TheConstants.{ROWS, LATER_ROWS}
 use Rattle.gamesman.specs.declared.fault.Fault.{Fault}
 use Rattle.gamesman.specs.declared.listing.Entry.{Entry}
+use Rattle.gamesman.specs.declared.listing.Texts.{Texts}
 use Rattle.gamesman.specs.Games.{GameSpec, spec_of}
 use Rattle.gamesman.specs.Told.{IsMemoryFault, IsPut, IsTold}
 
@@ -41,6 +42,10 @@ entry_data name game family value remoteness legal =
 abbrev pub data_of : Entry → EntryData
 data_of e = entry_data e.name.now e.game e.family.now e.value e.remoteness e.legal
 
+-- these are the texts of the game's start and its title
+abbrev pub AreTextsOf : GameSpec → Texts → Type 0
+AreTextsOf g t = (t.start.items ≡ g.shown g.rules.initial) × (t.title.now ≡ g.picture.title)
+
 -- the tables of rows have the games of the tables of names, in their order
 abbrev pub AreTheGames : Type 0
 AreTheGames = (map {B = List ℕ × GameName} (λ row. (row.0.now, row.1)) ROWS ≡ map {B = List ℕ × GameName} (λ game. (game.0.now, game.1)) GAMES)
@@ -51,27 +56,28 @@ whole_or_null None = null
 whole_or_null (Some n) = whole n
 
 -- a game with what the table has of it, its start and its title; the members in alphabetical order
-abbrev pub entry_tree : EntryData → GameSpec → Data
-entry_tree e g =
+abbrev pub entry_tree : EntryData → List ℕ → List ℕ → Data
+entry_tree e start title =
     object (member (codes "family") (text e.family)
     (member (codes "legal") (whole e.legal)
     (member (codes "name") (text e.name)
     (member (codes "remoteness") (whole_or_null e.remoteness)
-    (member (codes "start") (text (g.shown g.rules.initial))
-    (member (codes "title") (text g.picture.title)
+    (member (codes "start") (text start)
+    (member (codes "title") (text title)
     (member (codes "value") (text (value_word e.value)) no_members)))))))
 
 -- a game's name and its title
-abbrev pub title_line : EntryData → GameSpec → List ℕ
-title_line e g = e.name ++ (codes "\t" ++ (g.picture.title ++ codes "\n"))
+abbrev pub title_line : EntryData → List ℕ → List ℕ
+title_line e title = e.name ++ (codes "\t" ++ (title ++ codes "\n"))
 
 -- the line of a game: in JSON, or with its title
-abbrev pub listed_text : Bool → EntryData → GameSpec → List ℕ
-listed_text true e g = line_of (entry_tree e g)
-listed_text false e g = title_line e g
+abbrev pub listed_text : Bool → EntryData → List ℕ → List ℕ → List ℕ
+listed_text true e start title = line_of (entry_tree e start title)
+listed_text false e start title = title_line e title
 
+-- the line of a game, with its start and its title
 abbrev pub entry_line : Bool → EntryData → List ℕ
-entry_line json e = listed_text json e (spec_of e.game)
+entry_line json e = let g = spec_of e.game in listed_text json e (g.shown g.rules.initial) g.picture.title
 
 -- a line for each game; on request, also for those that were added later
 abbrev pub listed_lines : Bool → Bool → List ℕ

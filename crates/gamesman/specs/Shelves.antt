@@ -1,7 +1,7 @@
 -- The store that the program builds over.
 use Rattle.std.specs.Prelude.{◌≡◌, ℕ, ◌+◌, List, Option, Some, None, Bool, true, false, Result, IsOk, IsErrOf, string_bytes}
 use Rattle.gm_tierdb.specs.declared.store_error.StoreError.{StoreError}
-use Rattle.gm_tierdb.specs.declared.store_error.StoreError.TheVariants.{OutOfMemory, Failed}
+use Rattle.gm_tierdb.specs.declared.store_error.StoreError.TheVariants.{Failed}
 pub use Rattle.gm_command.specs.Contents.{kept_at}
 use Rattle.gamesman.specs.declared.shelf.Shelf.{Shelf}
 use Rattle.gamesman.specs.declared.shelf.Shelf.TheVariants.{Folder, ReadOnly, Nowhere}

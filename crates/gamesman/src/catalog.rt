@@ -34,7 +34,7 @@ pub const ROWS: [Row; 18] = rows! {
 };
 
 /// The games that only `list --all` prints.
-pub const LATER_ROWS: [Row; 35] = rows! {
+pub const LATER_ROWS: [Row; 36] = rows! {
     { "ponghauki", PongHauKi, "Chases and blockades", Draw, None, 30 }
     { "shisima", Shisima, "Rows of three and four", Draw, None, 1_600 }
     { "takeaway", Takeaway, "Numbers", Lose, Some(6), 13 }
@@ -66,6 +66,7 @@ pub const LATER_ROWS: [Row; 35] = rows! {
     { "connect4-5x4", Connect5x4, "Rows of three and four", Tie, Some(20), 4_352_290 }
     { "connect4-4x5", Connect4x5, "Rows of three and four", Tie, Some(20), 2_179_983 }
     { "connect4-4x6", Connect4x6, "Rows of three and four", Tie, Some(24), 25_128_012 }
+    { "connect4-5x5", Connect5x5, "Rows of three and four", Tie, Some(25), 97_123_542 }
     { "connect4-6x4", Connect6x4, "Rows of three and four", Lose, Some(24), 108_180_486 }
     { "nim", Nim, "Taking counters", Lose, Some(16), 384 }
     { "nim-misere", NimMisere, "Taking counters", Lose, Some(15), 384 }

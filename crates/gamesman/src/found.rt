@@ -28,7 +28,7 @@ use gm_find::reached::Reached;
 use gm_find::rows::{found_rows, push_found};
 use gm_find::sought::Choice;
 use gm_json::find::found_lines;
-use gm_page::sheet::sheet_text;
+use gm_page::puzzles::found_sheet;
 use gm_play::known_tiers::KnownTiers;
 use gm_table::tables::Tables;
 use std::alloc::{AllocError, Global};
@@ -86,7 +86,7 @@ fn write_in<G: Pictured, O: Write>(
 {
     match asked.report {
         Report::Sheet => {
-            let sheet = sheet_text(alloc, known, asked.sought, reached, asked.choice);
+            let sheet = found_sheet(alloc, known, asked.sought, reached, asked.choice);
             put_text(output, sheet)
         }
         Report::Lines(form) => match asked.choice {

@@ -15,11 +15,11 @@ use crate::naming::write_naming;
 use crate::service::{Ended, Service, answer_asked};
 use crate::sheet::{Parts, fill};
 use crate::tables::BuildOptions;
+use gm_caption::caption::Caption;
 use gm_command::names::GameName;
 use gm_command::requests::GameCommand;
 use gm_command::with_games;
 use gm_draw::pictured::Pictured;
-use gm_page::puzzles::Caption;
 use std::io::{Read, Write};
 
 // Returns how a command ended that goes on with no other game.
@@ -132,13 +132,13 @@ pub fn fill_for<R: Host, E: Write + Send>(
     game: GameName,
     k: usize,
     lines: &[ListLine],
-    caption: Caption,
+    caption: Caption<'_>,
     options: BuildOptions<'_>,
     parts: &mut Parts,
     errors: &mut E,
 ) -> Result<(), Fault>
     requires { length parts.old.puzzles.items ≡ length lines.now }
-    ensures { IsFilledBy (spec_of game) caption k lines.now parts.old parts.new result }
+    ensures { IsFilledBy (spec_of game) caption.entry k lines.now parts.old parts.new result }
 {
     macro_rules! fills {
         ([] $({ $($name:literal => $game:ident: $type:ty,)* })*) => {

@@ -5,7 +5,7 @@ ghost use Rattle.serde_json.specs.Data.{object};
 ghost use Rattle.serde_json.specs.View.{members_view};
 ghost use Rattle.gm_json.specs.Words.{line_of};
 ghost use Rattle.gamesman.specs.Games.{game_spec, spec_of};
-ghost use Rattle.gamesman.specs.Listing.{AreTheGames, data_of, entry_data, entry_tree, listed_text, entry_line, listed_lines, title_line};
+ghost use Rattle.gamesman.specs.Listing.{AreTheGames, AreTextsOf, data_of, entry_data, entry_tree, entry_line, listed_lines, title_line};
 
 use crate::catalog::{LATER_ROWS, ROWS};
 use gm_command::names::GameName;
@@ -13,6 +13,7 @@ use gm_command::with_games;
 use gm_draw::pictured::Pictured;
 use gm_game::game::laws;
 use gm_game::position::Value;
+use gm_game::shown::Line;
 use gm_json::words::{push_line, put_text};
 use gm_play::texts::word_of;
 use serde_json::{Map, Value as Json, put};
@@ -84,6 +85,40 @@ fn lines_of(alloc: Global, rows: &[Row], json: bool) -> Result<Vec<u8>, AllocErr
     Ok(lines)
 }
 
+// The texts of a game that its entry has none of.
+#[derive(Drop)]
+struct Texts {
+    // Its start.
+    start: Line,
+    // Its title.
+    title: &'static [u8],
+}
+
+// Returns the texts of the game of this type.
+fn texts_of<G: Pictured>() -> Texts
+    ensures { AreTextsOf (game_spec G.Game.rules G.shown G.move_shown G.picture) result }
+{
+    laws::<G>();
+    Texts {
+        start: G::show(G::initial()),
+        title: G::picture().title,
+    }
+}
+
+// Returns the texts of the game of this name.
+fn texts_for(game: GameName) -> Texts
+    ensures { AreTextsOf (spec_of game) result }
+{
+    macro_rules! texts {
+        ([] $({ $($literal:literal => $game:ident: $type:ty,)* })*) => {
+            match game {
+                $($(GameName::$game => texts_of::<$type>(),)*)*
+            }
+        };
+    }
+    with_games!(texts)
+}
+
 // Appends the line of a game.
 fn push_line_of(
     alloc: Global,
@@ -93,69 +128,50 @@ fn push_line_of(
 ) -> Result<(), AllocError>
     ensures { OnOk result (lines.new.items ≡ lines.old.items ++ entry_line json (data_of entry.now)) }
 {
-    macro_rules! entries {
-        ([] $({ $($literal:literal => $game:ident: $type:ty,)* })*) => {
-            match entry.game {
-                $($(GameName::$game => push_text_of::<$type>(alloc, lines, entry, json),)*)*
-            }
-        };
-    }
-    with_games!(entries)
-}
-
-// Appends the line of a game of this type.
-fn push_text_of<G: Pictured>(
-    alloc: Global,
-    lines: &mut Vec<u8>,
-    entry: &Entry,
-    json: bool,
-) -> Result<(), AllocError>
-    ensures { OnOk result (lines.new.items ≡ lines.old.items
-        ++ listed_text json (data_of entry.now) (game_spec G.Game.rules G.shown G.move_shown G.picture)) }
-{
+    let texts = texts_for(entry.game);
     if json {
-        push_entry::<G>(alloc, lines, entry)
+        push_entry(alloc, lines, entry, &texts)
     } else {
-        push_title::<G>(lines, entry)
+        push_title(lines, entry, &texts)
     }
 }
 
 // Appends the name and the title of a game.
-fn push_title<G: Pictured>(lines: &mut Vec<u8>, entry: &Entry) -> Result<(), AllocError>
-    ensures { OnOk result (lines.new.items ≡ lines.old.items
-        ++ title_line (data_of entry.now) (game_spec G.Game.rules G.shown G.move_shown G.picture)) }
+fn push_title(lines: &mut Vec<u8>, entry: &Entry, texts: &Texts) -> Result<(), AllocError>
+    ensures { OnOk result (lines.new.items ≡ lines.old.items ++ title_line (data_of entry.now) texts.now.title.now) }
 {
     lines.extend_from_slice(entry.name.as_bytes())?;
     lines.extend_from_slice(b"\t")?;
-    lines.extend_from_slice(G::picture().title)?;
+    lines.extend_from_slice(texts.title)?;
     lines.extend_from_slice(b"\n")
 }
 
 // Appends the line of JSON of a game.
-fn push_entry<G: Pictured>(
+fn push_entry(
     alloc: Global,
     lines: &mut Vec<u8>,
     entry: &Entry,
+    texts: &Texts,
 ) -> Result<(), AllocError>
-    ensures { OnOk result (lines.new.items ≡ lines.old.items
-        ++ line_of (entry_tree (data_of entry.now) (game_spec G.Game.rules G.shown G.move_shown G.picture))) }
+    ensures { OnOk result (lines.new.items
+        ≡ lines.old.items ++ line_of (entry_tree (data_of entry.now) texts.now.start.items texts.now.title.now)) }
 {
     let mut members = Map::new(alloc);
-    put_entry::<G>(alloc, &mut members, entry)?;
+    put_entry(alloc, &mut members, entry, texts)?;
     push_line(alloc, lines, Json::Object(members))
 }
 
 // Puts the members of a game into an empty object.
-fn put_entry<G: Pictured>(
+fn put_entry(
     alloc: Global,
     members: &mut Map<String, Json>,
     entry: &Entry,
+    texts: &Texts,
 ) -> Result<(), AllocError>
     requires { members.old.entries ≡ [] }
     ensures { OnOk result (object (members_view members.new.entries)
-        ≡ entry_tree (data_of entry.now) (game_spec G.Game.rules G.shown G.move_shown G.picture)) }
+        ≡ entry_tree (data_of entry.now) texts.now.start.items texts.now.title.now) }
 {
-    laws::<G>();
     let remoteness = match entry.remoteness {
         Some(remoteness) => Json::from(remoteness),
         None => Json::Null,
@@ -164,7 +180,7 @@ fn put_entry<G: Pictured>(
     put(members, alloc, "legal", Json::from(entry.legal))?;
     put_text(alloc, members, "name", entry.name.as_bytes())?;
     put(members, alloc, "remoteness", remoteness)?;
-    put_text(alloc, members, "start", G::show(G::initial()).as_slice())?;
-    put_text(alloc, members, "title", G::picture().title)?;
+    put_text(alloc, members, "start", texts.start.as_slice())?;
+    put_text(alloc, members, "title", texts.title)?;
     put_text(alloc, members, "value", word_of(entry.value).as_bytes())
 }

@@ -15,11 +15,12 @@ use crate::list::{ListLine, PositionList, game_at, line_at, list_of, read_input}
 use crate::output::put_all;
 use crate::tables::BuildOptions;
 use gm_build::build::Built;
+use gm_caption::caption::Caption;
 use gm_command::names::{GameName, game_named};
 use gm_command::requests::SheetRequest;
 use gm_draw::pictured::Pictured;
 use gm_game::game::laws;
-use gm_page::puzzles::{Caption, Puzzle, listed_sheet, push_legend, puzzle_of};
+use gm_page::puzzles::{Puzzle, listed_sheet, push_legend, puzzle_of};
 use gm_play::closed::Closed;
 use std::alloc::{AllocError, Global};
 use std::io::{Read, Write};
@@ -93,7 +94,7 @@ fn sheet_of_input<R: Host, I: Read, E: Write + Send>(
         Err(fault) => return Err(fault),
     };
     let title = title_of(request.title);
-    let caption = Caption::of(request.valued, request.own_moves);
+    let caption = Caption::of(request.template, request.valued, request.own_moves);
     let options = BuildOptions::of_sheet(request, terminal);
     let sheet = sheet_of(rt, &list, title, caption, options, errors);
     drop(list);
@@ -116,11 +117,11 @@ fn sheet_of<R: Host, E: Write + Send>(
     rt: &R,
     list: &PositionList,
     title: &[u8],
-    caption: Caption,
+    caption: Caption<'_>,
     options: BuildOptions<'_>,
     errors: &mut E,
 ) -> Result<Vec<u8>, Fault>
-    ensures ok { IfOk result (λ v. (all : Option GameName) (lines : List (List ℕ)) → IsListOf all lines list.now → IsListedSheet all caption title.now lines v.items) }
+    ensures ok { IfOk result (λ v. (all : Option GameName) (lines : List (List ℕ)) → IsListOf all lines list.now → IsListedSheet all caption.entry title.now lines v.items) }
     ensures err { IfErr result (λ fault. (all : Option GameName) (lines : List (List ℕ)) → IsListOf all lines list.now → IsNoSheet all lines fault) }
 {
     let mut parts = match blank_parts(rt.alloc(), list.lines.len()) {
@@ -137,14 +138,14 @@ fn filled_sheet<R: Host, E: Write + Send>(
     rt: &R,
     list: &PositionList,
     title: &[u8],
-    caption: Caption,
+    caption: Caption<'_>,
     options: BuildOptions<'_>,
     parts: &mut Parts,
     errors: &mut E,
 ) -> Result<Vec<u8>, Fault>
     requires many { length parts.old.puzzles.items ≡ length list.now.lines.items }
     requires empty { parts.old.legends.items ≡ [] }
-    ensures ok { IfOk result (λ v. (all : Option GameName) (lines : List (List ℕ)) → IsListOf all lines list.now → IsListedSheet all caption title.now lines v.items) }
+    ensures ok { IfOk result (λ v. (all : Option GameName) (lines : List (List ℕ)) → IsListOf all lines list.now → IsListedSheet all caption.entry title.now lines v.items) }
     ensures err { IfErr result (λ fault. (all : Option GameName) (lines : List (List ℕ)) → IsListOf all lines list.now → IsNoSheet all lines fault) }
 {
     match fill_all(rt, list, caption, options, parts, errors) {
@@ -183,14 +184,14 @@ fn blank_parts(alloc: Global, count: usize) -> Result<Parts, AllocError>
 fn fill_all<R: Host, E: Write + Send>(
     rt: &R,
     list: &PositionList,
-    caption: Caption,
+    caption: Caption<'_>,
     options: BuildOptions<'_>,
     parts: &mut Parts,
     errors: &mut E,
 ) -> Result<(), Fault>
     requires many { length parts.old.puzzles.items ≡ length list.now.lines.items }
     requires empty { parts.old.legends.items ≡ [] }
-    ensures ok { OnOk result (AreAllFilled caption list.now (length list.now.games.items) parts.new) }
+    ensures ok { OnOk result (AreAllFilled caption.entry list.now (length list.now.games.items) parts.new) }
     ensures err { IfErr result (IsUnfilledOf list.now) }
 {
     for k in 0..list.games.len() {
@@ -204,14 +205,14 @@ fn fill_at<R: Host, E: Write + Send>(
     rt: &R,
     list: &PositionList,
     k: usize,
-    caption: Caption,
+    caption: Caption<'_>,
     options: BuildOptions<'_>,
     parts: &mut Parts,
     errors: &mut E,
 ) -> Result<(), Fault>
     requires within { k < length list.now.games.items }
     requires before { AreAllFilled caption list.now k parts.old }
-    ensures ok { OnOk result (AreAllFilled caption list.now (k + 1) parts.new) }
+    ensures ok { OnOk result (AreAllFilled caption.entry list.now (k + 1) parts.new) }
     ensures err { IfErr result (IsUnfilledOf list.now) }
 {
     let game = game_at(list.games.as_slice(), k);
@@ -224,13 +225,13 @@ pub fn fill<G: Pictured + Send + Sync, R: Host, E: Write + Send>(
     rt: &R,
     k: usize,
     lines: &[ListLine],
-    caption: Caption,
+    caption: Caption<'_>,
     options: BuildOptions<'_>,
     parts: &mut Parts,
     errors: &mut E,
 ) -> Result<(), Fault>
     requires { length parts.old.puzzles.items ≡ length lines.now }
-    ensures { IsFilledBy (game_spec G.Game.rules G.shown G.move_shown G.picture) caption k lines.now parts.old parts.new result }
+    ensures { IsFilledBy (game_spec G.Game.rules G.shown G.move_shown G.picture) caption.entry k lines.now parts.old parts.new result }
 {
     laws::<G>();
     let built = match options.build::<G, R, E>(rt, G::initial().tier, errors) {
@@ -248,13 +249,13 @@ fn fill_from<G: Pictured>(
     built: &Built<G>,
     k: usize,
     lines: &[ListLine],
-    caption: Caption,
+    caption: Caption<'_>,
     parts: &mut Parts,
 ) -> Result<(), Fault>
     requires order { IsTierOrder G.Game.rules built.now.order }
     requires held { HoldsExactly built.now.tables built.now.order }
     requires many { length parts.old.puzzles.items ≡ length lines.now }
-    ensures ok { OnOk result (IsPartOf (game_spec G.Game.rules G.shown G.move_shown G.picture) caption k lines.now parts.old parts.new) }
+    ensures ok { OnOk result (IsPartOf (game_spec G.Game.rules G.shown G.move_shown G.picture) caption.entry k lines.now parts.old parts.new) }
     ensures err { IfErr result (IsUnfilled (game_spec G.Game.rules G.shown G.move_shown G.picture) k lines.now) }
 {
     push_legend::<G>(&mut parts.legends)?;
@@ -267,13 +268,13 @@ fn fill_lines<G: Pictured>(
     built: &Built<G>,
     k: usize,
     lines: &[ListLine],
-    caption: Caption,
+    caption: Caption<'_>,
     puzzles: &mut Vec<Puzzle>,
 ) -> Result<(), Fault>
     requires order { IsTierOrder G.Game.rules built.now.order }
     requires held { HoldsExactly built.now.tables built.now.order }
     requires many { length puzzles.old.items ≡ length lines.now }
-    ensures ok { OnOk result (AreFilled (game_spec G.Game.rules G.shown G.move_shown G.picture) caption k lines.now (length lines.now) puzzles.old.items puzzles.new.items) }
+    ensures ok { OnOk result (AreFilled (game_spec G.Game.rules G.shown G.move_shown G.picture) caption.entry k lines.now (length lines.now) puzzles.old.items puzzles.new.items) }
     ensures err { IfErr result (IsUnfilled (game_spec G.Game.rules G.shown G.move_shown G.picture) k lines.now) }
 {
     for j in 0..lines.len() {
@@ -289,7 +290,7 @@ fn fill_line<G: Pictured>(
     k: usize,
     lines: &[ListLine],
     j: usize,
-    caption: Caption,
+    caption: Caption<'_>,
     puzzles: &mut Vec<Puzzle>,
 ) -> Result<(), Fault>
     requires order { IsTierOrder G.Game.rules built.now.order }
@@ -298,10 +299,10 @@ fn fill_line<G: Pictured>(
     requires many { length puzzles.old.items ≡ length lines.now }
     ensures many { length puzzles.new.items ≡ length puzzles.old.items }
     ensures ok { OnOk result ((start : List Puzzle)
-        → AreFilled (game_spec G.Game.rules G.shown G.move_shown G.picture) caption k lines.now j start puzzles.old.items
-        → AreFilled (game_spec G.Game.rules G.shown G.move_shown G.picture) caption k lines.now (j + 1) start puzzles.new.items) }
+        → AreFilled (game_spec G.Game.rules G.shown G.move_shown G.picture) caption.entry k lines.now j start puzzles.old.items
+        → AreFilled (game_spec G.Game.rules G.shown G.move_shown G.picture) caption.entry k lines.now (j + 1) start puzzles.new.items) }
     ensures err { IfErr result (λ fault. (start : List Puzzle)
-        → AreFilled (game_spec G.Game.rules G.shown G.move_shown G.picture) caption k lines.now j start puzzles.old.items
+        → AreFilled (game_spec G.Game.rules G.shown G.move_shown G.picture) caption.entry k lines.now j start puzzles.old.items
         → IsUnfilled (game_spec G.Game.rules G.shown G.move_shown G.picture) k lines.now fault) }
 {
     let line = line_at(lines, j);
@@ -337,17 +338,17 @@ fn put(puzzles: &mut Vec<Puzzle>, j: usize, made: Puzzle)
     puzzles[j] = made;
 }
 
-// Returns the puzzle of the position with this text, from the line with this number.
+// Returns the puzzle of the position with this text, from the line with this number, which is its number too.
 fn puzzle_in<G: Pictured>(
     alloc: Global,
     built: &Built<G>,
     text: &[u8],
     line: u64,
-    caption: Caption,
+    caption: Caption<'_>,
 ) -> Result<Puzzle, Fault>
     requires order { IsTierOrder G.Game.rules built.now.order }
     requires held { HoldsExactly built.now.tables built.now.order }
-    ensures ok { IfOk result (IsPuzzleOf (game_spec G.Game.rules G.shown G.move_shown G.picture) caption text.now) }
+    ensures ok { IfOk result (IsPuzzleOf (game_spec G.Game.rules G.shown G.move_shown G.picture) caption.entry line text.now) }
     ensures err { IfErr result (IsNoPuzzle (game_spec G.Game.rules G.shown G.move_shown G.picture) text.now line) }
 {
     let Some(position) = G::read(text) else {
@@ -359,7 +360,7 @@ fn puzzle_in<G: Pictured>(
     let Some(known) = tables.known(position) else {
         return Err(Fault::NoSuchPositionInLine { line });
     };
-    match puzzle_of(alloc, &known, caption) {
+    match puzzle_of(alloc, &known, caption, line) {
         Ok(puzzle) => Ok(puzzle),
         Err(error) => Err(Fault::OutOfMemory(error)),
     }

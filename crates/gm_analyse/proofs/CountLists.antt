@@ -23,7 +23,7 @@ at_rank Draw = refl
 at_rank Tie = refl
 at_rank Win = refl
 
-rank_once : (v w : Value) → value_rank v ≡ value_rank w → v ≡ w
+pub rank_once : (v w : Value) → value_rank v ≡ value_rank w → v ≡ w
 rank_once v w e = sym (at_rank v) ∙ ap value_at e ∙ at_rank w
 
 rank_small : (v : Value) → value_rank v < 4

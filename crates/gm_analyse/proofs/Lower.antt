@@ -2,7 +2,6 @@
 pub use Rattle.gm_analyse.specs.Listing.{AreCountsBefore, counted}
 pub use Rattle.gm_analyse.specs.Longest.{IsLastAbove}
 pub use Rattle.gm_analyse.specs.Numbers.{count_where, number_in}
-pub use Rattle.gm_analyse.specs.Totals.{AreNumbers}
 pub use Rattle.gm_analyse.specs.Tree.{count_tree, name_text}
 pub use Rattle.gm_analyse.specs.declared.among.Among.{Among}
 pub use Rattle.gm_analyse.specs.declared.by_tier.TierCount.{TierCount}

@@ -1,5 +1,5 @@
 -- Rows of counts, with one tier or one count more; the greatest remoteness that is counted.
-use Rattle.gm_analyse.proofs.Lower.{◌≡◌, ℕ, ◌≤◌, Bool, true, List, [], ◌∷◌, length, get_or, Option, None, Some, inl, inr, refl, sym, ap, subst, ◌∙◌, arith, REMOTENESS, Position, Solved, Value, Rules, contains_none, Among, IsLastAbove, AreNumbers}
+use Rattle.gm_analyse.proofs.Lower.{◌≡◌, ℕ, ◌≤◌, Bool, true, List, [], ◌∷◌, length, get_or, Option, None, Some, inl, inr, refl, sym, ap, subst, ◌∙◌, arith, REMOTENESS, Position, Solved, Value, Rules, contains_none, Among, IsLastAbove}
 use Rattle.std.proofs.Common.{◌<◌, ◌↔◌, IfSome, IsSome}
 use Rattle.std.specs.List.{Contains}
 use Rattle.std.proofs.lemmas.Bool.{cases_lt}
@@ -8,7 +8,7 @@ use Rattle.gm_game.specs.Records.{IsRecord}
 use Rattle.gm_game.specs.Values.{IsTrueValue}
 use Rattle.gm_game.proofs.Lists.{contains_cases, contains_first, contains_later}
 use Rattle.gm_analyse.specs.declared.among.Among.TheVariants.{Canonical, Legal}
-use Rattle.gm_analyse.specs.Totals.{IsCounted, IsRecordAmong, IsGreatest}
+use Rattle.gm_analyse.specs.Totals.{IsCounted, IsRecordAmong, IsGreatest, AreNumbers}
 use Rattle.gm_table.specs.Tables.{TableData, IsHeld}
 use Rattle.gm_find.specs.Lists.{AreThose}
 

@@ -1,8 +1,9 @@
 -- How many positions of some tiers have each value and remoteness.
-use Rattle.std.specs.Prelude.{◌≡◌, ℕ, ◌<◌, ◌≤◌, ◌↔◌, List, Bool, true, IsTrue, Option, None, Some, length, slice_index_or}
+use Rattle.std.specs.Prelude.{◌≡◌, ℕ, ◌+◌, ◌<◌, ◌≤◌, ◌↔◌, List, ◌++◌, Bool, true, IsTrue, Option, None, Some, length, vec_len, slice_index_or}
 use Rattle.std.specs.List.{Contains, AllPairs}
 use Rattle.gm_game.specs.declared.position.Position.{Position}
 use Rattle.gm_game.specs.declared.position.Value.{Value}
+use Rattle.gm_game.specs.declared.position.Value.TheVariants.{Lose, Draw, Tie, Win}
 use Rattle.gm_game.specs.declared.position.Solved.{Solved}
 use Rattle.gm_game.specs.declared.limits.TheConstants.{REMOTENESS}
 use Rattle.gm_game.specs.Rules.{Rules, IsCanonical}
@@ -13,7 +14,8 @@ use Rattle.gm_find.specs.Lists.{AreThose}
 use Rattle.gm_analyse.specs.declared.among.Among.{Among}
 use Rattle.gm_analyse.specs.declared.among.Among.TheVariants.{Canonical, Legal}
 use Rattle.gm_analyse.specs.declared.counts.Count.{Count}
-use Rattle.gm_analyse.specs.Listing.{IsCountBefore}
+use Rattle.gm_analyse.specs.declared.numbers.Numbers.{Numbers}
+use Rattle.gm_analyse.specs.Listing.{IsCountBefore, counted}
 
 -- the positions that are counted: the canonical ones, or all legal ones
 abbrev pub IsAmong : Rules → Among → Position → Type 0
@@ -43,10 +45,31 @@ pub record AreCounts (r : Rules) (among : Among) (reached : Bool) (tiers : List 
 abbrev pub AreNumbers : Rules → Among → Bool → Value → List Position → List ℕ → Type 0
 AreNumbers r among reached v ps numbers = (n : ℕ) → IsNumber r among reached ps v n (slice_index_or numbers n 0)
 
--- the remoteness with which a position is counted, if it is counted
-abbrev pub IsLevel : Rules → Among → Bool → Value → Position → Option ℕ → Type 0
-IsLevel r among reached v p None = (n : ℕ) → IsCounted r among reached v n p → ⊥
-IsLevel r among reached v p (Some n) = IsCounted r among reached v n p
+-- of these lists the one of a value
+abbrev pub numbers_for : Value → Numbers → List ℕ
+numbers_for Lose numbers = numbers.lose.items
+numbers_for Draw numbers = numbers.draw.items
+numbers_for Tie numbers = numbers.tie.items
+numbers_for Win numbers = numbers.win.items
+
+-- the counts above 0 of these lists
+abbrev pub all_counted : Numbers → List Count
+all_counted numbers =
+    ((counted Lose 0 numbers.lose.items ++ counted Draw 0 numbers.draw.items) ++ counted Tie 0 numbers.tie.items) ++ counted Win 0 numbers.win.items
+
+-- for each value and remoteness, how many of these positions are counted
+abbrev pub AreAllNumbers : Rules → Among → Bool → List Position → Numbers → Type 0
+AreAllNumbers r among reached ps numbers = (v : Value) → AreNumbers r among reached v ps (numbers_for v numbers)
+
+-- none of the lists goes past the greatest remoteness
+abbrev pub AreShort : Numbers → Type 0
+AreShort numbers = (vec_len numbers.lose ≤ REMOTENESS + 1) × (vec_len numbers.draw ≤ REMOTENESS + 1)
+    × (vec_len numbers.tie ≤ REMOTENESS + 1) × (vec_len numbers.win ≤ REMOTENESS + 1)
+
+-- the value and remoteness with which a position is counted, if it is counted
+abbrev pub IsCountedAs : Rules → Among → Bool → Position → Option Solved → Type 0
+IsCountedAs r among reached p None = (v : Value) (n : ℕ) → IsCounted r among reached v n p → ⊥
+IsCountedAs r among reached p (Some s) = IsCounted r among reached s.value s.remoteness p × (s.remoteness ≤ REMOTENESS)
 
 -- the true value of one of those positions, within the limit; none for any other position
 abbrev pub IsRecordAmong : Rules → Among → Position → Option Solved → Type 0

@@ -83,8 +83,8 @@ pub fn greatest<G: Game>(
 ) -> Result<Option<u32>, AllocError>
     ensures { IfOk result (IsGreatest G.rules Canonical (is_some reached.entry) value (all_positions G.rules known.now.tiers.now)) }
 {
-    let numbers = numbers_of(alloc, known, Among::Canonical, value, reached)?;
-    Ok(last_above(numbers.as_slice()))
+    let numbers = numbers_of(alloc, known, Among::Canonical, reached)?;
+    Ok(last_above(numbers.of(value)))
 }
 
 // Returns the last place with a number above 0.

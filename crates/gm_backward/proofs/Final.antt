@@ -1,5 +1,5 @@
 -- What is known once the levels of both phases are passed.
-use Rattle.gm_backward.proofs.Lower.{◌≡◌, ℕ, ◌+◌, inl, inr, List, subst, arith, Option, REMOTENESS, Position, Solved, Phase, WinLose, Ties, Place, Rules, at, IsGame, IsTrueTable, StandsBefore, AreHeld, IsNumberBefore}
+use Rattle.gm_backward.proofs.Lower.{◌≡◌, ℕ, inl, inr, List, subst, arith, Option, REMOTENESS, Position, Solved, Phase, WinLose, Ties, Place, Rules, at, IsGame, IsTrueTable, StandsBefore, AreHeld, IsNumberBefore}
 use Rattle.gm_game.specs.Values.{IsTrueValue}
 use Rattle.gm_game.specs.Places.{StandsAt, IsPlaceBefore, IsLastLevel, IsNear}
 use Rattle.gm_table.specs.Tables.{TableData, AreTables}

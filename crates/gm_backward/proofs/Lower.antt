@@ -25,9 +25,8 @@ pub use Rattle.gm_locks.specs.Rounds.{AreFirst, HasNoneHere, pairs_into}
 pub use Rattle.gm_locks.specs.Spots.{Spot, spot_of}
 pub use Rattle.gm_table.specs.Solving.{IsTooFar}
 pub use Rattle.gm_table.specs.Tables.{AreHeld}
-pub use Rattle.std.proofs.Common.{List, Option, Some, Vec, [], ap, arith, drop, inl, inr, length, length-append, refl, replicate, slice_get, subst, suc, sym, zero, ℕ, ◌++◌, ◌+◌, ◌-◌, ◌<◌, ◌∙◌, ◌∷◌, ◌≡◌, ◌≤◌}
+pub use Rattle.std.proofs.Common.{List, Option, Some, [], ap, arith, drop, inl, inr, length, length-append, refl, replicate, slice_get, subst, suc, sym, zero, ℕ, ◌++◌, ◌+◌, ◌-◌, ◌<◌, ◌∙◌, ◌∷◌, ◌≡◌, ◌≤◌}
 pub use Rattle.std.proofs.lemmas.Bool.{cases_lt}
 pub use Rattle.std.proofs.lemmas.Option.{slice_get-get_or, slice_get_within}
 pub use Rattle.std.proofs.lemmas.Result.{IfOk-at_ok}
 pub use Rattle.std.specs.List.{Contains}
-pub use Rattle.std.specs.declared.alloc.Global.{Global}

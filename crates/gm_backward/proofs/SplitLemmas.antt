@@ -1,5 +1,5 @@
 -- The pairs of a piece by the tiles that have their parents.
-use Rattle.gm_backward.proofs.Lower.{◌≡◌, ℕ, zero, suc, ◌<◌, ◌≤◌, inl, inr, List, [], ◌∷◌, ◌++◌, length, slice_get, refl, sym, ap, subst, ◌∙◌, arith, Some, Vec, Global, cases_lt, Contains, slice_get_within, slice_get-get_or, Place, Rules, NoteData, pairs_of, piece_of, Spot, tile_at, cut_at, Cuts}
+use Rattle.gm_backward.proofs.Lower.{◌≡◌, ℕ, zero, suc, ◌<◌, ◌≤◌, inl, inr, List, [], ◌∷◌, ◌++◌, length, slice_get, refl, sym, ap, subst, ◌∙◌, arith, Some, cases_lt, Contains, slice_get_within, slice_get-get_or, Place, Rules, NoteData, pairs_of, piece_of, Spot, tile_at, cut_at, Cuts}
 use Rattle.std.proofs.Common.{◌&&◌, Bool, true, false, if◌then◌else◌, map, filter, set, length-set, get_or-set_same}
 use Rattle.std.proofs.lemmas.Bool.{cases_eq}
 use Rattle.gm_game.proofs.Lists.{contains_first}
@@ -99,41 +99,41 @@ none_in lo hi pairs x o =
     nothing_more [] = refl
     nothing_more (p ∷ ps) = ap (λ (qs : List (NoteData × ℕ)). p ∷ qs) (nothing_more ps)
 
-set_at : (i : ℕ) (vs : List (Vec (NoteData × ℕ) Global)) (v : Vec (NoteData × ℕ) Global) → i < length vs → slice_get (set vs i v) i ≡ Some v
+set_at : (i : ℕ) (vs : List (List (NoteData × ℕ))) (v : List (NoteData × ℕ)) → i < length vs → slice_get (set vs i v) i ≡ Some v
 set_at i vs v l = let long = length-set vs i v in slice_get-get_or (set vs i v) i v (omega arith) ∙ ap Some (get_or-set_same vs i v v l)
 
-set_past : (i j : ℕ) (vs : List (Vec (NoteData × ℕ) Global)) (v : Vec (NoteData × ℕ) Global) → (i ≡ j → ⊥) → slice_get (set vs j v) i ≡ slice_get vs i
+set_past : (i j : ℕ) (vs : List (List (NoteData × ℕ))) (v : List (NoteData × ℕ)) → (i ≡ j → ⊥) → slice_get (set vs j v) i ≡ slice_get vs i
 set_past i j [] v o = refl
 set_past zero zero (w ∷ vs) v o = absurd (o refl)
 set_past zero (suc j) (w ∷ vs) v o = refl
 set_past (suc i) zero (w ∷ vs) v o = refl
 set_past (suc i) (suc j) (w ∷ vs) v o = set_past i j vs v (λ e. o (ap suc e))
 
-pub split_more : (size : ℕ) (cuts : Cuts) (j : ℕ) (old new : List (Vec (NoteData × ℕ) Global)) (was list : Vec (NoteData × ℕ) Global) (x : NoteData × ℕ)
+pub split_more : (size : ℕ) (cuts : Cuts) (j : ℕ) (old new : List (List (NoteData × ℕ))) (was list : List (NoteData × ℕ)) (x : NoteData × ℕ)
     → AreAscendingCuts size cuts → cut_at size cuts j ≤ x.1 → x.1 < cut_at size cuts (suc j)
-    → slice_get old j ≡ Some was → list.items ≡ was.items ++ x ∷ [] → new ≡ set old j list
+    → slice_get old j ≡ Some was → list ≡ was ++ x ∷ [] → new ≡ set old j list
     → (pairs : List (NoteData × ℕ)) → AreSplit size cuts pairs old → AreSplit size cuts (pairs ++ x ∷ []) new
 split_more size cuts j old new was list x up low high at more is pairs h = record {
   each = λ k v e. elim (cases_eq k j) [
-    | inl same ↦ (let there : slice_get new j ≡ Some list = ap (λ (vs : List (Vec (NoteData × ℕ) Global)). slice_get vs j) is
+    | inl same ↦ (let there : slice_get new j ≡ Some list = ap (λ (vs : List (List (NoteData × ℕ))). slice_get vs j) is
         ∙ set_at j old list (slice_get_within old j was at) in
         let here : Some v ≡ Some list = sym e ∙ ap (slice_get new) same ∙ there in
         let v_is : v ≡ list = cc in
-        ap (λ (w : Vec (NoteData × ℕ) Global). w.items) v_is ∙ more ∙ ap (λ (ps : List (NoteData × ℕ)). ps ++ x ∷ []) (h.each j was at)
+        v_is ∙ more ∙ ap (λ (ps : List (NoteData × ℕ)). ps ++ x ∷ []) (h.each j was at)
         ∙ one_in (cut_at size cuts j) (cut_at size cuts (suc j)) pairs x low high
         ∙ ap (λ (m : ℕ). pairs_within (cut_at size cuts m) (cut_at size cuts (suc m)) (pairs ++ x ∷ [])) (sym same))
     | inr other ↦ (let before : slice_get old k ≡ Some v = sym (set_past k j old list other)
-        ∙ ap (λ (vs : List (Vec (NoteData × ℕ) Global)). slice_get vs k) (sym is) ∙ e in
+        ∙ ap (λ (vs : List (List (NoteData × ℕ))). slice_get vs k) (sym is) ∙ e in
         h.each k v before
         ∙ none_in (cut_at size cuts k) (cut_at size cuts (suc k)) pairs x (λ from to. other (one_tile size cuts up j k x.1 low high from to)))
   ];
 }
 
 -- the list of a tile has the pairs of the piece into it
-pub list_is : (r : Rules) (place : Place) (cuts : Cuts) (n piece k size : ℕ) (notes ns : List NoteData) (lists : List (Vec (NoteData × ℕ) Global))
-    (list : Vec (NoteData × ℕ) Global) (spot : Spot) → AreAscendingCuts (r.tier_size place.tier) cuts → k < 4
+pub list_is : (r : Rules) (place : Place) (cuts : Cuts) (n piece k size : ℕ) (notes ns : List NoteData) (lists : List (List (NoteData × ℕ)))
+    (list : List (NoteData × ℕ)) (spot : Spot) → AreAscendingCuts (r.tier_size place.tier) cuts → k < 4
     → AreSplit (r.tier_size place.tier) cuts (pairs_of r place.tier 0 (r.tier_size place.tier) (piece_of piece n ns)) lists → slice_get lists k ≡ Some list
-    → spot ≡ tile_at r place cuts k → notes ≡ ns → size ≡ n → list.items ≡ piece_pairs r spot notes size piece
+    → spot ≡ tile_at r place cuts k → notes ≡ ns → size ≡ n → list ≡ piece_pairs r spot notes size piece
 list_is r place cuts n piece k size notes ns lists list spot up few split at tile same cut =
     let whole = r.tier_size place.tier in
     split.each k list at

@@ -11,7 +11,7 @@ use crate::gate::Gate;
 use crate::level_job::LevelJob;
 use crate::pieces::{PairLists, empty_lists, split};
 use crate::source::Source;
-use gm_frontier::note::Note;
+use gm_frontier::pair_list::PairList;
 use gm_game::game::Game;
 use gm_immediate::observer::Observer;
 use gm_locks::piece::PieceLedger;
@@ -98,7 +98,7 @@ impl<
         worker: usize,
         shard: usize,
         piece: usize,
-        pairs: &[(Note<G>, u64)],
+        pairs: &PairList<G>,
         shares: &mut Shares<A, B, C, D>,
     )
         requires shard { shard < 4 }
@@ -108,7 +108,7 @@ impl<
     {
         let place = self.job.level.place();
         let (rt, gate) = (self.context.rt, self.context.gate);
-        if T::EACH && !pairs.is_empty() {
+        if T::EACH && pairs.len() > 0 {
             for k in 0..pairs.len() {
                 gate.before(rt, worker, place);
                 let answer = self.board.deliver(rt, shard, piece, pairs, k + 1, shares);
@@ -145,7 +145,7 @@ impl<
         split(self.job, piece, lists)?;
         for turn in 0..4 {
             let shard = (worker % 4 + turn) % 4;
-            self.deliver(worker, shard, piece, lists[shard].as_slice(), shares);
+            self.deliver(worker, shard, piece, &lists[shard], shares);
         }
         Ok(())
     }

@@ -15,7 +15,7 @@ use crate::level_job::LevelJob;
 use crate::source::Source;
 use crate::tiles::{Tiles, close_all};
 use gm_counters::ordered::OrderedShard;
-use gm_frontier::note::Note;
+use gm_frontier::pair_list::PairList;
 use gm_frontier::pairs::Pairs;
 use gm_game::game::Game;
 use gm_game::limits::REMOTENESS;
@@ -32,12 +32,12 @@ use std::sync::{Mutex, Wait};
 use std::thread::Threads;
 
 // Collects the pairs into a list.
-fn list_of<G: Game>(alloc: Global, pairs: Pairs<G>) -> Result<Vec<(Note<G>, u64)>, AllocError>
-    ensures { IfOk result (λ list. list.items ≡ pairs.entry) }
+fn list_of<G: Game>(alloc: Global, pairs: Pairs<G>) -> Result<PairList<G>, AllocError>
+    ensures { IfOk result (λ list. list ≡ pairs.entry) }
 {
-    let mut list = Vec::new(alloc);
-    for pair in pairs {
-        list.push(pair)?;
+    let mut list = PairList::new(alloc);
+    for (note, parent) in pairs {
+        list.push(&note, parent)?;
     }
     Ok(list)
 }
@@ -63,7 +63,7 @@ fn deliver_by_hand<G: Game, L: PieceLedger>(
     let tier = job.level.tier();
     let (lo, hi) = pieced.range();
     let list = list_of(alloc, job.level.pairs(piece, job.notes, lo, hi))?;
-    match pieced.deliver_rest(piece, list.as_slice(), share) {
+    match pieced.deliver_rest(piece, &list, share) {
         Ok(()) => Ok(()),
         Err(_refused) => Err(SolveError::TooFar { tier }),
     }

@@ -9,19 +9,20 @@ ghost use Rattle.gm_backward.specs.declared.cuts.Cuts.{Cuts as CutsData};
 use crate::cuts::Cuts;
 use crate::level_job::LevelJob;
 use gm_frontier::note::Note;
+use gm_frontier::pair_list::PairList;
 use gm_game::game::Game;
 use std::alloc::{AllocError, Global};
 
 /// The pairs of a piece, each in the list of the tile that has its parent.
-pub(crate) type PairLists<G> = [Vec<(Note<G>, u64)>; 4];
+pub(crate) type PairLists<G> = [PairList<G>; 4];
 
 /// Returns four empty lists.
 pub(crate) fn empty_lists<G: Game>(alloc: Global) -> PairLists<G> {
     [
-        Vec::new(alloc),
-        Vec::new(alloc),
-        Vec::new(alloc),
-        Vec::new(alloc),
+        PairList::new(alloc),
+        PairList::new(alloc),
+        PairList::new(alloc),
+        PairList::new(alloc),
     ]
 }
 
@@ -38,13 +39,13 @@ fn clear<G: Game>(lists: &mut PairLists<G>)
 fn put<G: Game>(
     lists: &mut PairLists<G>,
     cuts: &Cuts,
-    note: Note<G>,
+    note: &Note<G>,
     parent: u64,
 ) -> Result<(), AllocError>
     ensures { OnOk result ((size : ℕ) (pairs : List (NoteData × ℕ)) → AreAscendingCuts size cuts.now → parent < size
-        → AreSplit size cuts.now pairs lists.old → AreSplit size cuts.now (pairs ++ (note, parent) ∷ []) lists.new) }
+        → AreSplit size cuts.now pairs lists.old → AreSplit size cuts.now (pairs ++ (note.now, parent) ∷ []) lists.new) }
 {
-    lists[cuts.tile_of(parent)].push((note, parent))?;
+    lists[cuts.tile_of(parent)].push(note, parent)?;
     Ok(())
 }
 
@@ -62,7 +63,7 @@ pub(crate) fn split<G: Game>(
     let level = job.level;
     let size = G::tier_size(level.place().tier);
     for (note, parent) in level.pairs(piece, job.notes, 0, size) {
-        put(lists, &job.cuts, note, parent)?;
+        put(lists, &job.cuts, &note, parent)?;
     }
     Ok(())
 }

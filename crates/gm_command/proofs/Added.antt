@@ -14,7 +14,7 @@ use Rattle.gm_command.specs.declared.words.ArgKind.{ArgKind}
 use Rattle.gm_command.specs.declared.words.ArgKind.TheVariants.{Number}
 use Rattle.gm_command.specs.declared.words.ArgSpec.{ArgSpec}
 use Rattle.gm_command.specs.Lines.{Line, Word, command_lines, kind_of, word_of}
-use Rattle.gm_command.specs.Parsers.{IsArgFor, IsCommandFor, command_line, defaults_after, numbers, program, rule_of_kind, rule_of_word, shape_of_line}
+use Rattle.gm_command.specs.Parsers.{IsArgFor, IsCommandFor, command_line, defaults_after, number_parser, program, rule_of_kind, rule_of_word, shape_of_line}
 use Rattle.gm_command.proofs.Bools.{left, right, not_true}
 use Rattle.gm_command.proofs.Rules.{rules_simple}
 
@@ -118,12 +118,12 @@ program_told old new (sub ∷ subs) is added all =
 -- an option with a number
 pub number_told : (w : ArgSpec) (shown : Bor (List ℕ)) (least most : ℤ) (default : Option (Bor (List ℕ))) (option made : Arg) → w.kind ≡ Number shown least most default
     → rule_of option ≡ record (new_rule w.name.now) { long = Some w.name.now; value_names = 1 }
-    → (l m : ℤ) → rule_of made ≡ record (rule_of option) { parser = Some (numbers l m); defaults = defaults_after (rule_of option).defaults default }
+    → (l m : ℤ) → rule_of made ≡ record (rule_of option) { parser = Some (number_parser l m); defaults = defaults_after (rule_of option).defaults default }
     → l ≡ least → m ≡ most → rule_of made ≡ rule_of_word (word_of w)
 number_told w shown least most default option made kind plain l m more is_least is_most =
-    more ∙ ap₂ (λ (x y : ℤ). record (rule_of option) { parser = Some (numbers x y); defaults = defaults_after (rule_of option).defaults default }) is_least is_most
-    ∙ ap (λ (r : Rule). record r { parser = Some (numbers least most); defaults = defaults_after r.defaults default }) plain
-    ∙ ap (λ (ds : List (List ℕ)). record (new_rule w.name.now) { long = Some w.name.now; value_names = 1; parser = Some (numbers least most); defaults = ds }) (same default)
+    more ∙ ap₂ (λ (x y : ℤ). record (rule_of option) { parser = Some (number_parser x y); defaults = defaults_after (rule_of option).defaults default }) is_least is_most
+    ∙ ap (λ (r : Rule). record r { parser = Some (number_parser least most); defaults = defaults_after r.defaults default }) plain
+    ∙ ap (λ (ds : List (List ℕ)). record (new_rule w.name.now) { long = Some w.name.now; value_names = 1; parser = Some (number_parser least most); defaults = ds }) (same default)
     ∙ sym (ap (λ (k : ArgKind). rule_of_kind w.name.now (kind_of k)) kind)
   where
     same : (d : Option (Bor (List ℕ))) → defaults_after [] d ≡ option_to_list (option_map (λ t. t.now) d)

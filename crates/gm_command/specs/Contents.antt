@@ -53,13 +53,14 @@ pub record GameContent : Type 0 where
   pub plan : PlanNumbers
   pub progress : Telling
 
--- what a request for a sheet says: the game's name, the heading, whether values are shown, whether only the moves of the side to move are counted, the plan, and
--- how progress is reported
+-- what a request for a sheet says: the game's name, the heading, whether values are shown, whether only the moves of the side to move are counted, the template of
+-- captions, the plan, and how progress is reported
 pub record SheetContent : Type 0 where
   pub game : Option (List ℕ)
   pub title : Option (List ℕ)
   pub valued : Bool
   pub own_moves : Bool
+  pub template : Option (List ℕ)
   pub plan : PlanNumbers
   pub progress : Telling
 
@@ -108,6 +109,7 @@ sheet_content r = record {
   title = option_map (λ t. t.now) r.title;
   valued = r.valued;
   own_moves = r.own_moves;
+  template = option_map (λ t. t.now) r.template;
   plan = plan_of r.plan;
   progress = r.progress;
 }

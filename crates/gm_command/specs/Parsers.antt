@@ -14,8 +14,8 @@ use Rattle.clap.specs.declared.builder.value_parser.ValueParser.TheVariants.{Uns
 use Rattle.gm_command.specs.Lines.{Kind, Word, Line, place, place_unless, place_optional, flag, text, number, tier, command_lines}
 
 -- a number of 32 bits between these
-abbrev pub numbers : ℤ → ℤ → ValueParser
-numbers least most = signed_between (int_max (pos 0) least) (int_min (pos 4294967295) most)
+abbrev pub number_parser : ℤ → ℤ → ValueParser
+number_parser least most = signed_between (int_max (pos 0) least) (int_min (pos 4294967295) most)
 
 -- what clap is told of a word of this kind. Clap isn't told which words need or bar each other, nor which texts a word can be
 abbrev pub rule_of_kind : List ℕ → Kind → Rule
@@ -25,7 +25,7 @@ rule_of_kind name place_optional = new_rule name
 rule_of_kind name flag = record (new_rule name) { long = Some name; action = Some SetTrue }
 rule_of_kind name (text required) = record (new_rule name) { long = Some name; value_names = 1; required = required }
 rule_of_kind name (number least most default) =
-    record (new_rule name) { long = Some name; value_names = 1; defaults = option_to_list default; parser = Some (numbers least most) }
+    record (new_rule name) { long = Some name; value_names = 1; defaults = option_to_list default; parser = Some (number_parser least most) }
 rule_of_kind name tier = record (new_rule name) { long = Some name; parser = Some (Unsigned 0 18446744073709551615) }
 
 abbrev pub rule_of_word : Word → Rule

@@ -10,6 +10,7 @@ use Rattle.gm_analyse.specs.declared.among.Among.TheVariants.{Canonical, Legal}
 use Rattle.gm_analyse.specs.declared.bars.Form.{Form}
 use Rattle.gm_analyse.specs.declared.bars.Form.TheVariants.{Bars, Csv, Json}
 use Rattle.gm_play.specs.declared.sides.Side.TheVariants.{You, Computer}
+use Rattle.gm_caption.specs.Templates.{is_template}
 use Rattle.gm_command.specs.declared.manual.Manual.{Manual}
 use Rattle.gm_command.specs.declared.manual.Manual.TheVariants.{Bash, Zsh, Fish, Man as ManualPage}
 use Rattle.gm_command.specs.declared.requests.CountsRequest.{CountsRequest}
@@ -48,6 +49,11 @@ plan_from workers shards piece =
 abbrev pub manual_named : List ℕ → Option Manual
 manual_named shell = if bytes_eq shell (codes "bash") then Some Bash else (if bytes_eq shell (codes "zsh") then Some Zsh
     else (if bytes_eq shell (codes "fish") then Some Fish else None))
+
+-- this text as a template, if it is one
+abbrev pub template_from : Option (List ℕ) → Option (Option (List ℕ))
+template_from None = Some None
+template_from (Some text) = if is_template text then Some (Some text) else None
 
 -- the command only reads its folder
 abbrev pub only_reads : GameCommandName → Bool
@@ -168,16 +174,21 @@ module _ (rows : List Row) where
       record { game = game; command = content; kept = folder_in command; plan = plan; progress = progress_in }) plan_in) (command_in command))
       (text_in rows (codes "GAME"))
 
+  -- the template of captions, if there is one
+  abbrev pub template_in : Option (Option (List ℕ))
+  template_in = template_from (text_in rows (codes "caption"))
+
   -- a request for a sheet: the game's name, the heading, what is shown of a value, the plan and the report of progress
   abbrev pub sheet_in : Option SheetContent
-  sheet_in = option_map (λ plan. record {
+  sheet_in = option_and_then (λ template. option_map (λ plan. record {
     game = text_in rows (codes "GAME");
     title = text_in rows (codes "title");
     valued = not (has rows (codes "no-value"));
     own_moves = has rows (codes "own-moves");
+    template = template;
     plan = plan;
     progress = progress_in;
-  }) plan_in
+  }) plan_in) template_in
 
   -- how the games are listed: in JSON, with their titles, or by their names
   abbrev pub list_form_in : ListForm

@@ -31,7 +31,8 @@ barred_for name =
     else (if bytes_eq name (codes "quiet") then codes "progress" ∷ []
     else (if bytes_eq name (codes "values") then codes "distinct" ∷ []
     else (if bytes_eq name (codes "own-moves") then codes "no-value" ∷ []
-    else [])))))))))))
+    else (if bytes_eq name (codes "caption") then codes "no-value" ∷ codes "own-moves" ∷ []
+    else []))))))))))))
 
 -- one of the names is this one
 abbrev pub is_among : List (List ℕ) → List ℕ → Bool

@@ -3,7 +3,7 @@ ghost use Rattle.std.specs.Prelude.{◌≡◌, [], Some, false, IfOk, OnOk, map}
 ghost use Rattle.std.specs.List.{AllZip};
 ghost use Rattle.clap.specs.Words.{app_of, rule_of};
 ghost use Rattle.gm_command.specs.Lines.{word_of, line_of_spec, command_lines};
-ghost use Rattle.gm_command.specs.Parsers.{numbers, defaults_after, rule_of_word, IsArgFor, IsCommandFor, command_line};
+ghost use Rattle.gm_command.specs.Parsers.{number_parser, defaults_after, rule_of_word, IsArgFor, IsCommandFor, command_line};
 
 use crate::lines::lines;
 use crate::relations::{barred_by, has_word, needed_by, values_of};
@@ -20,7 +20,7 @@ const EXPLAIN: &str =
 // Gives an option a number within a range as its value.
 fn with_number<'a>(option: Arg<'a>, least: i64, most: i64, default: Option<&'static str>) -> Arg<'a>
     ensures { rule_of result ≡ record (rule_of option.entry) {
-      parser = Some (numbers least most);
+      parser = Some (number_parser least most);
       defaults = defaults_after (rule_of option.entry).defaults default.entry;
     } }
 {

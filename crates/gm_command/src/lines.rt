@@ -210,6 +210,7 @@ static SHEET: CommandSpec = CommandSpec {
         word!("title": Text("TEXT"), "The heading of the page (default: Puzzles)"),
         word!("no-value": Flag, "Leave the value out of each diagram"),
         word!("own-moves": Flag, "Count only the moves of the side to move, as in `x wins in 3`"),
+        word!("caption": Text("TEMPLATE"), "The line under each diagram, as `{number}. {side} {value} in {moves}`"),
         word!("workers": Number("N", 1..=16, WORKERS_WORD), "Number of worker threads, 1 to 16"),
         QUIET,
     ],

@@ -1,11 +1,12 @@
 //! Reading a line of words.
 ghost use Rattle.std.specs.Prelude.{◌≡◌, false, codes, MatchResult, map, option_map};
 ghost use Rattle.std.specs.Option.{option_or};
+ghost use Rattle.std.specs.Result.{result_ok};
 ghost use Rattle.clap.specs.Words.{kind_of, subcommand_rows_of};
 ghost use Rattle.gm_command.specs.Contents.{content_of, game_content, sheet_content, kept_at, plan_of as numbers_of};
 ghost use Rattle.gm_command.specs.Given.{rows_in, text_in};
 ghost use Rattle.gm_command.specs.Lines.{line_of_spec};
-ghost use Rattle.gm_command.specs.Reading.{folder_in, plan_in, progress_in, only_reads, list_form_in, game_in, sheet_in, request_in, request_with, request_of as content_in};
+ghost use Rattle.gm_command.specs.Reading.{folder_in, plan_in, progress_in, template_in, only_reads, list_form_in, game_in, sheet_in, request_in, request_with, request_of as content_in};
 ghost use Rattle.gm_command.specs.Readings.{IsOutcome, IsReadingOf, why_not};
 
 use crate::commands::gamesman;
@@ -24,6 +25,7 @@ use crate::words::{CommandName, CommandSpec, GameCommandName};
 use clap::error::ErrorKind;
 use clap::{ArgMatches, Error};
 use gm_backward::plan::Plan;
+use gm_caption::template::is_template;
 use std::alloc::Global;
 use std::fmt;
 
@@ -112,6 +114,18 @@ fn game_request_of<'a>(command: GameCommandName, inner: &ArgMatches<'a>) -> Opti
     })
 }
 
+// Returns the template of captions, or the reason for a refusal: each brace in it belongs to a field.
+fn template_of<'a>(inner: &ArgMatches<'a>) -> Result<Option<&'a str>, &'static str>
+    ensures { option_map (λ template. option_map (λ t. t.now) template) (result_ok result) ≡ template_in (rows_in inner.now) }
+{
+    match text_in(inner, "caption") {
+        Some(text) if !is_template(text.as_bytes()) => Err(
+            "the words in braces of '--caption' are side, value, moves, plies, number and game",
+        ),
+        template => Ok(template),
+    }
+}
+
 // Reads a line of `sheet`.
 fn sheet_request_of<'a>(inner: &ArgMatches<'a>) -> Option<SheetRequest<'a>>
     ensures { option_map sheet_content result ≡ sheet_in (rows_in inner.now) }
@@ -121,6 +135,7 @@ fn sheet_request_of<'a>(inner: &ArgMatches<'a>) -> Option<SheetRequest<'a>>
         title: text_in(inner, "title"),
         valued: !has(inner, "no-value"),
         own_moves: has(inner, "own-moves"),
+        template: template_of(inner).ok()?,
         plan: plan_of(inner)?,
         progress: progress_of(inner),
     })
@@ -209,6 +224,7 @@ fn misfit(matches: &ArgMatches<'_>) -> Option<&'static str> {
         CommandName::Game(GameCommandName::At) => place_of(inner).err(),
         CommandName::Game(GameCommandName::Find) => search_fault(inner),
         CommandName::Game(GameCommandName::Ask) => json_of(inner).err(),
+        CommandName::Sheet => template_of(inner).err(),
         _ => None,
     }
 }

@@ -49,6 +49,7 @@ pub(crate) fn barred_by(name: &str) -> &'static [&'static str]
         "quiet" => &["progress"],
         "values" => &["distinct"],
         "own-moves" => &["no-value"],
+        "caption" => &["no-value", "own-moves"],
         _ => &[],
     }
 }

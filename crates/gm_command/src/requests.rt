@@ -222,6 +222,8 @@ pub struct SheetRequest<'a> {
     pub valued: bool,
     /// Whether only the moves of the side to move are counted.
     pub own_moves: bool,
+    /// The template of the line under each diagram, which takes the place of the two.
+    pub template: Option<&'a str>,
     /// How the tables of each game are made.
     pub plan: Plan,
     /// How it is reported how far that is.

@@ -1,5 +1,5 @@
 -- The children that a list of masks stands for.
-use Rattle.gm_counters.proofs.Lower.{◌≡◌, ℕ, suc, ◌+◌, ◌<◌, ◌≤◌, List, [], ◌∷◌, length, get_or, ◌∙◌, arith, Position}
+use Rattle.gm_counters.proofs.Lower.{◌≡◌, ℕ, suc, ◌+◌, ◌<◌, ◌≤◌, List, [], ◌∷◌, length, get_or, arith, Position}
 use Rattle.std.proofs.Common.{sum_by, ◌*◌}
 use Rattle.std.proofs.lemmas.List.Sums.{sum_by-cons}
 use Rattle.std.proofs.Math.Nat.{mul-suc}

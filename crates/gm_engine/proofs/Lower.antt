@@ -8,5 +8,5 @@ pub use Rattle.gm_play.specs.Reached.{AreClosed}
 pub use Rattle.gm_table.specs.Packed.{unpacked}
 pub use Rattle.gm_table.specs.Tables.{TableData}
 pub use Rattle.std.proofs.Common.{List, Option, Some, [], ap, arith, drop, get_or, inr, length, map, rules, slice_index_or, subst, suc, sym, take, ℕ, ◌++◌, ◌+◌, ◌<◌, ◌∙◌, ◌∷◌, ◌≡◌, ◌≤◌}
-pub use Rattle.std.proofs.lemmas.List.{append_assoc, take_more}
+pub use Rattle.std.proofs.lemmas.List.{take_more}
 pub use Rattle.std.proofs.lemmas.Option.{slice_get-get_or}

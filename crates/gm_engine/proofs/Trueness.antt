@@ -1,13 +1,13 @@
 -- True records, tier by tier.
-use Rattle.gm_engine.proofs.Lower.{◌≡◌, ◌≤◌, ◌<◌, ◌+◌, ◌++◌, ℕ, suc, List, [], ◌∷◌, map, Option, Some, length, take, drop, get_or, slice_index_or, subst, sym, ap, arith, ◌∙◌, take_more, append_assoc, slice_get-get_or, Solved, Rules, TableData, Width, record_with, room, IsTrueTier, AreTrueTiers}
+use Rattle.gm_engine.proofs.Lower.{◌≡◌, ◌≤◌, ◌<◌, ◌+◌, ◌++◌, ℕ, suc, List, [], ◌∷◌, map, Option, Some, length, take, drop, get_or, slice_index_or, subst, sym, ap, arith, ◌∙◌, take_more, slice_get-get_or, Solved, Rules, TableData, Width, record_with, room, IsTrueTier, AreTrueTiers}
 use Rattle.std.proofs.Common.{None, min}
 use Rattle.std.proofs.Math.ListN.{drop_of_length-le}
 use Rattle.std.proofs.Math.Seq.{drop-cons}
-use Rattle.std.proofs.lemmas.List.{take_all, length-take, take-append-le, drop-append-le, map-append, take-append-drop}
+use Rattle.std.proofs.lemmas.List.{append_assoc, take_all, length-take, take-append-le, drop-append-le, map-append, take-append-drop}
 use Rattle.gm_game.specs.declared.limits.TheConstants.{REMOTENESS}
 use Rattle.gm_game.specs.Records.{IsTrueTable}
 use Rattle.gm_table.specs.Tables.{IsTable, record_at}
-use Rattle.gm_engine.specs.Records.{records_of, times, Stand}
+use Rattle.gm_engine.specs.Records.{times, Stand}
 
 -- one more at the end
 pub append_one : (xs more old new : List ℕ) (b : ℕ) → old ≡ xs ++ more → new ≡ old ++ b ∷ [] → new ≡ xs ++ (more ++ b ∷ [])

@@ -1,7 +1,7 @@
 -- Records of four bytes each.
-use Rattle.gm_engine.proofs.Lower.{◌≡◌, ◌≤◌, ◌<◌, ◌+◌, ◌++◌, ℕ, suc, List, [], ◌∷◌, Option, Some, length, map, take, drop, get_or, sym, ap, arith, ◌∙◌, take_more, append_assoc, slice_get-get_or, Solved, unpacked, words_of}
+use Rattle.gm_engine.proofs.Lower.{◌≡◌, ◌≤◌, ◌<◌, ◌+◌, ◌++◌, ℕ, suc, List, [], ◌∷◌, Option, Some, length, map, take, drop, get_or, sym, ap, arith, ◌∙◌, take_more, slice_get-get_or, Solved, unpacked, words_of}
 use Rattle.std.proofs.Common.{◌/◌, ◌%◌, zero, None, refl, ◌*◌}
-use Rattle.std.proofs.lemmas.List.{map-append, append-nil}
+use Rattle.std.proofs.lemmas.List.{append_assoc, map-append, append-nil}
 use Rattle.gm_table.specs.Tables.{record_at}
 
 -- four bytes are one word, and the later bytes are the others

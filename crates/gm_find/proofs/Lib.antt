@@ -1,5 +1,6 @@
 pub mod ListLemmas
 pub mod Matching
+pub mod Passed
 pub mod Onlies
 pub mod Keys
 pub mod Searching

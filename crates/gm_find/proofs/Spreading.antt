@@ -1,9 +1,8 @@
 -- Positions that are met along best play.
-use Rattle.gm_find.proofs.Lower.{◌≡◌, ℕ, ◌+◌, ◌<◌, ◌↔◌, inl, inr, Bool, true, List, [], ◌∷◌, ◌++◌, length, get_or, take, refl, sym, ap, ◌∙◌, subst, arith, All, Contains, Contains-get_or, Position, Rules, at, contains_none, contains_first, contains_later, contains_cases, length-append, take_more, take_all}
-use Rattle.std.proofs.Common.{◌≤◌, ◌⊎◌, Option, None, Some, false, not, drop, Result, Ok, Err, OnOk}
+use Rattle.gm_find.proofs.Lower.{◌≡◌, ℕ, ◌+◌, ◌<◌, ◌↔◌, inl, inr, Bool, true, List, [], ◌∷◌, ◌++◌, length, get_or, take, refl, sym, ap, ◌∙◌, subst, arith, All, Contains, Contains-get_or, Position, Rules, at, contains_none, contains_first, contains_later, contains_cases, length-append, take_more}
+use Rattle.std.proofs.Common.{◌≤◌, ◌⊎◌, Option, None, Some, false, not, Result, Ok, Err, OnOk}
 use Rattle.std.proofs.lemmas.Bool.{not-false}
 use Rattle.gm_play.proofs.Lower.{cases_lt}
-use Rattle.std.proofs.lemmas.List.{drop_more}
 use Rattle.std.proofs.lemmas.List.Sorted.{Contains-permutation, IsPermutation-sym}
 use Rattle.std.specs.Prelude.{IsPermutation}
 use Rattle.std.specs.Bool.{MatchBool}
@@ -13,7 +12,6 @@ use Rattle.gm_find.specs.declared.places.Places.{Places}
 use Rattle.gm_find.specs.declared.spread.Taken.{Taken}
 use Rattle.gm_find.specs.declared.sought.Order.{Order}
 use Rattle.gm_find.specs.Reaching.{key_of}
-use Rattle.gm_find.specs.Samples.{IsSample}
 use Rattle.gm_find.specs.inner.Takings.{AreTaken, HasRoom, HasSome, IsIn, IsOneMore, Takes}
 use Rattle.gm_find.proofs.Keys.{is_key, key_found}
 use Rattle.gm_find.proofs.Picking.{picked_in}
@@ -23,7 +21,7 @@ use Rattle.gm_play.specs.BestMoves.{IsBestMove}
 use Rattle.gm_play.specs.Lines.{position_after}
 use Rattle.gm_play.proofs.Keeping.{best_once}
 use Rattle.gm_play.proofs.Walking.{after_push}
-use Rattle.gm_find.specs.Spreading.{IsMet, IsMetFrom, AreApart, MayBeTaken, Spreads, IsInOrder, AreApartOf, number_with}
+use Rattle.gm_find.specs.Spreading.{IsMet, AreApart, MayBeTaken, Spreads, IsInOrder, AreApartOf}
 
 module _ (r : Rules) where
   -- one more best move

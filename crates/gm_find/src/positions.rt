@@ -90,22 +90,21 @@ fn add_run<G: Game>(
     ensures { OnOk result (Adds (IsMatch G.rules search.now.sought (is_some search.now.reached)) search.now.limit (map (at tier) run.now)
         found.old.items found.new.items) }
 {
+    let table = search.tables.table(tier).unwrap();
     for i in run {
         if search.limit <= found.len() {
             return Ok(());
         }
-        let p = Position {
-            tier,
-            index: u64::from(*i),
-        };
-        if is_sought(search, p) {
+        let index = u64::from(*i);
+        let p = Position { tier, index };
+        if is_sought(search, p, table.at(index)) {
             found.push(p)?;
         }
     }
     Ok(())
 }
 
-// Adds those of all indexes of a tier, up to the limit.
+// Adds those of all indexes of a tier, up to the limit. Holes are passed over.
 fn add_all<G: Game>(
     found: &mut Vec<Position>,
     search: &Search<'_, G>,
@@ -115,25 +114,28 @@ fn add_all<G: Game>(
     ensures { OnOk result (Adds (IsMatch G.rules search.now.sought (is_some search.now.reached)) search.now.limit (positions_in G.rules tier)
         found.old.items found.new.items) }
 {
-    let size = G::tier_size(tier);
-    for index in 0..size {
+    let table = search.tables.table(tier).unwrap();
+    let mut index = table.skip_holes(0);
+    while index < table.size() {
         if search.limit <= found.len() {
             return Ok(());
         }
         let p = Position { tier, index };
-        if is_sought(search, p) {
+        if is_sought(search, p, table.at(index)) {
             found.push(p)?;
         }
+        index = table.skip_holes(index + 1);
     }
     Ok(())
 }
 
-// Returns whether a position is sought.
-fn is_sought<G: Game>(search: &Search<'_, G>, p: Position) -> bool
-    requires { AreAllHeld G.rules search.now.tables.now p.tier }
+// Returns whether a position is sought, by its record.
+fn is_sought<G: Game>(search: &Search<'_, G>, p: Position, stored: Option<Solved>) -> bool
+    requires held { AreAllHeld G.rules search.now.tables.now p.tier }
+    requires stored { IsRecord G.rules REMOTENESS (IsTrueValue G.rules) p stored }
     ensures { IsTrue result ↔ IsMatch G.rules search.now.sought (is_some search.now.reached) p }
 {
-    let Some(solved) = record(search.tables, p) else {
+    let Some(solved) = stored else {
         return false;
     };
     let known = Known {

@@ -8,7 +8,7 @@ use Rattle.gm_frontier.specs.Notes.{IsNote}
 use Rattle.gm_frontier.specs.inner.Records.{note_of, notes_at, IsRecorded, AreRecorded}
 use Rattle.std.proofs.lemmas.Option.{slice_get-map}
 
-abbrev note : Position → Solved → NoteData
+abbrev pub note : Position → Solved → NoteData
 note p s = record { position = p; solved = s }
 
 module _ (r : Rules) (t : TableData) (indexes : List ℕ) (k i : ℕ) (o : Option Solved) (recorded : AreRecorded r t indexes) (inside : k < length indexes)

@@ -3,3 +3,4 @@ pub mod Tallies
 pub mod Parts
 pub mod Records
 pub mod Rows
+pub mod PairLists

@@ -5,6 +5,7 @@ pub mod expected;
 pub mod last;
 pub mod level;
 pub mod note;
+pub mod pair_list;
 pub mod pairs;
 mod part;
 mod row;

@@ -1,5 +1,5 @@
 -- The answers to the texts that an object stands for, one more of them.
-use Rattle.gm_json.proofs.Lower.{◌≡◌, ℕ, Bool, true, false, ◌<◌, ◌+◌, List, [], ◌∷◌, ◌++◌, length, get_or, map, take, codes, Option, None, Some, inl, inr, refl, sym, ap, subst, ◌∙◌, arith, append_assoc, Position, Rules, Data, compact_text}
+use Rattle.gm_json.proofs.Lower.{◌≡◌, ℕ, Bool, true, ◌<◌, ◌+◌, List, [], ◌∷◌, ◌++◌, length, get_or, map, take, codes, Option, None, Some, inl, inr, refl, sym, ap, subst, ◌∙◌, arith, append_assoc, Position, Rules, Data, compact_text}
 use Rattle.std.proofs.Common.{append-nil}
 use Rattle.std.specs.Prelude.{◌↔◌, IfSome, option_map, if◌then◌else◌}
 use Rattle.std.proofs.lemmas.Bool.{cases_Bool}

@@ -1,5 +1,5 @@
 -- The words of a line that names a tier and an index.
-use Rattle.gm_json.proofs.Lower.{◌≡◌, ◌<◌, ◌==◌, ◌+◌, ◌++◌, ◌∷◌, [], List, ℕ, Bool, Option, Some, None, inl, inr, length, take, drop, get_or, true, false, refl, sym, ap, ap₂, subst, ◌∙◌, arith, length-append, Position, at}
+use Rattle.gm_json.proofs.Lower.{◌≡◌, ◌<◌, ◌==◌, ◌+◌, ◌++◌, ◌∷◌, [], List, ℕ, Option, Some, None, inl, inr, length, take, drop, get_or, true, false, refl, sym, ap, ap₂, subst, ◌∙◌, arith, length-append, Position, at}
 use Rattle.std.proofs.Common.{suc, ◌%◌, ◌^◌, ◌≤◌, ◌-◌}
 use Rattle.std.specs.Fmt.{decimal}
 use Rattle.gm_json.specs.Places.{IsPlaceLine}

@@ -1,5 +1,5 @@
 -- How hard each move is to answer, as JSON trees.
-use Rattle.std.specs.Prelude.{◌≡◌, ℕ, Bool, List, ◌++◌, codes, Option, None, Some}
+use Rattle.std.specs.Prelude.{◌≡◌, ℕ, Bool, List, codes, Option, None, Some}
 use Rattle.serde_json.specs.Data.{Data, object, member, no_members, null, string}
 use Rattle.gm_game.specs.declared.position.Position.{Position}
 use Rattle.gm_game.specs.Rules.{Rules}

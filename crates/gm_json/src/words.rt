@@ -9,11 +9,18 @@ ghost use Rattle.gm_json.specs.Words.{line_of};
 use serde_json::{Map, Value as Json, put};
 use std::alloc::{AllocError, Global};
 
-/// Returns a text.
-pub(crate) fn text_value(alloc: Global, text: &[u8]) -> Result<Json, AllocError>
+/// Returns a JSON string with this text. Bytes that aren't UTF-8 are replaced.
+pub fn text_value(alloc: Global, text: &[u8]) -> Result<Json, AllocError>
     ensures { IfOk result (λ v. view v ≡ string (utf8_lossy text.now)) }
 {
     Ok(Json::String(String::from_utf8_lossy(alloc, text)?))
+}
+
+/// Returns a JSON string with this word.
+pub fn word_value(alloc: Global, word: &str) -> Result<Json, AllocError>
+    ensures { IfOk result (λ v. view v ≡ string word.now) }
+{
+    Ok(Json::String(String::from_str(alloc, word)?))
 }
 
 /// Puts a text under a key of an object. Bytes that aren't UTF-8 are replaced.
@@ -37,12 +44,7 @@ pub(crate) fn put_word(
 ) -> Result<(), AllocError>
     ensures { OnOk result (members_view members.new.entries ≡ with_member key.now (string word.now) (members_view members.old.entries)) }
 {
-    put(
-        members,
-        alloc,
-        key,
-        Json::String(String::from_str(alloc, word)?),
-    )
+    put(members, alloc, key, word_value(alloc, word)?)
 }
 
 /// Appends a tree as a line of compact JSON.

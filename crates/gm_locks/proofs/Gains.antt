@@ -1,5 +1,5 @@
 -- What a delivery answers by where the shard stands, and by how much it raises the number of pairs.
-use Rattle.gm_locks.proofs.Lower.{◌≡◌, ℕ, ◌+◌, ◌≤◌, ◌⊎◌, inl, inr, List, sym, refl, ap, ◌∙◌, arith, Result, Ok, Err, Contains, Position, Rules, NoteData, Delivery, Refused, ShardState, IsInRange, delivered_to, with_pair, pairs_in, Delivers, IsAdded, Spot, spot_of}
+use Rattle.gm_locks.proofs.Lower.{◌≡◌, ℕ, ◌+◌, ◌⊎◌, inl, inr, List, sym, refl, ap, ◌∙◌, arith, Result, Ok, Err, Contains, Position, Rules, NoteData, Delivery, Refused, ShardState, IsInRange, delivered_to, with_pair, pairs_in, Delivers, IsAdded, Spot, spot_of}
 use Rattle.std.proofs.Common.{◌↔◌}
 use Rattle.gm_game.proofs.SetLemmas.{has_new, has_old, with_cases}
 use Rattle.gm_counters.specs.declared.status.Delivery.TheVariants.{Fresh, FreshSettled, Repeat}

@@ -13,7 +13,7 @@ use crate::share::{LevelLedger, Share};
 use gm_counters::ordered::OrderedShard;
 use gm_counters::status::{Refused, Status};
 use gm_frontier::level::Level;
-use gm_frontier::note::Note;
+use gm_frontier::pair_list::PairList;
 use gm_game::game::Game;
 use std::alloc::{AllocError, Global};
 use std::marker::{Brand, Model};
@@ -33,7 +33,7 @@ impl PieceLedger for Brand {
 fn deliver_from<G: Game, L: PieceLedger>(
     shard: &mut OrderedShard<G>,
     piece: usize,
-    pairs: &[(Note<G>, u64)],
+    pairs: &PairList<G>,
     from: usize,
     to: usize,
 ) -> usize
@@ -50,8 +50,8 @@ fn deliver_from<G: Game, L: PieceLedger>(
     ensures far { result < to → IsRefusedAt G.rules L.spot }
 {
     for k in from..to {
-        let (note, parent) = &pairs[k];
-        if shard.deliver_new(note, *parent).is_err() {
+        let (note, parent) = pairs.at(k);
+        if shard.deliver_new(&note, parent).is_err() {
             let _good = shard.range();
             return k;
         }
@@ -150,7 +150,7 @@ impl<G: Game, L: PieceLedger> Pieced<G, L> {
     pub(crate) fn deliver(
         &mut self,
         piece: usize,
-        pairs: &[(Note<G>, u64)],
+        pairs: &PairList<G>,
         to: usize,
         share: &mut Share<L>,
     ) -> Result<(), Refused>
@@ -180,7 +180,7 @@ impl<G: Game, L: PieceLedger> Pieced<G, L> {
     pub fn deliver_rest(
         &mut self,
         piece: usize,
-        pairs: &[(Note<G>, u64)],
+        pairs: &PairList<G>,
         share: &mut Share<L>,
     ) -> Result<(), Refused>
         requires piece { piece < div_ceil (length L.notes) L.size }

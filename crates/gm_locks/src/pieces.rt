@@ -8,7 +8,7 @@ ghost use Rattle.gm_locks.specs.Pieces.{PiecedData, piece_pairs, IsRefusedAt, Is
 use crate::piece::{PieceLedger, Pieced};
 use crate::shares::Shares;
 use gm_counters::status::{Refused, Status};
-use gm_frontier::note::Note;
+use gm_frontier::pair_list::PairList;
 use gm_game::game::Game;
 use std::sync::{Mutex, Wait};
 
@@ -86,7 +86,7 @@ impl<'a, G: Game, A: PieceLedger, B: PieceLedger, C: PieceLedger, D: PieceLedger
         rt: &R,
         shard: usize,
         piece: usize,
-        pairs: &[(Note<G>, u64)],
+        pairs: &PairList<G>,
         to: usize,
         shares: &mut Shares<A, B, C, D>,
     ) -> Result<(), Refused>

@@ -1,5 +1,6 @@
 -- The rows of a page, and its first line, are read as their trees.
-use Rattle.gm_page.proofs.Lower.{◌≡◌, ℕ, suc, ◌+◌, ◌<◌, ◌≤◌, Bool, List, [], ◌∷◌, ◌++◌, length, map, Option, None, Some, refl, sym, ap, ◌∙◌, arith, inl, inr, flat_map, cases_Bool, cond-true, cond-false, Data, array, items_of, Position, MoveValue, text, PictureSpec, head_tree, place_of, Group, move_cells, group_tree, row_tree, script_line, subst, append_assoc, append-nil}
+use Rattle.gm_page.proofs.Lower.{◌≡◌, ℕ, suc, ◌+◌, ◌<◌, ◌≤◌, Bool, List, [], ◌∷◌, ◌++◌, length, map, Option, None, Some, refl, sym, ap, ◌∙◌, arith, inl, inr, flat_map, cases_Bool, cond-true, cond-false, Data, array, items_of, Position, MoveValue, text, head_tree, place_of, Group, move_cells, group_tree, row_tree, script_line, subst, append_assoc, append-nil}
+use Rattle.gm_draw.specs.Pictures.{PictureSpec}
 use Rattle.std.proofs.Common.{◌^◌, option_map, decimal}
 use Rattle.serde_json.specs.Data.{number}
 use Rattle.serde_json.specs.Read.{read, of_json, of_items}

@@ -1,5 +1,6 @@
 -- Rows: moves in groups, one group after the other, and rows one by one.
-use Rattle.gm_page.proofs.Lower.{◌≡◌, ℕ, zero, suc, ◌<◌, ◌≤◌, Bool, false, List, [], ◌∷◌, ◌++◌, length, map, take, drop, slice_get, Option, None, Some, refl, sym, ap, subst, ◌∙◌, arith, All, flat_map, append_assoc, append-nil, take_all, Data, items_of, has_float, Position, Rules, MoveValue, text, PictureSpec, head_tree, place_of, Group, AreGroups, move_cells, group_tree, row_tree, ap₂, AreRows, script_line}
+use Rattle.gm_page.proofs.Lower.{◌≡◌, ℕ, zero, suc, ◌<◌, ◌≤◌, Bool, false, List, [], ◌∷◌, ◌++◌, length, map, take, drop, slice_get, Option, None, Some, refl, sym, ap, subst, ◌∙◌, arith, All, flat_map, append_assoc, append-nil, take_all, Data, items_of, has_float, Position, Rules, MoveValue, text, head_tree, place_of, Group, AreGroups, move_cells, group_tree, row_tree, ap₂, AreRows, script_line}
+use Rattle.gm_draw.specs.Pictures.{PictureSpec}
 use Rattle.gm_game.specs.declared.position.Solved.{Solved}
 use Rattle.gm_page.specs.Rows.{place_cells, IsRunOfMoves}
 use Rattle.std.specs.Prelude.{IfSome, unwrap_or}

@@ -1,6 +1,13 @@
--- Sheets: entries one by one, and solutions move by move.
-use Rattle.gm_page.proofs.Lower.{◌≡◌, ◌+◌, ◌<◌, ◌≤◌, length, take, take_all, get_or, refl, ℕ, List, ◌∷◌, ◌++◌, ap, ◌∙◌, codes, flat_map, append_assoc, Position, Rules, Found, PictureSpec, Entry, entry_text, solution_item, AreEntries, steps_text}
+-- Sheets: puzzles one by one, and solutions move by move.
+use Rattle.gm_page.proofs.Lower.{◌≡◌, ◌+◌, ◌<◌, ◌≤◌, length, take, take_all, get_or, refl, sym, subst, arith, ℕ, List, [], ◌∷◌, ◌++◌, ap, ◌∙◌, codes, flat_map, append-nil, append_assoc, Position, Rules, Found, steps_text}
+use Rattle.std.proofs.lemmas.List.{take_more}
 use Rattle.gm_draw.specs.Diagrams.{escaped}
+use Rattle.gm_draw.specs.GameSpecs.{GameSpec}
+use Rattle.gm_caption.specs.declared.caption.Caption.TheVariants.{BothSides}
+use Rattle.gm_play.specs.declared.move_values.MoveValue.{MoveValue}
+use Rattle.gm_page.specs.Defences.{IsDefence, AreDefences}
+use Rattle.gm_page.specs.declared.puzzles.Puzzle.{Puzzle}
+use Rattle.gm_page.specs.Puzzles.{IsPuzzle, ArePuzzlesOf}
 use Rattle.gm_play.proofs.Rows.{flat_more}
 
 -- ---- moves
@@ -19,12 +26,32 @@ pub line_parts : (t0 front steps moves end t1 t2 t3 : List ℕ) → t1 ≡ t0 ++
 line_parts t0 front steps moves end t1 t2 t3 a b e c =
     c ∙ ap (λ (t : List ℕ). t ++ end) (b ∙ ap (λ (t : List ℕ). t ++ moves) a ∙ ap (λ (t : List ℕ). (t0 ++ front) ++ t) e) ∙ simp append_assoc
 
--- ---- entries
--- the entries of these positions, and their solutions, after the earlier texts
-abbrev pub HasEntries : Rules → (Position → List ℕ) → (Position → ℕ → List ℕ) → PictureSpec → List Found → List ℕ → List ℕ → List ℕ → List ℕ → Type 0
-HasEntries r shown move_shown picture xs old old_answers new answers =
-    (es : List Entry) × AreEntries r shown move_shown picture xs es × (new ≡ old ++ flat_map entry_text es) ×
-    (answers ≡ old_answers ++ flat_map solution_item es)
+-- ---- puzzles
+-- the puzzle of one more found position
+pub puzzle_more : (g : GameSpec) (n : ℕ) (xs : List Found) (ps : List Puzzle) (x : Found) (p : Puzzle) → ArePuzzlesOf g n xs ps
+    → IsPuzzle g BothSides (n + length ps + 1) (g.shown x.position) p → ArePuzzlesOf g n (xs ++ x ∷ []) (ps ++ p ∷ [])
+puzzle_more g n [] [] x p are is = (subst (λ (m : ℕ). IsPuzzle g BothSides m (g.shown x.position) p) (omega arith) is, tt)
+puzzle_more g n [] (q ∷ qs) x p are is = absurd are
+puzzle_more g n (y ∷ ys) [] x p are is = absurd are
+puzzle_more g n (y ∷ ys) (q ∷ qs) x p are is =
+    (are.0, puzzle_more g (n + 1) ys qs x p are.1 (subst (λ (m : ℕ). IsPuzzle g BothSides m (g.shown x.position) p) (omega arith) is))
+
+pub puzzle_next : (g : GameSpec) (xs : List Found) (k : ℕ) (d : Found) (ps new : List Puzzle) (p : Puzzle) (number : ℕ) → k < length xs
+    → ArePuzzlesOf g 0 (take k xs) ps → number ≡ length ps → IsPuzzle g BothSides (number + 1) (g.shown (get_or xs k d).position) p → new ≡ ps ++ p ∷ []
+    → ArePuzzlesOf g 0 (take (k + 1) xs) new
+puzzle_next g xs k d ps new p number less are long is e =
+    let x = get_or xs k d in
+    subst (λ (l : List Puzzle). ArePuzzlesOf g 0 (take (k + 1) xs) l) (sym e)
+    (subst (λ (l : List Found). ArePuzzlesOf g 0 l (ps ++ p ∷ [])) (sym (take_more xs k d less))
+    (puzzle_more g 0 (take k xs) ps x p are (subst (λ (m : ℕ). IsPuzzle g BothSides m (g.shown x.position) p) (omega (arith, long)) is)))
+
+-- ---- defences
+-- the text of one more move
+pub defence_more : (r : Rules) (move_shown : Position → ℕ → List ℕ) (p : Position) (n : ℕ) (ds : List MoveValue) (d : MoveValue) (done t : List ℕ)
+    → AreDefences r move_shown p n ds done → IsDefence r move_shown p n d t → AreDefences r move_shown p n (ds ++ d ∷ []) (done ++ t)
+defence_more r move_shown p n [] d done t are is = (t, [], is, refl, ap (λ (u : List ℕ). u ++ t) are ∙ sym (append-nil t))
+defence_more r move_shown p n (e ∷ es) d done t (first, rest, here, more, joined) is =
+    (first, rest ++ t, here, defence_more r move_shown p n es d rest t more is, ap (λ (u : List ℕ). u ++ t) joined ∙ append_assoc first rest t)
 
 -- ---- items
 -- the items of the first elements, after an earlier text, and of one more; and those of all

@@ -6,5 +6,6 @@ pub mod Heads
 pub mod Rows
 pub mod Pages
 pub mod Engines
-pub mod Sheets
+pub mod Defences
+pub mod Solutions
 pub mod Puzzles

@@ -1,67 +1,47 @@
 -- Sheets of listed positions: puzzles of one or more games, in the order of their list, and their solutions at the end.
-use Rattle.std.specs.Prelude.{◌≡◌, ◌+◌, ◌/◌, ℕ, Bool, true, false, List, [], ◌++◌, codes, if◌then◌else◌}
-use Rattle.std.specs.Fmt.{decimal}
+use Rattle.std.specs.Prelude.{◌≡◌, ◌+◌, ℕ, Bool, List, [], ◌∷◌, ◌++◌, codes, if◌then◌else◌}
 use Rattle.std.specs.List.{flat_map}
 use Rattle.std.specs.Str.{bytes_eq}
-use Rattle.gm_game.specs.declared.position.Solved.{Solved}
-use Rattle.gm_game.specs.declared.position.Value.{Value}
-use Rattle.gm_game.specs.declared.position.Value.TheVariants.{Lose, Draw, Tie, Win}
+use Rattle.gm_game.specs.Rules.{Rules}
+use Rattle.gm_table.specs.Tables.{TableData}
+use Rattle.gm_play.specs.Reached.{AreAllHeld}
 use Rattle.gm_find.specs.declared.found.Found.{Found}
-use Rattle.gm_find.specs.Founds.{IsFound}
+use Rattle.gm_find.specs.declared.sought.Sought.{Sought}
+use Rattle.gm_find.specs.declared.sought.Choice.{Choice}
+use Rattle.gm_find.specs.Founds.{IsFound, AreChosen}
 use Rattle.gm_draw.specs.declared.pictured.Style.{Style}
 use Rattle.gm_draw.specs.declared.pictured.Style.TheVariants.{Row, Crosses, Counters, Stones, Discs, Letters, Chess, Figures, Hounds, Digits}
 use Rattle.gm_draw.specs.Diagrams.{escaped}
 use Rattle.gm_draw.specs.GameSpecs.{GameSpec}
+use Rattle.gm_caption.specs.declared.caption.Caption.{Caption}
+use Rattle.gm_caption.specs.declared.caption.Caption.TheVariants.{BothSides}
+use Rattle.gm_caption.specs.Captions.{LabelTexts, is_valued, line_under}
 use Rattle.gm_page.specs.ShowTexts.{IsDiagram}
-use Rattle.gm_page.specs.Sheets.{IsSolution}
-use Rattle.gm_page.specs.declared.puzzles.Caption.{Caption}
-use Rattle.gm_page.specs.declared.puzzles.Caption.TheVariants.{Plain, BothSides, OwnMoves}
+use Rattle.gm_page.specs.Solutions.{IsSolution}
 use Rattle.gm_page.specs.declared.puzzles.Puzzle.{Puzzle}
 use Rattle.gm_page.specs.declared.parts.TheConstants.{LIST_FRONT, LIST_LEGENDS, LIST_PUZZLES, LIST_SOLUTIONS, LIST_BACK}
 
--- ---- captions
--- the caption that is asked for
-abbrev pub caption_for : Bool → Bool → Caption
-caption_for false own = Plain
-caption_for true false = BothSides
-caption_for true true = OwnMoves
-
--- the value is in the diagram
-abbrev pub is_valued : Caption → Bool
-is_valued BothSides = true
-is_valued _ = false
-
--- the moves of the side to move among this many moves of both sides, of which it makes the first
-abbrev pub own_moves : ℕ → ℕ
-own_moves n = (n + 1) / 2
-
--- what the side to move reaches by a value, in this many moves
-abbrev pub outcome : Value → ℕ → List ℕ
-outcome Win n = codes " wins in " ++ decimal n
-outcome Tie n = codes " ties in " ++ decimal n
-outcome Lose n = codes " loses in " ++ decimal n
-outcome Draw n = codes " draws"
-
--- the line that counts the moves of the side to move
-unfoldable pub own_line : List ℕ → Solved → List ℕ
-own_line mover s = codes "<p>" ++ escaped mover ++ outcome s.value (own_moves s.remoteness) ++ codes "</p>"
-
--- the line under a diagram; none if the value is in the diagram or left out
-abbrev pub line_under : Caption → List ℕ → Solved → List ℕ
-line_under OwnMoves mover s = own_line mover s
-line_under _ mover s = []
-
 -- ---- puzzles
--- the item of a puzzle: the title of its game, its diagram, and the line under it
-unfoldable pub puzzle_item : List ℕ → List ℕ → List ℕ → List ℕ
-puzzle_item title diagram under = codes "<li><h3>" ++ escaped title ++ codes "</h3>\n" ++ diagram ++ under ++ codes "</li>\n"
+-- a solution and a text to unfold
+unfoldable pub unfolding_item : List ℕ → List ℕ → List ℕ
+unfolding_item solution text =
+    codes "<details><summary>Solution</summary><p>" ++ solution ++ codes "</p>\n<p><code>" ++ escaped text ++ codes "</code></p></details>"
+
+-- the item of a puzzle: the title of its game, its diagram, the line under it, and its solution and its text to unfold
+unfoldable pub puzzle_item : List ℕ → Caption → LabelTexts → List ℕ → List ℕ → List ℕ
+puzzle_item diagram caption l solution text =
+    codes "<li><h3>" ++ escaped l.game ++ codes "</h3>\n" ++ diagram ++ line_under caption l ++ unfolding_item solution text ++ codes "</li>\n"
 
 -- the item of its solution
 unfoldable pub answer_item : List ℕ → List ℕ
 answer_item solution = codes "<li>" ++ solution ++ codes "</li>\n"
 
--- the puzzle of the position with this text: its diagram with this caption by its true value, and its solution
-pub record IsPuzzle (g : GameSpec) (caption : Caption) (text : List ℕ) (puzzle : Puzzle) : Type 0 where
+-- what a template can ask for of a puzzle with this number
+abbrev pub labels_of : GameSpec → Found → ℕ → LabelTexts
+labels_of g x number = record { game = g.picture.title; side = g.picture.mover x.position; solved = x.value; number = number }
+
+-- the puzzle of the position with this text: its diagram with this caption by its true value and with this number, and its solution
+pub record IsPuzzle (g : GameSpec) (caption : Caption) (number : ℕ) (text : List ℕ) (puzzle : Puzzle) : Type 0 where
   pub found : Found
   pub is_found : IsFound g.rules found
   pub read : g.shown found.position ≡ text
@@ -69,8 +49,19 @@ pub record IsPuzzle (g : GameSpec) (caption : Caption) (text : List ℕ) (puzzle
   pub is_diagram : IsDiagram g.rules g.shown g.move_shown g.picture (is_valued caption) text diagram
   pub solution : List ℕ
   pub is_solution : IsSolution g.rules g.move_shown found solution
-  pub item_is : puzzle.item.items ≡ puzzle_item g.picture.title diagram (line_under caption (g.picture.mover found.position) found.value)
+  pub item_is : puzzle.item.items ≡ puzzle_item diagram caption (labels_of g found number) solution text
   pub answer_is : puzzle.answer.items ≡ answer_item solution
+
+-- a found position whose tier has a table, as has each tier that is reached from it
+abbrev pub IsKnownFound : Rules → List TableData → Found → Type 0
+IsKnownFound r entries x = IsFound r x × AreAllHeld r entries x.position.tier
+
+-- the puzzles of found positions, in their order, of which so many others are before them
+abbrev pub ArePuzzlesOf : GameSpec → ℕ → List Found → List Puzzle → Type 0
+ArePuzzlesOf g n [] [] = Unit {0}
+ArePuzzlesOf g n [] (p ∷ ps) = ⊥
+ArePuzzlesOf g n (x ∷ xs) [] = ⊥
+ArePuzzlesOf g n (x ∷ xs) (p ∷ ps) = IsPuzzle g BothSides (n + 1) (g.shown x.position) p × ArePuzzlesOf g (n + 1) xs ps
 
 -- ---- who is who
 -- whose the men of a look are
@@ -121,3 +112,15 @@ puzzle_lists puzzles = flat_map item_of puzzles ++ LIST_SOLUTIONS.now ++ flat_ma
 -- the sheet of these puzzles
 abbrev pub listed_sheet : List ℕ → List ℕ → List Puzzle → List ℕ
 listed_sheet title legends puzzles = list_heading title legends ++ puzzle_lists puzzles
+
+-- the sheet of found positions of a game, under its title
+pub record IsSheetOf (g : GameSpec) (found : List Found) (out : List ℕ) : Type 0 where
+  pub puzzles : List Puzzle
+  pub are_puzzles : ArePuzzlesOf g 0 found puzzles
+  pub out_is : out ≡ listed_sheet g.picture.title (legend_of g) puzzles
+
+-- the same of those positions of a search that a choice takes
+pub record IsFoundSheet (g : GameSpec) (q : Sought) (reached : Bool) (choice : Choice) (tiers out : List ℕ) : Type 0 where
+  pub found : List Found
+  pub are_found : AreChosen g.rules q reached choice tiers found
+  pub sheet : IsSheetOf g found out

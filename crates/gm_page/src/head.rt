@@ -8,9 +8,10 @@ ghost use Rattle.gm_draw.specs.Pictures.{texts};
 ghost use Rattle.gm_page.specs.Heads.{head_tree, head_members, men_of, first_side, second_side, sides_tree, swaps as swaps_spec, name_text};
 ghost use Rattle.gm_page.specs.Scripts.{script_line};
 
-use crate::words::{push_script_line, put_text, text_value, word_value};
+use crate::words::push_script_line;
 use gm_draw::pictured::{Pictured, Style};
 use gm_game::limits::NAME;
+use gm_json::words::{put_text, text_value, word_value};
 use serde_json::{Map, Value as Json, push, put};
 use std::alloc::{AllocError, Global};
 

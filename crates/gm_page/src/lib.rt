@@ -5,6 +5,7 @@
 #![tactic(auto)]
 
 pub mod boards;
+mod defences;
 pub mod engine;
 pub mod front;
 mod head;
@@ -14,7 +15,6 @@ pub mod parts;
 pub mod puzzles;
 mod rows;
 pub mod script;
-pub mod sheet;
 pub mod show;
 pub mod solution;
 pub mod viewer_asking;

@@ -1,67 +1,6 @@
-//! The constant parts of sheets of diagrams.
+//! The constant parts of sheets of puzzles.
 
-/// The text before a sheet's heading.
-pub const SHEET_FRONT: &[u8] = br##"<!doctype html>
-<html lang="en">
-<head>
-<meta charset="utf-8">
-<meta name="viewport" content="width=device-width, initial-scale=1">
-<meta http-equiv="Content-Security-Policy"
-  content="default-src 'none'; style-src 'unsafe-inline'; img-src data:; base-uri 'none'; form-action 'none'">
-<link rel="icon" href="data:,">
-<title>gamesman: positions</title>
-<style>
-:root { color-scheme: light dark; --back: #faf8f4; --card: #fff; --ink: #1d1b18; --soft: #625c52; --rule: #cfc7b8; --hot: #1d4fa8; }
-@media (prefers-color-scheme: dark) {
-  :root { --back: #161513; --card: #211f1c; --ink: #eeeae2; --soft: #aea79b; --rule: #4c4740; --hot: #8db8ff; }
-}
-body { max-width: 70rem; margin: 0 auto; padding: 1rem; background: var(--back); color: var(--ink); font: 1rem/1.45 system-ui, sans-serif; }
-h1 { margin: 0; font: 600 1.7rem/1.2 Georgia, serif; }
-header p { margin: .2rem 0 1rem; color: var(--soft); }
-ol {
-  display: grid; gap: 1rem; grid-template-columns: repeat(auto-fill, minmax(min(19rem, 100%), 1fr));
-  margin: 0; padding: 0; list-style: none; counter-reset: n;
-}
-li { counter-increment: n; padding: .8rem; background: var(--card); border: 1px solid var(--rule); border-radius: .6rem; break-inside: avoid; }
-li::before { content: counter(n) ". "; font-weight: 700; }
-svg { display: block; width: 100%; height: auto; max-height: 20rem; margin: .5rem 0; border-radius: .4rem; }
-summary { padding: .3rem 0; color: var(--hot); cursor: pointer; }
-summary:focus-visible { outline: 3px solid var(--hot); }
-code { font: .9em ui-monospace, monospace; overflow-wrap: anywhere; }
-.solutions { display: none; }
-@media print {
-  :root { --back: #fff; --card: #fff; --ink: #000; --soft: #333; --rule: #fff; }
-  ol { grid-template-columns: 1fr 1fr; }
-  svg { max-height: 6.5cm; }
-  details { display: none; }
-  .solutions { display: block; break-before: page; }
-  .solutions ol { display: block; }
-  .solutions li { padding: .2rem 0; border: 0; }
-}
-</style>
-</head>
-<body>
-<header><h1>"##;
-
-/// The text between a sheet's heading and its diagrams.
-pub const SHEET_DIAGRAMS: &[u8] = br##"</h1>
-<p>Each value and each solution is from gamesman's tables, which are proved.</p></header>
-<main><ol>
-"##;
-
-/// The text between a sheet's diagrams and its solutions for paper.
-pub const SHEET_SOLUTIONS: &[u8] = br##"</ol></main>
-<section class="solutions"><h2>Solutions</h2>
-<ol>
-"##;
-
-/// The text after a sheet's solutions.
-pub const SHEET_BACK: &[u8] = br##"</ol></section>
-</body>
-</html>
-"##;
-
-/// The text before the heading of a sheet of listed positions. On paper six diagrams fill a page of A4 or Letter.
+/// The text before the heading of a sheet. On paper six diagrams fill a page of A4 or Letter.
 pub const LIST_FRONT: &[u8] = br##"<!doctype html>
 <html lang="en">
 <head>
@@ -84,6 +23,8 @@ p { margin: 0 0 .2rem; }
 .puzzles li { counter-increment: n; text-align: center; break-inside: avoid; }
 .puzzles li::before { content: counter(n) ". "; font-weight: 700; }
 svg { display: block; width: 100%; height: auto; max-height: 20rem; margin: .2rem 0; }
+summary { color: #1d4fa8; cursor: pointer; }
+code { font: .9em ui-monospace, monospace; overflow-wrap: anywhere; }
 .solutions li { margin: .3rem 0; }
 @page { margin: 12mm; }
 @media print {
@@ -91,6 +32,7 @@ svg { display: block; width: 100%; height: auto; max-height: 20rem; margin: .2re
   .puzzles { gap: 0 6mm; grid-template-columns: 1fr 1fr; margin: 2mm 0 0; }
   .puzzles li { box-sizing: border-box; height: 70mm; padding-top: 3mm; }
   svg { max-height: 54mm; }
+  details { display: none; }
   .solutions { break-before: page; }
 }
 </style>
@@ -115,7 +57,8 @@ pub const LIST_SOLUTIONS: &[u8] = br##"</ol></main>
 "##;
 
 /// The text after the solutions.
-pub const LIST_BACK: &[u8] = br##"</ol></section>
+pub const LIST_BACK: &[u8] = br##"</ol>
+<p>Each value and each solution is from gamesman's tables, which are proved.</p></section>
 </body>
 </html>
 "##;

@@ -1,58 +1,27 @@
-//! Sheets of listed positions: puzzles of one or more games, and their solutions at the end.
-ghost use Rattle.std.specs.Prelude.{◌≡◌, ◌++◌, true, IfOk, OnOk};
-ghost use Rattle.std.specs.Fmt.{decimal};
-ghost use Rattle.std.specs.List.{flat_map};
+//! Sheets: puzzles of one or more games, and their solutions at the end.
+ghost use Rattle.std.specs.Prelude.{◌≡◌, ◌++◌, true, IfOk, OnOk, is_some};
+ghost use Rattle.std.specs.List.{All, flat_map};
 ghost use Rattle.gm_draw.specs.GameSpecs.{game_spec};
+ghost use Rattle.gm_caption.specs.Captions.{texts_of};
 ghost use Rattle.gm_find.specs.Founds.{IsFound};
-ghost use Rattle.gm_page.specs.Puzzles.{caption_for, is_valued, own_moves, outcome, own_line, line_under, puzzle_item, answer_item, men_words, shared, sides_words, legend, legend_of, item_of, answer_of, list_heading, puzzle_lists, listed_sheet as listed_sheet_spec, IsPuzzle};
+ghost use Rattle.gm_page.specs.Puzzles.{puzzle_item, unfolding_item, IsKnownFound, ArePuzzlesOf, IsFoundSheet, answer_item, men_words, shared, sides_words, legend, legend_of, item_of, answer_of, list_heading, puzzle_lists, listed_sheet as listed_sheet_spec, IsPuzzle};
 
 use crate::parts::{LIST_BACK, LIST_FRONT, LIST_LEGENDS, LIST_PUZZLES, LIST_SOLUTIONS};
 use crate::show::diagram_text;
 use crate::solution::solution_text;
+use gm_caption::caption::{Caption, Labels, push_under};
 use gm_draw::drawn::mover;
 use gm_draw::markup::push_escaped;
 use gm_draw::pictured::{Pictured, Style};
+use gm_find::choice::find_some;
 use gm_find::found::Found;
+use gm_find::reached::Reached;
+use gm_find::sought::{Choice, Sought};
 use gm_game::game::{Game, laws};
-use gm_game::position::{Solved, Value};
-use gm_game::shown::Line;
-use gm_game::text::push_decimal;
 use gm_play::known::Known;
+use gm_play::known_tiers::KnownTiers;
+use gm_table::tables::Tables;
 use std::alloc::{AllocError, Global};
-
-/// What is shown of the value of a puzzle.
-#[derive(Clone, Copy, Debug, PartialEq, Eq)]
-pub enum Caption {
-    /// Nothing.
-    Plain,
-    /// The value, with the number of moves of both sides.
-    BothSides,
-    /// The value, with the number of moves of the side to move.
-    OwnMoves,
-}
-
-impl Caption {
-    /// Returns what is shown, given whether a value is and whether only the moves of the side to move are counted.
-    pub fn of(valued: bool, own: bool) -> Caption
-        ensures { result ≡ caption_for valued own }
-    {
-        match (valued, own) {
-            (false, _) => Caption::Plain,
-            (true, false) => Caption::BothSides,
-            (true, true) => Caption::OwnMoves,
-        }
-    }
-
-    // Tests whether the value is in the diagram.
-    fn is_valued(self) -> bool
-        ensures { result ≡ is_valued self }
-    {
-        match self {
-            Caption::BothSides => true,
-            Caption::Plain | Caption::OwnMoves => false,
-        }
-    }
-}
 
 /// The parts of a sheet for one position.
 #[derive(Drop)]
@@ -73,29 +42,37 @@ impl Puzzle {
     }
 }
 
-/// Returns the puzzle of a position.
+/// Returns the puzzle of a position, which has this number on its sheet.
 pub fn puzzle_of<G: Pictured>(
     alloc: Global,
     known: &Known<'_, G>,
-    caption: Caption,
+    caption: Caption<'_>,
+    number: u64,
 ) -> Result<Puzzle, AllocError>
-    ensures { IfOk result (IsPuzzle (game_spec G.Game.rules G.shown G.move_shown G.picture) caption (G.shown known.now.position)) }
+    ensures { IfOk result (IsPuzzle (game_spec G.Game.rules G.shown G.move_shown G.picture) caption.entry number (G.shown known.now.position)) }
 {
     let found = found_at(known);
     let diagram = diagram_text(alloc, known, caption.is_valued())?;
     let solution = solution_text(alloc, known, found)?;
-    let side = mover::<G>(found.position);
+    let labels = Labels {
+        game: G::picture().title,
+        side: mover::<G>(found.position),
+        solved: found.value,
+        number,
+    };
+    let text = G::show(found.position);
+    let answer_text = solution.as_slice();
     let mut item = Vec::new(alloc);
     push_item(
         &mut item,
-        G::picture().title,
         diagram.as_slice(),
         caption,
-        side,
-        found.value,
+        labels,
+        answer_text,
+        text.as_slice(),
     )?;
     let mut answer = Vec::new(alloc);
-    push_answer(&mut answer, solution.as_slice())?;
+    push_answer(&mut answer, answer_text)?;
     Ok(Puzzle { item, answer })
 }
 
@@ -117,68 +94,34 @@ fn found_at<G: Game>(known: &Known<'_, G>) -> Found
 #[tactic(auto, unfolding(crate::specs::Puzzles::puzzle_item))]
 fn push_item(
     item: &mut Vec<u8>,
-    title: &[u8],
     diagram: &[u8],
-    caption: Caption,
-    side: &[u8],
-    value: Solved,
+    caption: Caption<'_>,
+    labels: Labels<'_>,
+    solution: &[u8],
+    text: &[u8],
 ) -> Result<(), AllocError>
-    ensures { OnOk result (item.new.items ≡ item.old.items ++ puzzle_item title.now diagram.now (line_under caption side.now value)) }
+    ensures { OnOk result (item.new.items ≡ item.old.items
+        ++ puzzle_item diagram.now caption.entry (texts_of labels.entry) solution.now text.now) }
 {
     item.extend_from_slice(b"<li><h3>")?;
-    push_escaped(item, title)?;
+    push_escaped(item, labels.game)?;
     item.extend_from_slice(b"</h3>\n")?;
     item.extend_from_slice(diagram)?;
-    push_under(item, caption, side, value)?;
+    push_under(item, caption, labels)?;
+    push_unfolding(item, solution, text)?;
     item.extend_from_slice(b"</li>\n")
 }
 
-// Appends the line under a diagram.
-fn push_under(
-    item: &mut Vec<u8>,
-    caption: Caption,
-    side: &[u8],
-    value: Solved,
-) -> Result<(), AllocError>
-    ensures { OnOk result (item.new.items ≡ item.old.items ++ line_under caption side.now value) }
+// Appends a solution and a text to unfold.
+#[tactic(auto, unfolding(crate::specs::Puzzles::unfolding_item))]
+fn push_unfolding(item: &mut Vec<u8>, solution: &[u8], text: &[u8]) -> Result<(), AllocError>
+    ensures { OnOk result (item.new.items ≡ item.old.items ++ unfolding_item solution.now text.now) }
 {
-    match caption {
-        Caption::OwnMoves => push_own(item, side, value),
-        Caption::Plain | Caption::BothSides => Ok(()),
-    }
-}
-
-// Appends the line that counts the moves of the side to move.
-#[tactic(auto, unfolding(crate::specs::Puzzles::own_line))]
-fn push_own(item: &mut Vec<u8>, side: &[u8], value: Solved) -> Result<(), AllocError>
-    ensures { OnOk result (item.new.items ≡ item.old.items ++ own_line side.now value) }
-{
-    item.extend_from_slice(b"<p>")?;
-    push_escaped(item, side)?;
-    push_outcome(item, value.value, value.remoteness.div_ceil(2))?;
-    item.extend_from_slice(b"</p>")
-}
-
-// Appends what the side to move reaches in this many moves.
-fn push_outcome(item: &mut Vec<u8>, value: Value, count: u32) -> Result<(), AllocError>
-    ensures { OnOk result (item.new.items ≡ item.old.items ++ outcome value count) }
-{
-    match value {
-        Value::Win => push_count(item, b" wins in ", count),
-        Value::Tie => push_count(item, b" ties in ", count),
-        Value::Lose => push_count(item, b" loses in ", count),
-        Value::Draw => item.extend_from_slice(b" draws"),
-    }
-}
-
-// Appends words and a number.
-fn push_count(item: &mut Vec<u8>, words: &[u8], count: u32) -> Result<(), AllocError>
-    ensures { OnOk result (item.new.items ≡ item.old.items ++ words.now ++ decimal count) }
-{
-    let mut number = Line::new();
-    push_decimal(&mut number, u64::from(count));
-    item.extend_from_slice(words)?;
-    item.extend_from_slice(number.as_slice())
+    item.extend_from_slice(b"<details><summary>Solution</summary><p>")?;
+    item.extend_from_slice(solution)?;
+    item.extend_from_slice(b"</p>\n<p><code>")?;
+    push_escaped(item, text)?;
+    item.extend_from_slice(b"</code></p></details>")
 }
 
 // Appends the item of a solution.
@@ -264,6 +207,50 @@ fn push_sides(
     legends.extend_from_slice(b"</b>: ")?;
     legends.extend_from_slice(sides_words(style, side))?;
     legends.extend_from_slice(b"</p>\n")
+}
+
+/// Returns the sheet of canonical positions that match a search, under the title of the game. The whole sheet is built in memory.
+///
+/// A solution is the best move, the number of moves, and the line of best play, of at most 40 moves. The positions come in the
+/// order of `find`: the first of them, or a random choice. If a set of reached positions is given, only positions in it are taken.
+pub fn found_sheet<G: Pictured>(
+    alloc: Global,
+    known: &KnownTiers<'_, G>,
+    sought: Sought,
+    reached: Option<&Reached<G>>,
+    choice: Choice,
+) -> Result<Vec<u8>, AllocError>
+    ensures { IfOk result (λ v. IsFoundSheet (game_spec G.Game.rules G.shown G.move_shown G.picture)
+        sought (is_some reached.entry) choice known.now.tiers.now v.items) }
+{
+    let found = find_some(alloc, known, sought, reached, choice)?;
+    let puzzles = puzzles_of(alloc, known.tables, found.as_slice())?;
+    let mut legends = Vec::new(alloc);
+    push_legend::<G>(&mut legends)?;
+    let title = G::picture().title;
+    listed_sheet(alloc, title, legends.as_slice(), puzzles.as_slice())
+}
+
+// Returns the puzzles of found positions, in their order.
+fn puzzles_of<G: Pictured>(
+    alloc: Global,
+    tables: &Tables<G>,
+    found: &[Found],
+) -> Result<Vec<Puzzle>, AllocError>
+    requires { All (IsKnownFound G.Game.rules tables.now) found.now }
+    ensures { IfOk result (λ v. ArePuzzlesOf (game_spec G.Game.rules G.shown G.move_shown G.picture) 0 found.now v.items) }
+{
+    let mut puzzles = Vec::new(alloc);
+    for x in found {
+        let known = Known {
+            tables,
+            position: x.position,
+        };
+        let number = puzzles.len() as u64 + 1;
+        let puzzle = puzzle_of(alloc, &known, Caption::BothSides, number)?;
+        puzzles.push(puzzle)?;
+    }
+    Ok(puzzles)
 }
 
 /// Returns the sheet of puzzles in their order, under a title, with these lines on who is who.

@@ -10,10 +10,11 @@ ghost use Rattle.gm_page.specs.Rows.{AreRows, IsRow, move_cells, group_tree};
 ghost use Rattle.gm_page.specs.Scripts.{script_line};
 
 use crate::listing::Listing;
-use crate::words::{push_script_line, text_value};
+use crate::words::push_script_line;
 use gm_game::position::Solved;
 use gm_game::shown::Shown;
 use gm_game::text::value_text;
+use gm_json::words::text_value;
 use gm_play::known::Known;
 use gm_play::move_values::{MoveValue, move_values};
 use serde_json::{Value as Json, push};

@@ -3,8 +3,9 @@ ghost use Rattle.std.specs.Prelude.{◌≡◌, ◌++◌, true, IfOk, OnOk};
 ghost use Rattle.std.specs.List.{Contains};
 ghost use Rattle.gm_find.specs.Founds.{IsFound};
 ghost use Rattle.gm_play.specs.BestLines.{AreBest};
-ghost use Rattle.gm_page.specs.Sheets.{choice_words, end_words, steps_text, best_words, line_words, IsSolution};
+ghost use Rattle.gm_page.specs.Solutions.{choice_words, end_words, steps_text, best_words, line_words, IsSolution};
 
+use crate::defences::push_others;
 use gm_draw::markup::push_escaped;
 use gm_find::found::Found;
 use gm_game::position::Position;
@@ -34,6 +35,7 @@ pub(crate) fn solution_text<G: Shown>(
         Some(m) => {
             push_move::<G>(&mut text, x.position, m, x.moves)?;
             push_line::<G>(&mut text, x.position, &line)?;
+            push_others(&mut text, known, x, m)?;
         }
         None => text.extend_from_slice(b"The game has ended.")?,
     }
@@ -41,7 +43,7 @@ pub(crate) fn solution_text<G: Shown>(
 }
 
 // Appends the best move and the number of moves.
-#[tactic(auto, unfolding(crate::specs::Sheets::best_words))]
+#[tactic(auto, unfolding(crate::specs::Solutions::best_words))]
 fn push_move<G: Shown>(
     text: &mut Vec<u8>,
     p: Position,
@@ -59,7 +61,7 @@ fn push_move<G: Shown>(
 }
 
 // Appends the line of best play.
-#[tactic(auto, unfolding(crate::specs::Sheets::line_words))]
+#[tactic(auto, unfolding(crate::specs::Solutions::line_words))]
 fn push_line<G: Shown>(text: &mut Vec<u8>, p: Position, line: &BestLine) -> Result<(), AllocError>
     requires legal { G.Game.rules.is_legal p ≡ true }
     requires best { AreBest G.Game.rules p line.now.moves.items }
@@ -71,7 +73,7 @@ fn push_line<G: Shown>(text: &mut Vec<u8>, p: Position, line: &BestLine) -> Resu
 }
 
 // Appends the number of moves that the best one is chosen from.
-#[tactic(auto, unfolding(crate::specs::Sheets::choice_words))]
+#[tactic(auto, unfolding(crate::specs::Solutions::choice_words))]
 fn push_choice(text: &mut Vec<u8>, count: usize) -> Result<(), AllocError>
     ensures { OnOk result (text.new.items ≡ text.old.items ++ choice_words count) }
 {

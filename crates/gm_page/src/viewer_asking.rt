@@ -129,58 +129,58 @@ const RULES = {
     "between the center and a corner. Three in a row, a column or a diagonal win. Who can't move loses.",
 };
 const LEGAL = {
-  "connect4-4x4": 176500, "connect4-5x4": 4352290, "connect4-4x5": 2179983, "connect4-4x6": 25128012, "connect4-6x4": 108180486, "dao": 891990,
-  "dodgem": 1377, "domineering-4": 32768, "domineering-5": 16777216, "cram-4": 32768, "cram-5": 16777216, "kayles": 4096, "hare": 2640,
-  "tictactoe": 5478, "threemens": 3910, "achi": 5400, "mutorere": 630, "nim": 384, "nim-misere": 384, "chomp": 330, "tictactoe-misere": 5478,
-  "tictactoe-4": 9722020, "notakto": 512, "hex-3": 5514, "hex-4": 9386892, "sim": 2254102, "ponghauki": 30, "hexapawn": 2487, "hexapawn-4": 756384,
-  "nineholes": 3910, "picaria": 3870, "clobber": 10165778, "toads": 11550, "kono": 38301786, "krk": 402724, "kqk": 372064, "kpk": 1158448,
-  "foxhounds": 2013760, "tactix-1": 2, "tactix-2": 16, "tactix-3": 512, "tactix-4": 65536, "tactix-5": 33554432, "tactix-1-misere": 2,
+  "connect4-4x4": 176500, "connect4-5x4": 4352290, "connect4-4x5": 2179983, "connect4-4x6": 25128012, "connect4-5x5": 97123542,
+  "connect4-6x4": 108180486, "dao": 891990, "dodgem": 1377, "domineering-4": 32768, "domineering-5": 16777216, "cram-4": 32768, "cram-5": 16777216,
+  "kayles": 4096, "hare": 2640, "tictactoe": 5478, "threemens": 3910, "achi": 5400, "mutorere": 630, "nim": 384, "nim-misere": 384, "chomp": 330,
+  "tictactoe-misere": 5478, "tictactoe-4": 9722020, "notakto": 512, "hex-3": 5514, "hex-4": 9386892, "sim": 2254102, "ponghauki": 30, "hexapawn": 2487,
+  "hexapawn-4": 756384, "nineholes": 3910, "picaria": 3870, "clobber": 10165778, "toads": 11550, "kono": 38301786, "krk": 402724, "kqk": 372064,
+  "kpk": 1158448, "foxhounds": 2013760, "tactix-1": 2, "tactix-2": 16, "tactix-3": 512, "tactix-4": 65536, "tactix-5": 33554432, "tactix-1-misere": 2,
   "tactix-2-misere": 16, "tactix-3-misere": 512, "tactix-4-misere": 65536, "tactix-5-misere": 33554432, "countdown": 11, "wheel": 10, "takeaway": 13,
   "shisima": 1600, "tapatan": 1520
 };
 const WORTHS = {
-  "connect4-4x4": "tie in 16", "connect4-5x4": "tie in 20", "connect4-4x5": "tie in 20", "connect4-4x6": "tie in 24", "connect4-6x4": "lose in 24",
-  "dao": "draw", "dodgem": "win in 19", "domineering-4": "win in 7", "domineering-5": "lose in 12", "cram-4": "lose in 8", "cram-5": "lose in 12",
-  "kayles": "win in 11", "hare": "win in 23", "tictactoe": "tie in 9", "threemens": "draw", "achi": "win in 11", "mutorere": "draw",
-  "nim": "lose in 16", "nim-misere": "lose in 15", "chomp": "win in 18", "tictactoe-misere": "tie in 9", "tictactoe-4": "tie in 16",
-  "notakto": "win in 6", "hex-3": "win in 5", "hex-4": "win in 9", "sim": "lose in 15", "ponghauki": "draw", "hexapawn": "lose in 6",
-  "hexapawn-4": "win in 11", "nineholes": "draw", "picaria": "draw", "clobber": "win in 11", "toads": "win in 21", "kono": "draw", "krk": "win in 23",
-  "kqk": "win in 13", "kpk": "win in 43", "foxhounds": "lose in 44", "tactix-1": "win in 1", "tactix-2": "lose in 4", "tactix-3": "win in 7",
-  "tactix-4": "lose in 16", "tactix-5": "win in 19", "tactix-1-misere": "lose in 1", "tactix-2-misere": "lose in 3", "tactix-3-misere": "win in 6",
-  "tactix-4-misere": "lose in 15", "tactix-5-misere": "win in 18", "countdown": "win in 7", "wheel": "win in 3", "takeaway": "lose in 6",
-  "shisima": "draw", "tapatan": "draw"
+  "connect4-4x4": "tie in 16", "connect4-5x4": "tie in 20", "connect4-4x5": "tie in 20", "connect4-4x6": "tie in 24", "connect4-5x5": "tie in 25",
+  "connect4-6x4": "lose in 24", "dao": "draw", "dodgem": "win in 19", "domineering-4": "win in 7", "domineering-5": "lose in 12",
+  "cram-4": "lose in 8", "cram-5": "lose in 12", "kayles": "win in 11", "hare": "win in 23", "tictactoe": "tie in 9", "threemens": "draw",
+  "achi": "win in 11", "mutorere": "draw", "nim": "lose in 16", "nim-misere": "lose in 15", "chomp": "win in 18", "tictactoe-misere": "tie in 9",
+  "tictactoe-4": "tie in 16", "notakto": "win in 6", "hex-3": "win in 5", "hex-4": "win in 9", "sim": "lose in 15", "ponghauki": "draw",
+  "hexapawn": "lose in 6", "hexapawn-4": "win in 11", "nineholes": "draw", "picaria": "draw", "clobber": "win in 11", "toads": "win in 21",
+  "kono": "draw", "krk": "win in 23", "kqk": "win in 13", "kpk": "win in 43", "foxhounds": "lose in 44", "tactix-1": "win in 1",
+  "tactix-2": "lose in 4", "tactix-3": "win in 7", "tactix-4": "lose in 16", "tactix-5": "win in 19", "tactix-1-misere": "lose in 1",
+  "tactix-2-misere": "lose in 3", "tactix-3-misere": "win in 6", "tactix-4-misere": "lose in 15", "tactix-5-misere": "win in 18",
+  "countdown": "win in 7", "wheel": "win in 3", "takeaway": "lose in 6", "shisima": "draw", "tapatan": "draw"
 };
 const FAMILIES = {
   "connect4-4x4": "Rows of three and four", "connect4-5x4": "Rows of three and four", "connect4-4x5": "Rows of three and four",
-  "connect4-4x6": "Rows of three and four", "connect4-6x4": "Rows of three and four", "dao": "Rows of three and four",
-  "dodgem": "Chases and blockades", "domineering-4": "Filling a board", "domineering-5": "Filling a board", "cram-4": "Filling a board",
-  "cram-5": "Filling a board", "kayles": "Taking counters", "hare": "Chases and blockades", "tictactoe": "Rows of three and four",
-  "threemens": "Rows of three and four", "achi": "Rows of three and four", "mutorere": "Chases and blockades", "nim": "Taking counters",
-  "nim-misere": "Taking counters", "chomp": "Taking counters", "tictactoe-misere": "Rows of three and four", "tictactoe-4": "Rows of three and four",
-  "notakto": "Rows of three and four", "hex-3": "Filling a board", "hex-4": "Filling a board", "sim": "Rows of three and four",
-  "ponghauki": "Chases and blockades", "hexapawn": "Chases and blockades", "hexapawn-4": "Chases and blockades", "nineholes": "Rows of three and four",
-  "picaria": "Rows of three and four", "clobber": "Chases and blockades", "toads": "Chases and blockades", "kono": "Chases and blockades",
-  "krk": "Endings of chess", "kqk": "Endings of chess", "kpk": "Endings of chess", "foxhounds": "Chases and blockades", "tactix-1": "Taking counters",
-  "tactix-2": "Taking counters", "tactix-3": "Taking counters", "tactix-4": "Taking counters", "tactix-5": "Taking counters",
-  "tactix-1-misere": "Taking counters", "tactix-2-misere": "Taking counters", "tactix-3-misere": "Taking counters",
+  "connect4-4x6": "Rows of three and four", "connect4-5x5": "Rows of three and four", "connect4-6x4": "Rows of three and four",
+  "dao": "Rows of three and four", "dodgem": "Chases and blockades", "domineering-4": "Filling a board", "domineering-5": "Filling a board",
+  "cram-4": "Filling a board", "cram-5": "Filling a board", "kayles": "Taking counters", "hare": "Chases and blockades",
+  "tictactoe": "Rows of three and four", "threemens": "Rows of three and four", "achi": "Rows of three and four", "mutorere": "Chases and blockades",
+  "nim": "Taking counters", "nim-misere": "Taking counters", "chomp": "Taking counters", "tictactoe-misere": "Rows of three and four",
+  "tictactoe-4": "Rows of three and four", "notakto": "Rows of three and four", "hex-3": "Filling a board", "hex-4": "Filling a board",
+  "sim": "Rows of three and four", "ponghauki": "Chases and blockades", "hexapawn": "Chases and blockades", "hexapawn-4": "Chases and blockades",
+  "nineholes": "Rows of three and four", "picaria": "Rows of three and four", "clobber": "Chases and blockades", "toads": "Chases and blockades",
+  "kono": "Chases and blockades", "krk": "Endings of chess", "kqk": "Endings of chess", "kpk": "Endings of chess", "foxhounds": "Chases and blockades",
+  "tactix-1": "Taking counters", "tactix-2": "Taking counters", "tactix-3": "Taking counters", "tactix-4": "Taking counters",
+  "tactix-5": "Taking counters", "tactix-1-misere": "Taking counters", "tactix-2-misere": "Taking counters", "tactix-3-misere": "Taking counters",
   "tactix-4-misere": "Taking counters", "tactix-5-misere": "Taking counters", "countdown": "Numbers", "wheel": "Numbers", "takeaway": "Numbers",
   "shisima": "Rows of three and four", "tapatan": "Rows of three and four"
 };
 const ADDS = {
-  "connect4-4x4": 1, "connect4-5x4": 1, "connect4-4x5": 1, "connect4-4x6": 1, "connect4-6x4": 1, "domineering-4": 2, "tictactoe": 1, "threemens": 1,
-  "achi": 1, "tictactoe-misere": 1, "notakto": 1, "hex-3": 1, "picaria": 1
+  "connect4-4x4": 1, "connect4-5x4": 1, "connect4-4x5": 1, "connect4-4x6": 1, "connect4-5x5": 1, "connect4-6x4": 1, "domineering-4": 2, "tictactoe": 1,
+  "threemens": 1, "achi": 1, "tictactoe-misere": 1, "notakto": 1, "hex-3": 1, "picaria": 1
 };
 const TURNS = {
   "dodgem": "diagonal", "hex-3": "diagonal", "hexapawn": "half", "toads": "half"
 };
 const ROWS = {
-  "connect4-4x4": "fours", "connect4-5x4": "fours", "connect4-4x5": "fours", "connect4-4x6": "fours", "connect4-6x4": "fours",
+  "connect4-4x4": "fours", "connect4-5x4": "fours", "connect4-4x5": "fours", "connect4-4x6": "fours", "connect4-5x5": "fours", "connect4-6x4": "fours",
   "dao": "rows columns squares corners", "tictactoe": "rows columns diagonals", "threemens": "rows columns", "achi": "rows columns diagonals",
   "tictactoe-misere": "rows columns diagonals", "notakto": "rows columns diagonals", "picaria": "rows columns diagonals",
   "shisima": ["0c4", "1c5", "2c6", "3c7"], "tapatan": ["123", "456", "789", "147", "258", "369", "159", "357"]
 };
 const DROPS = {
-  "connect4-4x4": true, "connect4-5x4": true, "connect4-4x5": true, "connect4-4x6": true, "connect4-6x4": true
+  "connect4-4x4": true, "connect4-5x4": true, "connect4-4x5": true, "connect4-4x6": true, "connect4-5x5": true, "connect4-6x4": true
 };
 const HEAPS = {
   "nim": [1, 3, 5, 7], "nim-misere": [1, 3, 5, 7]

@@ -1,6 +1,6 @@
 -- A level is whole exactly where as many pairs are delivered as there are.
-use Rattle.gm_shard.proofs.Lower.{◌≡◌, ℕ, ◌+◌, ◌-◌, ◌<◌, ◌≤◌, inl, inr, List, [], ◌∷◌, length, get_or, refl, sym, subst, arith, Some, Result, Ok, Contains, Position, Rules, ShardState, IsInRange, delivered_to, IsGood}
-use Rattle.std.proofs.Common.{◌++◌, Option, Err, ◌*◌}
+use Rattle.gm_shard.proofs.Lower.{◌≡◌, ℕ, ◌+◌, ◌-◌, ◌<◌, ◌≤◌, inl, inr, List, [], length, get_or, refl, sym, subst, arith, Some, Result, Ok, Contains, Position, Rules, ShardState, IsInRange, delivered_to, IsGood}
+use Rattle.std.proofs.Common.{Option, Err}
 use Rattle.std.specs.Result.{IsOk}
 use Rattle.gm_game.specs.declared.position.Phase.{Phase}
 use Rattle.gm_game.specs.declared.position.Phase.TheVariants.{Ties}

@@ -5,6 +5,6 @@ pub use Rattle.gm_counters.specs.State.{IsInRange, ShardState, delivered_to}
 pub use Rattle.gm_game.specs.Rules.{Rules}
 pub use Rattle.gm_game.specs.declared.position.Position.{Position}
 pub use Rattle.gm_shard.specs.inner.Masks.{IsPlaceOf}
-pub use Rattle.std.proofs.Common.{List, Ok, Result, Some, [], ap, arith, drop, get_or, inl, inr, length, refl, subst, sym, ℕ, ◌+◌, ◌-◌, ◌<◌, ◌↔◌, ◌∙◌, ◌∷◌, ◌≡◌, ◌≤◌}
+pub use Rattle.std.proofs.Common.{List, Ok, Result, Some, [], ap, arith, drop, get_or, inl, inr, length, refl, subst, sym, ℕ, ◌+◌, ◌-◌, ◌<◌, ◌↔◌, ◌∙◌, ◌≡◌, ◌≤◌}
 pub use Rattle.std.proofs.Math.ListN.{set}
 pub use Rattle.std.specs.List.{Contains}

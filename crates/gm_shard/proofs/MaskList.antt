@@ -1,6 +1,6 @@
 -- The children that a list of masks stands for.
-use Rattle.gm_shard.proofs.Lower.{◌≡◌, ℕ, ◌+◌, ◌<◌, ◌≤◌, List, [], ◌∷◌, length, get_or, refl, ap, ◌∙◌, arith, set, Position, Rules}
-use Rattle.std.proofs.Common.{zero, suc, replicate, ◌*◌}
+use Rattle.gm_shard.proofs.Lower.{◌≡◌, ℕ, ◌+◌, ◌<◌, List, [], length, get_or, refl, ap, ◌∙◌, arith, set, Position, Rules}
+use Rattle.std.proofs.Common.{◌∷◌, zero, suc, replicate}
 use Rattle.gm_game.specs.Rules.{at}
 use Rattle.gm_game.specs.Children.{canonical_children_of}
 use Rattle.gm_game.specs.inner.Masks.{picked}

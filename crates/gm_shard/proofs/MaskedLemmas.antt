@@ -1,6 +1,6 @@
 -- The masks of a shard mark which children are delivered, before and after a delivery.
-use Rattle.gm_shard.proofs.Lower.{◌≡◌, ℕ, ◌+◌, ◌-◌, ◌<◌, ◌↔◌, inl, inr, List, [], length, get_or, ap, sym, subst, ◌∙◌, arith, Result, Some, Contains, set, Position, Rules, IsPlaceOf, ShardState, IsInRange, delivered_to, ◌≤◌, refl, Ok, IsPairHere}
-use Rattle.std.proofs.Common.{◌≢◌, ⊎_elim, map, replicate, ◌^◌, ◌==◌}
+use Rattle.gm_shard.proofs.Lower.{◌≡◌, ℕ, ◌+◌, ◌-◌, ◌<◌, ◌↔◌, inl, inr, List, [], length, get_or, ap, sym, subst, ◌∙◌, arith, Result, Some, Contains, set, Position, Rules, IsPlaceOf, ShardState, IsInRange, delivered_to, refl, Ok, IsPairHere}
+use Rattle.std.proofs.Common.{◌≢◌, ⊎_elim, map, replicate}
 use Rattle.std.specs.List.{slice_get}
 use Rattle.std.proofs.lemmas.List.{get_or_read}
 use Rattle.std.specs.Int.{bit_at}

@@ -1,6 +1,6 @@
 -- Events, and what they leave.
-use Rattle.gm_shard.proofs.Lower.{◌≡◌, ℕ, ◌+◌, ◌<◌, ◌≤◌, inl, inr, List, [], ◌∷◌, Some, Result, Ok, get_or, drop, length, refl, sym, ap, subst, ◌∙◌, arith, ◌↔◌, Contains, Rules, ShardState, IsInRange, delivered_to, IsGood, IsPairHere}
-use Rattle.std.proofs.Common.{suc, Err, Bool, true, false, MatchBool, slice_set, IsTrue, slice_get}
+use Rattle.gm_shard.proofs.Lower.{◌≡◌, ℕ, ◌+◌, ◌<◌, ◌≤◌, inl, inr, List, [], Some, Result, Ok, get_or, drop, length, refl, sym, ap, subst, ◌∙◌, arith, ◌↔◌, Contains, Rules, ShardState, IsInRange, delivered_to, IsGood, IsPairHere}
+use Rattle.std.proofs.Common.{◌∷◌, suc, Err, Bool, true, false, MatchBool, slice_set, IsTrue, slice_get}
 use Rattle.std.proofs.Math.Seq.{drop-cons}
 use Rattle.std.proofs.lemmas.Option.{slice_get-get_or, slice_get_within, get_or_from_slice_get, same_Some}
 use Rattle.std.proofs.lemmas.List.{set-get_or, drop_all}

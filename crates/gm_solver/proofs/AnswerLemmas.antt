@@ -1,6 +1,6 @@
 -- What a delivery answers by where the shard stands, and by how much it raises the number of pairs.
-use Rattle.gm_solver.proofs.Lower.{◌≡◌, ℕ, ◌+◌, ◌≤◌, refl, subst, ◌∙◌, arith, REMOTENESS, Rules, NoteData, ShardState, Spot, spot_of}
-use Rattle.std.proofs.Common.{◌⊎◌, ◌↔◌, Result, Ok, Err}
+use Rattle.gm_solver.proofs.Lower.{◌≡◌, ℕ, ◌≤◌, refl, subst, arith, REMOTENESS, Rules, NoteData, ShardState, Spot, spot_of}
+use Rattle.std.proofs.Common.{Result, Ok, Err}
 use Rattle.gm_counters.specs.declared.status.Delivery.{Delivery}
 use Rattle.gm_counters.specs.declared.status.Delivery.TheVariants.{Fresh, FreshSettled, Repeat}
 use Rattle.gm_counters.specs.declared.status.Refused.{Refused}

@@ -1,6 +1,6 @@
 -- A shard to which the pairs of a level are delivered in their order.
-use Rattle.gm_solver.proofs.Lower.{◌≡◌, ℕ, ◌+◌, List, slice_get, refl, sym, subst, ◌∙◌, arith, Rules, ShardState, pairs_in, IsWhole, Spot, spot_of}
-use Rattle.std.proofs.Common.{◌<◌, [], ◌∷◌, Option}
+use Rattle.gm_solver.proofs.Lower.{◌≡◌, ℕ, List, slice_get, refl, sym, subst, ◌∙◌, arith, Rules, ShardState, pairs_in, IsWhole, Spot, spot_of}
+use Rattle.std.proofs.Common.{Option}
 use Rattle.std.specs.Iterator.{SkipsThenYields, YieldsFirst}
 use Rattle.std.proofs.lemmas.Iterator.Consumers.{nth_from_yields_List, YieldsList-from_first}
 use Rattle.std.proofs.lemmas.Iterator.Adapters.{option_map_id}

@@ -1,5 +1,5 @@
 -- Boards: four spots that tile a tier, and what a delivery to one of them answers.
-use Rattle.std.specs.Prelude.{ℕ, ◌+◌, ◌-◌, ◌==◌, if◌then◌else◌, ◌≡◌, ◌<◌, ◌≤◌, ◌↔◌, Result, Err}
+use Rattle.std.specs.Prelude.{ℕ, ◌-◌, ◌≡◌, ◌≤◌, ◌↔◌, Result, Err}
 use Rattle.gm_counters.specs.State.{ShardState}
 use Rattle.gm_game.specs.declared.limits.TheConstants.{REMOTENESS}
 use Rattle.gm_game.specs.Rules.{Rules, IsParent}

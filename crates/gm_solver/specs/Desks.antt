@@ -1,5 +1,5 @@
 -- Desks: deliveries to a shard in the order of a level's pairs, by its pass.
-use Rattle.std.specs.Prelude.{◌≡◌, ℕ, ◌+◌, ◌<◌, ◌≤◌, ◌↔◌, List, Some, Result}
+use Rattle.std.specs.Prelude.{◌≡◌, ℕ, List, Some, Result}
 use Rattle.std.specs.Result.{IsOk}
 use Rattle.gm_game.specs.Rules.{Rules}
 use Rattle.gm_frontier.specs.Notes.{NoteData}

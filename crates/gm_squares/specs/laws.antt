@@ -1,7 +1,9 @@
 -- What follows from the definitions.
 pub mod Texts
+pub mod Ascents
 pub mod LineFacts
 pub mod AttackFacts
+pub mod ImageBits
 pub mod ReachFacts
 pub mod MenFacts
 pub mod MenNumbering
@@ -11,6 +13,7 @@ pub mod HomeFacts
 pub mod TriedMoves
 pub mod MenMoves
 pub mod MenImages
+pub mod MenApart
 pub mod MenTexts
 pub mod DarkFacts
 pub mod WayFacts
@@ -29,7 +32,10 @@ pub mod PawnNumbering
 pub mod PawnMoves
 pub mod PawnImages
 pub mod PawnTexts
+pub mod PawnApart
+pub mod PawnReach
 pub mod PawnMarks
+pub mod TestedPlaces
 pub mod MenPictured
 pub mod PawnPictured
 pub mod ChasePictured

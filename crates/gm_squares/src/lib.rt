@@ -3,6 +3,7 @@
 #![tactic(auto)]
 
 pub mod attacks;
+pub mod befores;
 pub mod chase;
 pub mod chess;
 pub mod dark_squares;

@@ -1,6 +1,6 @@
 //! Masks of the squares of a chess board: the lines through a square, and the squares that a man reaches along them.
 //! Each call takes constant time, without a loop.
-ghost use Rattle.std.specs.Prelude.{◌≡◌, ℕ, ◌<◌, ◌&&◌, ◌==◌, not, true, false};
+ghost use Rattle.std.specs.Prelude.{◌≡◌, ℕ, ◌+◌, ◌*◌, ◌<◌, ◌&&◌, ◌||◌, ◌==◌, not, true, false};
 ghost use Rattle.gm_board.specs.Masks.{has_cell};
 ghost use Rattle.gm_squares.specs.inner.Lines.{line_mask, lies_between, is_open_line};
 
@@ -48,6 +48,28 @@ pub fn square_mask(square: u32) -> u64
     ensures { (k : ℕ) → k < 64 → has_cell result k ≡ (k == square) }
 {
     if square < 64 { 1 << square } else { 0 }
+}
+
+/// Returns the squares one row and two rows above a square.
+pub fn squares_above(square: u32) -> u64
+    requires { square < 64 }
+    ensures { (k : ℕ) → k < 64 → has_cell result k ≡ (k == square + 8 || k == square + 16) }
+{
+    square_mask(square + 8) | square_mask(square + 16)
+}
+
+/// Returns the square that is a number of rows below another; none if the board has no such row.
+#[tactic(auto, using(crate::specs::laws::LineFacts::rows_below, crate::specs::laws::LineFacts::none_below))]
+pub fn square_below(square: u32, rows: u32) -> u64
+    requires square { square < 64 }
+    requires rows { rows < 8 }
+    ensures { (k : ℕ) → k < 64 → has_cell result k ≡ (k + 8 * rows == square) }
+{
+    if square >= 8 * rows {
+        square_mask(square - 8 * rows)
+    } else {
+        0
+    }
 }
 
 /// Returns whether a mask has a square.

@@ -2,7 +2,7 @@
 use Rattle.std.specs.Prelude.{ℕ, Result, Ok, Err}
 use Rattle.gamesman.specs.declared.fault.Fault.{Fault}
 use Rattle.gamesman.specs.declared.service.Ended.{Ended}
-use Rattle.gamesman.specs.declared.service.Ended.TheVariants.{Done, Game}
+use Rattle.gamesman.specs.declared.service.Ended.TheVariants.{Done}
 
 -- a command that goes on with no other game
 abbrev pub done_of : Result ℕ Fault → Result Ended Fault

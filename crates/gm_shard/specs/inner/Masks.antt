@@ -1,5 +1,5 @@
 -- The children that masks stand for, and the place of a child.
-use Rattle.std.specs.Prelude.{◌≡◌, ℕ, ◌+◌, ◌≤◌, ◌<◌, Option, None, Some, if◌then◌else◌, slice_get, ◌-◌, suc, List, [], ◌∷◌}
+use Rattle.std.specs.Prelude.{◌≡◌, ℕ, ◌<◌, Option, None, Some, slice_get, ◌-◌, suc, List, [], ◌∷◌}
 use Rattle.gm_game.specs.declared.limits.TheConstants.{MOVES}
 use Rattle.gm_game.specs.declared.position.Position.{Position}
 use Rattle.gm_game.specs.Rules.{Rules, at, IsInner, IsParent}

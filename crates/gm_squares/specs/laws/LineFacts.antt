@@ -1,8 +1,8 @@
 -- Masks of lines, and the squares on them.
-use Rattle.std.specs.Prelude.{◌≡◌, ◌-◌, ◌*◌, ◌%◌, ◌^◌, ◌<◌, ◌≤◌, ◌&&◌}
+use Rattle.std.specs.Prelude.{◌≡◌, ◌+◌, ◌-◌, ◌*◌, ◌%◌, ◌^◌, ◌<◌, ◌≤◌, ◌&&◌}
 use Rattle.gm_pieces.specs.Common.{ℕ, Bool, true, false, not, eqb, ltb, refl, sym, ap, ◌∙◌, arith, nat_tests, has_cell, at_all, at_each, agree, agree_same, bit_at-zero, min, max, cases_lt, cases_eq, inl, inr, bit_at, bit_and, has_and, and_false, and_true, ap₂, eq-eqb, ne_eqb}
 use Rattle.std.specs.Int.{w64}
-use Rattle.std.proofs.lemmas.Nat.Bits.{bit_at_not, bit_at-lt}
+use Rattle.std.proofs.lemmas.Nat.Bits.{bit_at_not, bit_at-lt, bit_at_ones}
 use Rattle.gm_board.specs.laws.NextCells.{cell_none}
 use Rattle.gm_squares.specs.inner.Lines.{lies_between, is_open_line}
 
@@ -99,3 +99,14 @@ part_between line a c k low high l h j e f =
     by_order : (t : Bool) (a c k low high : ℕ) → low ≡ min a c → high ≡ max a c → ((t && ltb low k) && ltb k high) ≡ (t && lies_between a c k)
     by_order true a c k low high e f = grind (arith, nat_tests)
     by_order false a c k low high e f = refl
+
+-- the square that is a number of rows below another
+pub rows_below : (s r k : ℕ) → 8 * r ≤ s → eqb k (s - 8 * r) ≡ eqb (k + 8 * r) s
+rows_below s r k l = grind (arith, nat_tests, l)
+
+pub none_below : (s r k : ℕ) → s < 8 * r → has_cell 0 k ≡ eqb (k + 8 * r) s
+none_below s r k l = ap (λ (v : ℕ). eqb v 1) (bit_at-zero k) ∙ (let e : false ≡ eqb (k + 8 * r) s = grind (arith, nat_tests, l) in e)
+
+-- all squares
+pub each_square : (k : ℕ) → k < 64 → has_cell 18446744073709551615 k ≡ true
+each_square k l = eq-eqb _ _ (bit_at_ones 64 k l)

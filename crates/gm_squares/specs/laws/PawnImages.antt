@@ -16,10 +16,10 @@ use Rattle.gm_squares.specs.laws.PawnFacts.{placed_with, same_boards}
 use Rattle.gm_squares.specs.laws.PawnTried.{man_most}
 
 -- ---- the two symmetries
-abbrev symmetries : List ℕ
+abbrev pub symmetries : List ℕ
 symmetries = 0 ∷ 2 ∷ []
 
-two : (x : ℕ) → Contains symmetries x → (x ≡ 0) ⊎ (x ≡ 2)
+pub two : (x : ℕ) → Contains symmetries x → (x ≡ 0) ⊎ (x ≡ 2)
 two x c = elim (contains_cases 0 (2 ∷ []) x c) [
   | inl e ↦ inl (sym e)
   | inr d ↦ elim (contains_cases 2 [] x d) [ inl e ↦ inr (sym e) | inr n ↦ absurd (omega (arith, n.1)) ]
@@ -28,7 +28,7 @@ two x c = elim (contains_cases 0 (2 ∷ []) x c) [
 zero_in : Contains symmetries 0
 zero_in = contains_head 0 (2 ∷ [])
 
-two_in : Contains symmetries 2
+pub two_in : Contains symmetries 2
 two_in = contains_later 0 (2 ∷ []) 2 (contains_head 2 [])
 
 pub few : (x : ℕ) → Contains symmetries x → x < 8

@@ -16,11 +16,11 @@ use Rattle.gm_squares.specs.laws.PawnTried.{HasPromoted, led_in, man_most, bound
 
 -- ---- after a move
 -- the board after a move of a man that stays what it is, and after that of a pawn which becomes another man
-moved_plain : (b : PawnBoard) (m : ℕ) → leb 3 (man m) ≡ false → moved b m ≡ record { kind = left_of b.kind (men_moved b.men m); men = men_moved b.men m }
+pub moved_plain : (b : PawnBoard) (m : ℕ) → leb 3 (man m) ≡ false → moved b m ≡ record { kind = left_of b.kind (men_moved b.men m); men = men_moved b.men m }
 unfolding moved
 moved_plain b m e = rw e refl
 
-moved_promoted : (b : PawnBoard) (m : ℕ) → leb 3 (man m) ≡ true → moved b m ≡ record { kind = promoted (man m); men = piece_gone b.men (to_square m) }
+pub moved_promoted : (b : PawnBoard) (m : ℕ) → leb 3 (man m) ≡ true → moved b m ≡ record { kind = promoted (man m); men = piece_gone b.men (to_square m) }
 unfolding moved
 moved_promoted b m e = rw e refl
 
@@ -48,7 +48,7 @@ moved_legal b m l h = elim (move_with b.kind b.men m h.can) [
 
 -- ---- tiers
 -- the tier after a move: the same, or that of bare kings, or what a pawn becomes
-left_tier : (k : WhiteMan) (b : Men) → (tier_with (left_of k b) ≡ tier_with k) ⊎ (tier_with (left_of k b) ≡ 0)
+pub left_tier : (k : WhiteMan) (b : Men) → (tier_with (left_of k b) ≡ tier_with k) ⊎ (tier_with (left_of k b) ≡ 0)
 unfolding tier_with
 left_tier k b = elim (cases_Bool (eqb b.piece 64)) [
   | inl e ↦ inr (ap tier_with (if_true (eqb b.piece 64) Taken k e))

@@ -186,7 +186,7 @@ same_earlier t d l w s =
     ])
 
 -- where black is to move no man has been taken
-black_piece : (d : PawnBoard) → legal d ≡ true → d.men.white_moves ≡ false → d.men.piece < 64
+pub black_piece : (d : PawnBoard) → legal d ≡ true → d.men.white_moves ≡ false → d.men.piece < 64
 black_piece d l w =
     let most = piece_most d l in
     elim (cases_Bool (eqb d.men.piece 64)) [

@@ -13,7 +13,7 @@ use gm_backward::cuts::Cuts;
 use gm_backward::levels::{fresh, next_level};
 use gm_counters::ordered::OrderedShard;
 use gm_frontier::level::Level;
-use gm_frontier::note::Note;
+use gm_frontier::pair_list::PairList;
 use gm_frontier::pairs::Pairs;
 use gm_game::game::Game;
 use gm_game::limits::TIER_SIZE;
@@ -72,7 +72,7 @@ fn deliver_meanwhile<
     board: &PieceBoard<G, A, B, C, D>,
     shares: &mut Shares<A, B, C, D>,
     marks: &Marks,
-    pairs: &[(Note<G>, u64)],
+    pairs: &PairList<G>,
 ) -> bool
     requires piece { 0 < div_ceil (length A.notes) A.size }
     requires pairs { pairs.now ≡ piece_pairs G.rules A.spot A.notes A.size 0 }
@@ -95,7 +95,7 @@ fn run_both<
     rt: &R,
     board: &PieceBoard<G, A, B, C, D>,
     shares: &mut Shares<A, B, C, D>,
-    pairs: &[(Note<G>, u64)],
+    pairs: &PairList<G>,
 ) -> ((Option<u32>, bool), bool)
     requires piece { 0 < div_ceil (length A.notes) A.size }
     requires pairs { pairs.now ≡ piece_pairs G.rules A.spot A.notes A.size 0 }
@@ -114,12 +114,12 @@ fn run_both<
 }
 
 // Collects the pairs into a list.
-fn list_of<G: Game>(alloc: Global, pairs: Pairs<G>) -> Result<Vec<(Note<G>, u64)>, AllocError>
-    ensures { IfOk result (λ list. list.items ≡ pairs.entry) }
+fn list_of<G: Game>(alloc: Global, pairs: Pairs<G>) -> Result<PairList<G>, AllocError>
+    ensures { IfOk result (λ list. list ≡ pairs.entry) }
 {
-    let mut list = Vec::new(alloc);
-    for pair in pairs {
-        list.push(pair)?;
+    let mut list = PairList::new(alloc);
+    for (note, parent) in pairs {
+        list.push(&note, parent)?;
     }
     Ok(list)
 }
@@ -184,7 +184,7 @@ fn named<
     let three = Mutex::new(three);
     let four = Mutex::new(four);
     let board = PieceBoard::of(&one, &two, &three, &four);
-    let found = run_both(rt, &board, &mut shares, pairs.as_slice());
+    let found = run_both(rt, &board, &mut shares, &pairs);
     expect_eq(rt, found, ((Some(counter), true), true));
     expect_eq(rt, (shares.amount(0), shares.amount(1)), (new, 0));
     drop(shares);

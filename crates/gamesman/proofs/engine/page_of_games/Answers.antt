@@ -1,6 +1,6 @@
 use Rattle.gm_page.specs.Engines.{AreDigits}
-use Rattle.gamesman.proofs.Lower.{subst, sym, IfOk-weaker, OutOfMemory, IsEngineFault}
-use Rattle.gamesman.specs.Engines.{IsGamesPage}
+use Rattle.gamesman.proofs.Lower.{subst, sym, IfOk-weaker, OutOfMemory}
+use Rattle.gamesman.specs.Engines.{IsEngineFault, IsGamesPage}
 use Rattle.gamesman.proofs.Answering.{text_told}
 use Rattle.gamesman.proofs.engine.page_of_games.Goals as goal
 

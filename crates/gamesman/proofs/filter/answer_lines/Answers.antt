@@ -1,4 +1,4 @@
-use Rattle.gamesman.proofs.Lower.{◌≡◌, ℕ, ◌≤◌, ◌<◌, true, false, List, ◌∷◌, ◌++◌, [], length, Option, refl, sym, ap, subst, ◌∙◌, arith, rules, Appends, err_from_is_err_and, game_spec, IsTextFor, IsOfNone}
+use Rattle.gamesman.proofs.Lower.{◌≡◌, ℕ, ◌≤◌, ◌<◌, true, false, List, ◌∷◌, ◌++◌, [], length, Option, refl, sym, ap, subst, ◌∙◌, rules, Appends, err_from_is_err_and, game_spec, IsTextFor, IsOfNone}
 use Rattle.std.specs.Prelude.{◌==◌}
 use Rattle.std.specs.Io.Iter.{bytes_remaining}
 use Rattle.gm_play.specs.Dialogue.{without_return}

@@ -14,18 +14,18 @@ returns-in-Sheet g c =
     let asked = c.args.asked in
     let tiers = c.args.known.now.tiers.now in
     let at_once = ap (λ (report : Report). limit_by_tier report asked.choice) (sym c.in-Sheet.is) in
-    let told = text_told c.sheet_text-sheet.result (λ v. v.items) (λ e. OutOfMemory e) (IsFoundOf spec asked) (IsUnsearched r asked.tier) _ _ c.put_text.result
+    let told = text_told c.found_sheet-sheet.result (λ v. v.items) (λ e. OutOfMemory e) (IsFoundOf spec asked) (IsUnsearched r asked.tier) _ _ c.put_text.result
     (λ e. tt) (λ e. inr tt)
-    (IfOk-weaker c.sheet_text-sheet.result _ _
+    (IfOk-weaker c.found_sheet-sheet.result _ _
     (λ v is. (
       tiers,
       c.requires.tiers,
       (
         is.found,
         subst (λ (b : Bool). AreChosen r asked.sought b asked.choice tiers is.found) c.requires.reached is.are_found,
-        subst (λ (report : Report). IsTextOf spec report is.found v.items) (sym c.in-Sheet.is) (is.entries, is.are_entries, is.out_is),
+        subst (λ (report : Report). IsTextOf spec report is.found v.items) (sym c.in-Sheet.is) is.sheet,
       ),
-    )) c.sheet_text-sheet.ensures) c.put_text.ensures.put c.put_text.ensures.refused in
+    )) c.found_sheet-sheet.ensures) c.put_text.ensures.put c.put_text.ensures.refused in
     found_with None _ spec asked (IsUnsearched r asked.tier) _ _ c.put_text.result at_once told
 
 pub returns-in-First : goal.returns-in-First

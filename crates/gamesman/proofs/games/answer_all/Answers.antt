@@ -1,4 +1,4 @@
-use Rattle.gamesman.proofs.Lower.{◌≡◌, ◌<◌, List, ℕ, Option, Result, Ok, Err, Fault, OutputFailed, arith}
+use Rattle.gamesman.proofs.Lower.{◌<◌, List, ℕ, Option, Result, Ok, Err, Fault, OutputFailed, arith}
 use Rattle.gamesman.specs.Games.{spec_of}
 use Rattle.gamesman.proofs.Services.{from_nothing, ended, goes_on, only_ask, failed, gives_up}
 use Rattle.gamesman.proofs.games.answer_all.Goals as goal

@@ -1,4 +1,4 @@
-use Rattle.gamesman.proofs.Lower.{Option, List, ℕ, false, subst, err_from_is_err_and, Appends, AppendsPart, IsPut}
+use Rattle.gamesman.proofs.Lower.{List, ℕ, false, subst, err_from_is_err_and, Appends, AppendsPart, IsPut}
 use Rattle.gamesman.specs.Listing.{listed_names, listed_later}
 use Rattle.gamesman.proofs.Fronts.{put_after, part_listed}
 use Rattle.gamesman.proofs.run.list.Goals as goal

@@ -21,7 +21,8 @@ returns-in-Ok-clause-ok g c start so_far =
     subst (AreFilled spec c.args.caption c.args.k c.args.lines.now (j + 1) start) (sym c.put.ensures)
     (fill_one spec c.args.caption c.args.k c.args.lines.now j c.line_at-line.result.now c.line_at-line.ensures start c.args.puzzles.now.items so_far made
     c.if-place-k.false (subst (λ (n : ℕ). j < n) (sym c.requires.many) c.requires.within)
-    (subst (λ (t : List ℕ). IsPuzzleOf spec c.args.caption t made) c.as_slice.ensures.value c.in-Ok.ensures.ok))
+    (subst (λ (n : ℕ). IsPuzzleOf spec c.args.caption n c.line_at-line.result.now.text.items made) c.number_at-number.ensures
+    (subst (λ (t : List ℕ). IsPuzzleOf spec c.args.caption c.number_at-number.result t made) c.as_slice.ensures.value c.in-Ok.ensures.ok)))
 
 pub returns-in-Err-clause-err : goal.returns-in-Err-clause-err
 returns-in-Err-clause-err g c start so_far =

@@ -1,7 +1,7 @@
 use Rattle.gamesman.proofs.Lower.{List, ℕ, subst, IfOk-weaker}
 use Rattle.std.proofs.lemmas.Result.{IfErr-weaker}
 use Rattle.gm_json.specs.Asking.{lines_of}
-use Rattle.gm_page.specs.declared.puzzles.Caption.{Caption}
+use Rattle.gm_caption.specs.declared.caption.Caption.{Caption}
 use Rattle.gamesman.specs.Lists.{IsListOf}
 use Rattle.gamesman.specs.Listed.{IsListedSheet, IsNoSheet, title_of}
 use Rattle.gamesman.proofs.Sheeted.{input_fault}

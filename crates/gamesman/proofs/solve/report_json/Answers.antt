@@ -1,4 +1,4 @@
-use Rattle.gamesman.proofs.Lower.{[], ap, ◌∙◌, ◌++◌, List, ℕ}
+use Rattle.gamesman.proofs.Lower.{ap, ◌∙◌, ◌++◌, List, ℕ}
 use Rattle.serde_json.specs.View.{view}
 use Rattle.gm_json.specs.Words.{line_of}
 use Rattle.gamesman.proofs.Entries.{work_no_float}

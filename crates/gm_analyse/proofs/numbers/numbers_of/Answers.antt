@@ -1,9 +1,15 @@
-use Rattle.gm_analyse.proofs.Lower.{◌≡◌, ◌+◌, ◌++◌, ◌∷◌, [], List, ℕ, take, get_or, sym, ap, ◌∙◌, subst, arith, is_some, append-nil, Contains-get_or, Position, all_positions, AreNumbers}
+use Rattle.gm_analyse.proofs.Lower.{◌≡◌, ◌+◌, ◌++◌, ◌∷◌, [], List, ℕ, take, get_or, sym, ap, ◌∙◌, subst, arith, is_some, append-nil, Contains-get_or, Position, all_positions}
 use Rattle.std.proofs.lemmas.List.{take_all, take_more}
 use Rattle.std.proofs.lemmas.Grind.{flat_map-append}
 use Rattle.gm_play.proofs.Held.{held_own}
 use Rattle.gm_find.specs.Finding.{positions_in}
+use Rattle.gm_analyse.specs.Totals.{AreAllNumbers}
+use Rattle.gm_analyse.proofs.Listed.{numbers_none}
 use Rattle.gm_analyse.proofs.numbers.numbers_of.Goals as goal
+
+pub loop-tier-init : goal.loop-tier-init
+loop-tier-init g c =
+    (c.none-numbers.ensures.short, numbers_none g.G.Game.rules c.args.among (is_some c.args.reached) c.none-numbers.result c.none-numbers.ensures.none)
 
 pub add_tier-requires-clause-held : goal.add_tier-requires-clause-held
 add_tier-requires-clause-held g c =
@@ -21,8 +27,8 @@ loop-tier-preserved g c =
     let longer : all_positions r (take k tiers) ++ positions_in r t ≡ all_positions r (take (k + 1) tiers) =
     ap (λ (xs : List Position). all_positions r (take k tiers) ++ xs) (sym (append-nil (positions_in r t))) ∙ sym
     (flat_map-append (positions_in r) (take k tiers) (t ∷ [])) ∙ ap (all_positions r) (sym (take_more tiers k 0 c.loop-tier-test.true)) in (
-      c.in_ok-add_tier.ensures.few,
-      subst (λ (xs : List Position). AreNumbers r c.args.among (is_some c.args.reached) c.args.value xs c.add_tier.new.numbers.items) longer
+      c.in_ok-add_tier.ensures.short,
+      subst (λ (xs : List Position). AreAllNumbers r c.args.among (is_some c.args.reached) xs c.add_tier.new.numbers) longer
           (c.in_ok-add_tier.ensures.numbers (all_positions r (take k tiers)) c.loop-tier.invariant.1),
     )
 
@@ -30,5 +36,5 @@ pub returns-clause-numbers : goal.returns-clause-numbers
 returns-clause-numbers g c =
     let r = g.G.Game.rules in
     let tiers = c.args.known.now.tiers.now in
-    subst (λ (ts : List ℕ). AreNumbers r c.args.among (is_some c.args.reached) c.args.value (all_positions r ts) c.loop-tier.numbers.items)
+    subst (λ (ts : List ℕ). AreAllNumbers r c.args.among (is_some c.args.reached) (all_positions r ts) c.loop-tier.numbers)
     (take_all c.loop-tier.tier-index tiers (omega arith)) c.loop-tier.invariant.1

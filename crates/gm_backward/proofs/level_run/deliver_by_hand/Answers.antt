@@ -7,8 +7,8 @@ deliver_rest-requires-clause-pairs g c =
     let l = c.args.job.now.level.now in
     piece_is g.G.Game.rules l g.L.ShardLedger.spot g.L.LevelLedger.notes c.args.job.now.notes g.L.PieceLedger.size c.args.piece c.range-lo.result.0
     c.range-lo.result.1
-    c.as_slice.result.now c.requires.level c.range-lo.ensures.lo c.range-lo.ensures.hi c.requires.size
-    (c.as_slice.ensures.value ∙ c.in_ok-list.ensures ∙ c.pairs.ensures.value)
+    c.in_ok-list.list c.requires.level c.range-lo.ensures.lo c.range-lo.ensures.hi c.requires.size
+    (c.in_ok-list.ensures ∙ c.pairs.ensures.value)
 
 pub returns-clause-error : goal.returns-clause-error
 returns-clause-error g c = (

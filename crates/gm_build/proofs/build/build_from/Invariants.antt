@@ -1,5 +1,4 @@
 use Rattle.gm_build.proofs.Lower.{◌≡◌, IsTrue, take}
-use Rattle.std.proofs.Common.{IfSome}
 use Rattle.gm_build.specs.inner.Steps.{IsAhead}
 use Rattle.gm_build.proofs.SoFar.{IsSoFar}
 use Rattle.gm_build.proofs.build.build_from.Given as goal

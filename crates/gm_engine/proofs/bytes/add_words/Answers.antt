@@ -1,4 +1,4 @@
-use Rattle.gm_engine.proofs.Lower.{rules, ◌≡◌, ◌<◌, ◌+◌, ◌++◌, length, arith, ap, sym, subst, ◌∙◌, append_assoc}
+use Rattle.gm_engine.proofs.Lower.{rules, ◌≡◌, ◌<◌, ◌+◌, ◌++◌, length, arith, ◌∙◌}
 use Rattle.std.proofs.lemmas.List.{length-append}
 use Rattle.std.proofs.Common.{◌*◌}
 use Rattle.gm_engine.proofs.Words.{word_more, word_at_end}

@@ -1,5 +1,3 @@
-use Rattle.gm_engine.proofs.Lower.{◌≡◌, ◌+◌, ◌∷◌, [], List, ℕ, ap, arith}
-use Rattle.std.proofs.Common.{◌/◌, ◌%◌, ◌*◌}
 use Rattle.gm_engine.proofs.Words.{word_again}
 use Rattle.gm_engine.proofs.bytes.word_of.Goals as goal
 

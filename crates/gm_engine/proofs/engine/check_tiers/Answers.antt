@@ -1,5 +1,5 @@
 use Rattle.gm_engine.proofs.Lower.{rules, ◌≡◌, ◌≤◌, ◌++◌, ◌+◌, take, drop, length, slice_index_or, subst, sym, arith, IsTrueTier, AreTrueTiers, room}
-use Rattle.gm_engine.proofs.Trueness.{one_more_at, cut_more, first_of, enough_for, none_left}
+use Rattle.gm_engine.proofs.Trueness.{one_more_at, cut_more, first_of, none_left}
 use Rattle.gm_engine.proofs.Ordering.{have_more, disordered}
 use Rattle.gm_engine.proofs.Refused.{unchecked}
 use Rattle.gm_engine.proofs.engine.check_tiers.Goals as goal

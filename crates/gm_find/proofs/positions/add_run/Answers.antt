@@ -1,8 +1,16 @@
 use Rattle.gm_find.proofs.Lower.{◌<◌, ◌∷◌, [], ℕ, List, map, take, length, get_or, ap, sym, subst, arith, ◌∙◌, is_some, take_more, take_all, Position, at, Adds, IsMatch}
 use Rattle.std.proofs.lemmas.List.{map-append, take-map}
+use Rattle.std.proofs.Common.{IsSome}
+use Rattle.gm_play.proofs.Held.{held_own}
+use Rattle.gm_find.proofs.Passed.{copied_some}
 use Rattle.gm_find.proofs.ListLemmas.{adds_more, adds_full, adds_none, adds_one}
 use Rattle.gm_find.proofs.positions.add_run.Goals.{then-is_sought+in_ok-push, else-is_sought}
 use Rattle.gm_find.proofs.positions.add_run.Goals as goal
+
+pub unwrap-table-requires : goal.unwrap-table-requires
+unwrap-table-requires g c =
+    copied_some c.table.result
+    (subst IsSome (sym c.table.ensures.value) (held_own g.G.Game.rules c.args.search.now.tables.now c.args.tier c.requires))
 
 pub loop-i-preserved : goal.loop-i-preserved
 loop-i-preserved g c =
@@ -15,7 +23,7 @@ loop-i-preserved g c =
     let run = c.args.run.now in
     let k = c.loop-i.i-index in
     let i = get_or run k 0 in
-    let p = f c.from.result in
+    let p = f c.from-index.result in
     let below : length cur < limit = grind (arith, c.len.ensures, c.if-search-len.false) in
     let one : Adds P limit (p ∷ []) cur new = elim c.if-is_sought.branch [
       | then-is_sought+in_ok-push w ↦
@@ -23,7 +31,7 @@ loop-i-preserved g c =
       | else-is_sought w ↦
           rw w.found-is (adds_none P limit cur p (λ m. let t = c.is_sought.ensures.1 m in let f = w.if-is_sought.false in cc))
     ] in
-    let here = subst (λ (j : ℕ). Adds P limit (f j ∷ []) cur new) c.from.ensures one in
+    let here = subst (λ (j : ℕ). Adds P limit (f j ∷ []) cur new) c.from-index.ensures one in
     subst (λ (xs : List Position). Adds P limit xs old new)
     (sym (ap (map f) (take_more run k 0 c.loop-i-test.true) ∙ map-append f (take k run) (i ∷ [])))
     (adds_more P limit old cur new (map f (take k run)) (f i ∷ []) c.loop-i.invariant here)

@@ -1,4 +1,4 @@
-use Rattle.gm_json.proofs.Lower.{◌≡◌, List, ℕ, Some, refl, sym, subst, ◌∙◌, inl, inr, Position}
+use Rattle.gm_json.proofs.Lower.{◌≡◌, List, ℕ, Some, refl, sym, subst, inl, inr}
 use Rattle.std.proofs.lemmas.Result.{IfOk-weaker}
 use Rattle.gm_play.specs.Refusals.{IsNotHeld}
 use Rattle.gm_json.specs.Answers.{IsAskedWithin}

@@ -1,4 +1,4 @@
-use Rattle.gm_json.proofs.Lower.{◌≡◌, ◌+◌, ◌≤◌, ◌++◌, true, length, ℕ, List, [], drop, get_or, sym, ap, subst, ◌∙◌, drop_more, drop_all, Data, Position, AreBest, text, line_of, step_tree, steps_from, refl, rules, ap₂}
+use Rattle.gm_json.proofs.Lower.{◌≡◌, ◌+◌, ◌++◌, true, ℕ, List, [], drop, get_or, sym, ap, subst, ◌∙◌, drop_more, drop_all, Data, Position, AreBest, text, line_of, step_tree, steps_from, refl, rules, ap₂}
 use Rattle.serde_json.specs.Data.{null}
 use Rattle.gm_json.specs.Lines.{end_line}
 use Rattle.serde_json.specs.View.{view}

@@ -1,9 +1,4 @@
-use Rattle.gm_json.proofs.Lower.{◌≡◌, List, ℕ, Option, Some, None, subst, sym, ap, map, ◌∙◌, Data}
-use Rattle.std.specs.Prelude.{option_map}
-use Rattle.std.proofs.lemmas.Result.{IfOk-weaker}
 use Rattle.serde_json.specs.View.{view}
-use Rattle.gm_json.specs.Answers.{AreObjectAnswers}
-use Rattle.gm_json.specs.Objects.{id_in, lines_in}
 use Rattle.gm_json.proofs.Objects.{id_given}
 use Rattle.gm_json.proofs.object_answer.object_answer.Goals as goal
 

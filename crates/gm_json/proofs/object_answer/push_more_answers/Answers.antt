@@ -1,7 +1,6 @@
-use Rattle.gm_json.proofs.Lower.{◌++◌, List, ℕ, codes, map, take, sym, subst, ap, ◌∙◌}
+use Rattle.gm_json.proofs.Lower.{◌++◌, List, ℕ, codes, sym, subst, ap, ◌∙◌}
 use Rattle.std.proofs.Common.{append-nil}
 use Rattle.std.specs.Prelude.{option_map}
-use Rattle.std.proofs.lemmas.List.{take_all}
 use Rattle.serde_json.specs.View.{view}
 use Rattle.gm_json.specs.Answers.{IsTextAnswer, AreTextAnswers}
 use Rattle.gm_json.specs.Places.{IsAskedAs}

@@ -1,4 +1,4 @@
-use Rattle.gm_json.proofs.Lower.{◌≡◌, ◌++◌, ◌∷◌, [], List, ℕ, true, false, codes, ap, sym, subst, refl, ◌∙◌, on_ok_weaker, append_assoc, Members, member, no_members, members_text, compact_text, Position, Option, line_of}
+use Rattle.gm_json.proofs.Lower.{◌≡◌, ◌++◌, ◌∷◌, [], List, ℕ, true, false, codes, ap, sym, subst, refl, ◌∙◌, on_ok_weaker, append_assoc, Members, member, no_members, members_text, compact_text, Position, line_of}
 use Rattle.gm_game.specs.declared.position.Solved.{Solved}
 use Rattle.gm_game.specs.Values.{IsTrueValue}
 use Rattle.gm_play.specs.BestMoves.{IsBestMove}

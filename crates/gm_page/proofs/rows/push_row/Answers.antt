@@ -1,4 +1,5 @@
-use Rattle.gm_page.proofs.Lower.{◌≡◌, false, [], ◌∷◌, ◌++◌, List, map, sym, refl, ap, subst, ◌∙◌, All, Data, view, view-Array, array, items_of, has_float, on_ok_weaker, rules, MoveValue, text, text_of, Group, AreGroups, group_tree, row_tree, script_line}
+use Rattle.gm_page.proofs.Lower.{◌≡◌, false, [], ◌∷◌, ◌++◌, List, map, sym, refl, ap, subst, ◌∙◌, All, Data, view, view-Array, array, items_of, has_float, rules, MoveValue, text, text_of, Group, AreGroups, group_tree, row_tree, script_line}
+use Rattle.std.proofs.lemmas.Result.{on_ok_weaker}
 use Rattle.std.proofs.lemmas.List.Elements.{All-drop, All-take}
 use Rattle.std.proofs.lemmas.List.{map-append}
 use Rattle.gm_play.specs.PlayTexts.{IsMoveOf}

@@ -1,5 +1,6 @@
-use Rattle.gm_page.proofs.Lower.{ap, codes, on_ok_weaker, steps_text}
-use Rattle.gm_page.specs.Sheets.{end_words, line_words}
+use Rattle.gm_page.proofs.Lower.{ap, codes, steps_text}
+use Rattle.std.proofs.lemmas.Result.{on_ok_weaker}
+use Rattle.gm_page.specs.Solutions.{end_words, line_words}
 use Rattle.gm_page.proofs.Sheeting.{line_parts}
 use Rattle.gm_page.proofs.solution.push_line.Goals as goal
 

@@ -1,4 +1,4 @@
-use Rattle.gm_locks.proofs.Lower.{◌-◌, ◌<◌, ◌≤◌, ℕ, List, length, refl, sym, ap, arith, Result, Ok, Err, NoteData, Refused, PiecedData, IsTurnAt}
+use Rattle.gm_locks.proofs.Lower.{◌-◌, ◌<◌, ◌≤◌, ℕ, List, length, refl, sym, ap, ◌∙◌, arith, Result, Ok, Err, NoteData, Refused, PiecedData, IsTurnAt}
 use Rattle.std.proofs.Common.{◌==◌, set}
 use Rattle.std.specs.Result.{IsOk}
 use Rattle.std.proofs.lemmas.List.{get_or_read}
@@ -13,7 +13,7 @@ abbrev new : (g : Over) → After-range-after g → PiecedData
 new g c = record {
   shard = c.deliver_from-next.new.shard;
   counts = set c.self.inside.counts.items c.args.piece c.deliver_from-next.result;
-  whole = set c.self.inside.whole.items c.args.piece (c.deliver_from-next.result == length c.args.pairs.now);
+  whole = set c.self.inside.whole.items c.args.piece (c.deliver_from-next.result == c.len.result);
   book = c.raise.new.book.total;
 }
 
@@ -25,7 +25,8 @@ turn g c answer done =
     let h = c.self.invariant in
     let within : c.args.piece < length c.self.inside.counts.items = (let a = h.many in let b = c.requires.piece in omega arith) in
     let begin = get_or_read c.self.inside.counts.items c.args.piece c.index-from.result.now within c.index-from.ensures 0 in
-    let bits = ap (λ (ps : List (NoteData × ℕ)). set c.self.inside.whole.items c.args.piece (next.result == length ps)) c.requires.pairs in
+    let long = c.len.ensures ∙ ap (λ (ps : List (NoteData × ℕ)). length ps) c.requires.pairs in
+    let bits = ap (λ (n : ℕ). set c.self.inside.whole.items c.args.piece (next.result == n)) long in
     rw (sym c.self.view_is) (turned_at g.met.G.Game.lawful (new g c) h c.args.piece c.index-from.result.now next.result c.requires.piece begin
     next.ensures.order next.ensures.run next.ensures.first refl bits c.raise.ensures.book c.args.to c.max-end.result answer c.range-before.ensures.good
     c.range-after.ensures.good c.max-end.ensures next.ensures.most done)

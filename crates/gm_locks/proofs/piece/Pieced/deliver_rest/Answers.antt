@@ -1,4 +1,4 @@
-use Rattle.gm_locks.proofs.Lower.{◌≡◌, ℕ, ◌⊎◌, inl, inr, true, false, get_or, length, refl, ap, Result, Ok, Err, List, NoteData}
+use Rattle.gm_locks.proofs.Lower.{◌≡◌, ℕ, ◌⊎◌, inl, inr, true, false, get_or, length, refl, ap, ◌∙◌, Result, Ok, Err, List, NoteData}
 use Rattle.std.proofs.Common.{OnOk, IsOk}
 use Rattle.gm_locks.proofs.PieceLemmas.{turned_bits}
 use Rattle.gm_locks.proofs.piece.Pieced.deliver_rest.Given.{Over}
@@ -11,7 +11,7 @@ on_ok_by (Err e) P f = tt
 
 bits : (g : Over) (c : After-deliver g) → IsOk c.deliver.result → (p : ℕ) → (p ≡ c.args.piece) ⊎ (get_or c.args.self.now.whole p false ≡ true)
     → get_or c.deliver.new.self.whole p false ≡ true
-bits g c ok p which = turned_bits c.deliver.ensures.turn.1 (ap (λ (ps : List (NoteData × ℕ)). length ps) c.requires.pairs) c.requires.piece ok p which
+bits g c ok p which = turned_bits c.deliver.ensures.turn.1 (c.len.ensures ∙ ap (λ (ps : List (NoteData × ℕ)). length ps) c.requires.pairs) c.requires.piece ok p which
 
 pub returns-clause-here : goal.returns-clause-here
 returns-clause-here g c = on_ok_by c.deliver.result (get_or c.deliver.new.self.whole c.args.piece false ≡ true)

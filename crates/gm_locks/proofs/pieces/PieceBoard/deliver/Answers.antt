@@ -1,4 +1,4 @@
-use Rattle.std.proofs.Common.{rules, refl, ◌≡◌, ◌+◌, ℕ, List, Result}
+use Rattle.std.proofs.Common.{rules, ◌≡◌, ◌+◌, ℕ, List, Result}
 use Rattle.gm_locks.proofs.Lower.{Rules, IsTurnAt, NoteData, PiecedData, Refused, Spot}
 use Rattle.gm_locks.specs.Amounts.{Part}
 use Rattle.gm_locks.specs.Spots.{for_shard}

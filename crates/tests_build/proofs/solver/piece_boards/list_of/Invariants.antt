@@ -1,5 +1,5 @@
 use Rattle.gm_backward.proofs.Lower.{◌≡◌, ◌++◌}
 use Rattle.tests_build.proofs.solver.piece_boards.list_of.Given as goal
 
-abbrev pub invariant-loop-pair : goal.invariant-loop-pair
-invariant-loop-pair g l = l.list.items ++ l.pair-iterator ≡ l.fn.pairs
+abbrev pub invariant-loop-note : goal.invariant-loop-note
+invariant-loop-note g l = l.list ++ l.note-iterator ≡ l.fn.pairs

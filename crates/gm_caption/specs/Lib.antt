@@ -1,0 +1,2 @@
+pub mod Templates
+pub mod Captions
