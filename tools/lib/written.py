@@ -81,6 +81,8 @@ def definition(table: Table, crate: str) -> str:
     end = table.stuck.capitalize()
     over = f"if nat_lt mine {table.over[0]} then Some {table.over[1].capitalize()} else None" if table.over else "None"
     tiers = f"{kind_of(table)} {table.bound}" if table.tiers == "single" else kind_of(table)
+    usual = {"over = λ mine theirs. None", "tiers = Placed", "adds = true", "phase = λ pieces. 0", "swapped = true", "turn = None", "stuck = Lose",
+             *(f"{meaning} = []" for meaning in table.patterns)}
     body = [
         f'  name = codes "{table.name}" ++ replicate {16 - len(table.name)} 0;',
         listed([cells[it] for it in table.start], "start"),
@@ -97,7 +99,8 @@ def definition(table: Table, crate: str) -> str:
         f"  stuck = {end};",
         f"  symmetries = square_symmetries {table.side};" if table.is_whole_square else listed([f"({cells_text(it)})" for it in table.symmetries], "symmetries"),
     ]
-    text = "\n".join([f"abbrev pub {snake(table.name)} : PatternGame", f"{snake(table.name)} = record {{", *body, "}", ""])
+    kept = [line for line in body if line.strip().rstrip(";") not in usual]
+    text = "\n".join([f"abbrev pub {snake(table.name)} : PatternGame", f"{snake(table.name)} = record (usual {len(table.cells)}) {{", *kept, "}", ""])
     head = f"-- The rules of {table.title}, made of tables/{table.name}.game by tools/new_game.\n"
     return head + imports_of(text) + "\n" + text
 
@@ -111,7 +114,7 @@ SPEC_NAMES = [
     ("Rattle.gm_game.specs.declared.position.End.TheVariants", ["Lose", "Tie", "Win"]),
     ("Rattle.gm_patterns.specs.Patterns", [*PATTERNS, "both"]),
     ("Rattle.gm_patterns.specs.Steps", ["place", "stack", "cover", "take", "slide", "capture", "jump", "hop", "vault"]),
-    ("Rattle.gm_patterns.specs.PatternGames", ["PatternGame"]),
+    ("Rattle.gm_patterns.specs.PatternGames", ["PatternGame", "usual"]),
     ("Rattle.gm_patterns.specs.declared.rules.Tiers.TheVariants", ["Sides", "Placed", "Common", "Single"]),
 ]
 

@@ -27,22 +27,20 @@ def quoted(text: str) -> str:
 def pictured_file(table: Table, crate: str) -> str:
     """The file `specs/NAMEPicture.antt`."""
     it, n = snake(table.name), len(table.cells)
-    mover, style = ("player", "player_moves") if table.is_common else ("x", "x_moves"), table.style.capitalize()
+    mover, style = "player" if table.is_common else "x", table.style.capitalize()
     title, naming = f"codes {quoted(table.title)}", f"codes {quoted(naming_of(table))}"
     if is_plain_square(table):
-        picture = f'on_square {table.side} {style} ({title}) (codes "{mover[0]}") ({naming})\n'
-        own, extra = "", ", on_square"
+        picture = f'on_square {table.side} {style} ({title}) (codes "{mover}") ({naming})\n'
     else:
-        fields = [("title", title), ("style", style), ("board", f"codes {quoted(table.board)}"), ("rows", "[]"), ("points", f"{it}.names"), ("mover", mover[1]), ("naming", naming)]
-        picture = "record {\n" + "".join(f"  {name} = {value};\n" for name, value in fields) + "}\n"
-        own, extra = f", {mover[1]}", ""
+        picture = f'on_board {style} ({title}) (codes {quoted(table.board)})\n    {it}.names (codes "{mover}") ({naming})\n'
+    form = "on_square" if is_plain_square(table) else "on_board"
     return (
         f"-- What {table.title} looks like, made of tables/{table.name}.game by tools/new_game.\n"
-        f"use Rattle.std.specs.Prelude.{{{'codes' if is_plain_square(table) else '[], codes'}}}\n"
+        "use Rattle.std.specs.Prelude.{codes}\n"
         f"use Rattle.gm_draw.specs.declared.pictured.Style.TheVariants.{{{style}}}\n"
-        f"use Rattle.gm_draw.specs.Pictures.{{PictureSpec{own}}}\n"
+        "use Rattle.gm_draw.specs.Pictures.{PictureSpec}\n"
         "use Rattle.gm_draw.specs.GameSpecs.{GameSpec}\n"
-        f"use Rattle.gm_patterns.specs.PatternPictures.{{pattern_spec{extra}}}\n"
+        f"use Rattle.gm_patterns.specs.PatternPictures.{{pattern_spec, {form}}}\n"
         f"use Rattle.{crate}.specs.{camel(table.name)}Rules.{{{it}}}\n\n"
         f"unfoldable pub {it}_picture : PictureSpec\n{it}_picture = {picture}\n"
         f"abbrev pub {it}_spec : GameSpec\n{it}_spec = pattern_spec {n} {it} {it}_picture\n"
@@ -58,20 +56,17 @@ def tested_file(table: Table, crate: str) -> str:
         "use Rattle.std.proofs.Common.{refl}\n",
         "use Rattle.gm_board.specs.Squares.{square_symmetries}\n" if symmetries else "",
         "use Rattle.gm_draw.specs.Points.{square_points}\n" if points else "",
-        "use Rattle.gm_patterns.specs.PatternTables.{faults, IsPatternGame}\n",
+        "use Rattle.gm_patterns.specs.PatternTables.{faults}\n",
         "use Rattle.gm_patterns.specs.PatternPictures.{square_board}\n" if board else "",
-        "use Rattle.gm_patterns.specs.laws.NoFaults.{no_faults}\n",
-        "use Rattle.gm_patterns.specs.laws.PatternPictured.{IsPatternPictured, pattern_pictured}\n",
+        "use Rattle.gm_patterns.specs.laws.PatternPictured.{IsRight, right}\n",
         f"use Rattle.{crate}.specs.{camel(table.name)}Rules.{{{it}}}\n",
         f"use Rattle.{crate}.specs.{camel(table.name)}Picture.{{{it}_picture}}\n",
     ]
     return (
         f"-- The tables and the picture of {table.title} are right: a computation finds nothing wrong with them. Made of tables/{table.name}.game by tools/new_game.\n"
         + "".join(uses)
-        + f"\npub {it}_tables : IsPatternGame {n} {it}\nunfolding faults{points}{symmetries}\n"
-        + f"{it}_tables = no_faults{' refl' * 11}\n"
-        + f"\npub {it}_pictured : IsPatternPictured {n} {it} {it}_picture\nunfolding {it}_picture{board}{points}\n"
-        + f"{it}_pictured = pattern_pictured _ _ _ {it}_tables refl refl (λ ps t w. w)\n"
+        + f"\npub {it}_right : IsRight {n} {it} {it}_picture\nunfolding faults{points}{symmetries} {it}_picture{board}\n"
+        + f"{it}_right = right{' refl' * 13} (λ ps t w. w)\n"
     )
 
 
@@ -167,91 +162,72 @@ def basics_code(table: Table) -> str:
             tiers: Tiers::{tiers},
             adds: {str(table.adds).lower()},
             swapped: {str(not table.is_common).lower()},
-            stuck: End::{table.stuck.capitalize()},
+            ends: {ends_code(table)},
         }}
     }}
 """
 
 
-def patterns_body(table: Table) -> str:
-    found = [meaning for meaning in table.patterns if table.patterns[meaning]]
-    if not found:
-        return "    fn patterns(_meaning: Meaning) -> &'static [Pattern] {\n        &[]\n    }\n"
-    arms = "".join(f"            Meaning::{it.capitalize()} => &{it.upper()},\n" for it in found)
-    rest = "" if len(found) == 4 else "            _ => &[],\n"
-    return f"    fn patterns(meaning: Meaning) -> &'static [Pattern] {{\n        match meaning {{\n{arms}{rest}        }}\n    }}\n"
+def ends_code(table: Table) -> str:
+    """What rules out boards and ends the game, where it is not what is usual."""
+    own = [f"{it}: &{it.upper()}" for it in table.patterns if table.patterns[it]]
+    own += [f"over: Some(({table.over[0]}, End::{table.over[1].capitalize()}))"] if table.over else []
+    own += [] if table.stuck == "lose" else [f"stuck: End::{table.stuck.capitalize()}"]
+    return "Ends {\n" + "".join(f"                {it},\n" for it in own) + "                ..USUAL_ENDS\n            }" if own else "USUAL_ENDS"
 
 
 def methods(table: Table) -> list[str]:
     n = len(table.cells)
     numbers = numbers_text(table, True)
     used = ["mine" if "mine" in numbers else "_mine", "theirs"]
-    over = f"(mine < {table.over[0]}).then_some(End::{table.over[1].capitalize()})" if table.over else "None"
     steps = "&STEPS" if len(table.phases) == 1 else f"if pieces < {table.change} {{\n            &FIRST_STEPS\n        }} else {{\n            &LATER_STEPS\n        }}"
     least = f"board.least_index({table.side})" if table.is_whole_square else "least_index_under(&SYMMETRIES, board)"
     return [
         basics_code(table),
         f"    fn can_have({used[0]}: u32, {used[1]}: u32) -> bool {{\n        {numbers}\n    }}\n",
-        f"    fn over({'mine' if table.over else '_mine'}: u32, _theirs: u32) -> Option<End> {{\n        {over}\n    }}\n",
         f"    fn steps({'pieces' if len(table.phases) > 1 else '_pieces'}: u32) -> &'static [Step] {{\n        {steps}\n    }}\n",
         f"    fn turned(mask: u32) -> u32 {{\n        {'image(&TURNED, mask)' if table.turn else 'mask'}\n    }}\n",
-        patterns_body(table),
         f"    fn least_index(board: &Board<{n}>) -> u64 {{\n        {least}\n    }}\n",
-        f"    ghost tables = {{ {snake(table.name)}_tables }};\n",
+        look_code(table),
     ]
 
 
 def look_code(table: Table) -> str:
-    it, n, name = snake(table.name), len(table.cells), camel(table.name)
+    it, name = snake(table.name), camel(table.name)
     mover, style = "player" if table.is_common else "x", table.style.capitalize()
     title, naming = "b" + quoted(table.title), "b" + quoted(naming_of(table))
     if is_plain_square(table):
-        body = f"        on_square::<{n}, Self>(\n            {table.side},\n            Style::{style},\n            {title},\n            b\"{mover}\",\n            {naming},\n        )\n"
+        body = f"        on_square!(\n            {table.side},\n            Style::{style},\n            {title},\n            b\"{mover}\",\n            {naming},\n        )\n"
     else:
         points = f"square_cells({table.side})" if table.side else "NAMES"
         body = (
             f"        Picture {{\n            title: {title},\n            style: Style::{style},\n            board: b{quoted(table.board)},\n            rows: &[],\n"
             f"            points: {points},\n            mover: Mover::Same(b\"{mover}\"),\n            naming: {naming},\n        }}\n"
         )
-    return f"""impl PicturedPatterns<{n}> for {name}Rules {{
-    ghost picture = {{ {it}_picture }};
+    return f"""    ghost picture = {{ {it}_picture }};
 
-    ghost pictured = {{ {it}_pictured }};
+    ghost right = {{ {it}_right }};
 
     #[tactic(auto, unfolding(crate::specs::{name}Picture::{it}_picture))]
     fn picture() -> Picture {{
 {body}    }}
-}}
 """
 
 
 def uses(table: Table, crate: str) -> str:
     it, name = snake(table.name), camel(table.name)
-    square = is_plain_square(table)
     lines = [
         "ghost use Rattle.std.specs.Prelude.{◌≡◌};",
         "ghost use Rattle.gm_patterns.specs.PatternGames.{pattern_rules};",
         "ghost use Rattle.gm_patterns.specs.PatternTexts.{pattern_text, pattern_move_text};",
         f"ghost use Rattle.{crate}.specs.{name}Rules.{{{it} as {it}_game}};",
         f"ghost use Rattle.{crate}.specs.{name}Picture.{{{it}_picture}};",
-        f"ghost use Rattle.{crate}.specs.laws.{name}Tables.{{{it}_tables, {it}_pictured}};",
+        f"ghost use Rattle.{crate}.specs.laws.{name}Tables.{{{it}_right}};",
         "",
-        "use gm_board::image::image;" if table.turn else None,
-        "use gm_draw::cells::square_cells;" if table.side else None,
-        "use gm_draw::pictured::{Picture, Pictured, Style};" if square else "use gm_draw::pictured::{Mover, Picture, Pictured, Style};",
-        "use gm_game::game::Game;",
-        "use gm_game::position::End;",
-        "use gm_game::shown::Shown;",
-        None if table.is_whole_square else "use gm_patterns::least::least_index_under;",
-        "use gm_patterns::on_patterns::OnPatterns;",
-        "use gm_patterns::pattern::Pattern;",
-        "use gm_patterns::picture::{PicturedPatterns, on_square};" if square else "use gm_patterns::picture::PicturedPatterns;",
-        "use gm_patterns::rules::{Basics, Meaning, PatternRules, Tiers};",
-        "use gm_patterns::step::Step;",
-        "use gm_patterns::table;",
-        "use gm_pieces::board::Board;",
+        "use gm_patterns::prelude::*;",
+        f"use gm_patterns::{'{on_square, table}' if is_plain_square(table) else 'table'};",
     ]
-    return "\n".join(line for line in lines if line is not None) + "\n"
+    return "\n".join(lines) + "\n"
 
 
 def code_file(table: Table, crate: str) -> str:
@@ -264,7 +240,6 @@ def code_file(table: Table, crate: str) -> str:
         f"/// The tables of {table.title}.\n#[derive(Drop)]\npub struct {name}Rules;\n",
         f"/// {table.title}: {about} (docs/GAMES.md).\npub type {name} = OnPatterns<{n}, {name}Rules>;\n",
         f"impl PatternRules<{n}> for {name}Rules {{\n    ghost game = {{ {it}_game }};\n\n" + "\n".join(methods(table)) + "}\n",
-        look_code(table),
         f"""/// The rules, texts and look of {table.title} are those that `specs/` states.
 pub fn {it}_is()
     ensures rules {{ ⟦<{name} as Game>⟧.rules ≡ pattern_rules {n} {it}_game }}

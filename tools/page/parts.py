@@ -45,9 +45,17 @@ class Balanced(html.parser.HTMLParser):
             self.bad.append(tag)
 
 
+# The head of an arrow, which each diagram with an arrow defines by the same text, so that a page may have it several times.
+HEAD = re.compile(r'<defs><marker id="head" viewBox="0 0 6 6"[^>]*><path d="M0 0l6 3-6 3z"[^>]*/></marker></defs>')
+
+
 def wrong_tags(page):
+    text = page.decode("ascii")
+    heads = HEAD.findall(text)
+    if len(set(heads)) > 1:
+        return "two heads of arrows differ"
     reader = Balanced()
-    reader.feed(page.decode("ascii"))
+    reader.feed(text.replace(heads[0], "", len(heads) - 1) if heads else text)
     reader.close()
     if reader.bad or reader.open:
         return f"tags don't pair: {reader.bad + reader.open}"

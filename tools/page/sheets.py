@@ -81,7 +81,10 @@ LISTS = [
     ("", ["dao --value win --remoteness 9 --only-move --limit 3", "hare --value win --whole-line --limit 3", "tactix-3-misere --value win --limit 3"]),
     ("--own-moves", ["krk --value win --remoteness 5 --only-fastest --limit 2", "wheel --value draw --limit 2", "countdown --value lose --limit 2"]),
     ("--no-value --title x<y", ["mutorere --value draw --limit 2", "achi --value win --remoteness 5 --limit 2"]),
-    ("--caption {number}:{side}:{value}:{moves}:{plies}:{game}<", ["krk --value win --remoteness 5 --limit 2", "wheel --value draw --limit 2", "hare --value lose --limit 2"]),
+    ("--sort long --arrow", ["wheel --value draw --limit 2", "krk --value win --remoteness 7..11 --limit 3", "dao --value win --remoteness 3..9 --limit 3", "countdown --value lose --limit 3"]),
+    ("--arrow --own-moves", ["foxhounds --value win --remoteness 9 --limit 2", "notakto --value win --limit 2", "tictactoe --value tie --limit 2"]),
+    ("--sort long --caption {number}:{moves}:{game}", ["mutorere --value draw --limit 2", "hare --value win --remoteness 3..15 --random 4", "achi --value lose --limit 3"]),
+    ("--sort list --caption {number}:{side}:{value}:{moves}:{plies}:{game}<", ["krk --value win --remoteness 5 --limit 2", "wheel --value draw --limit 2", "hare --value lose --limit 2"]),
 ]
 
 # Whose the men are, by the letters of the men, of which `x` are of both sides in games without `o`.
@@ -121,17 +124,23 @@ def under(diagram, value, words, number, game):
     return f"<p>{escaped(template.format(**fields))}</p>"
 
 
+def length(row):
+    """The number of moves to the end that a row of `find` says; more than any for a draw."""
+    return int((row[1].split("\t")[1].partition(" in ")[2]) or 1 << 40)
+
+
 def listed(words, rows, games, folders, title="Puzzles"):
     """The sheet of these rows, each with its game and what `find` says of it."""
     part, items, answers = constants(), "", ""
-    plain = ["--no-value"] if words else []
-    for number, (game, row) in enumerate(rows, 1):
+    plain = ["--no-value"] if any(word in words for word in ("--no-value", "--own-moves", "--caption")) else []
+    for number, (game, row) in enumerate(sorted(rows, key=length) if "--sort long" in words else rows, 1):
         position, value, best, moves = row.split("\t")
         svg = told("show", game, position, "--svg", *plain, "--folder", folders[game])
         solved = solution(game, folders[game], position, value, best, moves)
         items += f"<li><h3>{escaped(HEADS[game]['title'])}</h3>\n{svg}{under(svg, value, words, number, game)}<details><summary>Solution</summary>"
         items += f"<p>{solved}</p>\n<p><code>{escaped(position)}</code></p></details></li>\n"
-        answers += f"<li>{solved}</li>\n"
+        marked = told("show", game, position, "--svg", "--no-value", "--arrow", "--folder", folders[game]) if "--arrow" in words else ""
+        answers += "<li>" + (f'<div style="width:9rem">{marked}</div>' if marked else "") + f"{solved}</li>\n"
     men = {game: letters(game) for game in games}
     legends = "".join(f"<p><b>{escaped(HEADS[game]['title'])}</b>: {WHOSE[men[game]]}</p>\n" for game in games)
     front = part["LIST_FRONT"] + escaped(words.partition("--title ")[2] or title) + part["LIST_LEGENDS"] + legends + part["LIST_PUZZLES"]
@@ -155,6 +164,6 @@ def wrong_newspaper(empty, folder):
     lines, sheet = newspaper(empty)
     rows = [tuple(line.split("\t", 1)) for line in lines.splitlines()]
     games = list(dict.fromkeys(game for game, _ in rows))
-    if sheet != listed("--own-moves", rows, games, {game: folder(game) for game in games}):
+    if sheet != listed("--sort long --own-moves", rows, games, {game: folder(game) for game in games}):
         return "it is not what find, show and line say"
     return wrong_tags(sheet.encode())

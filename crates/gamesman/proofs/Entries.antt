@@ -3,10 +3,10 @@ use Rattle.gamesman.proofs.Lower.{◌≡◌, ℕ, List, Option, None, Some, fals
 use Rattle.std.specs.Prelude.{codes}
 use Rattle.serde_json.specs.Data.{Data, object, member, no_members}
 use Rattle.serde_json.specs.Written.{has_float}
+use Rattle.gm_build.specs.declared.inspect.TierState.{TierState}
 use Rattle.gm_build.specs.declared.work.Work.{Work}
 use Rattle.gm_json.specs.Words.{text, whole}
 use Rattle.gm_play.specs.PlayTexts.{value_word}
-use Rattle.gamesman.specs.declared.finding.Finding.{Finding}
 use Rattle.gamesman.specs.Checking.{finding_tree}
 use Rattle.gamesman.specs.Listing.{AreTheGames, EntryData, entry_tree, whole_or_null}
 use Rattle.gamesman.specs.Solving.{work_tree}
@@ -32,5 +32,5 @@ are_the_games = (refl, refl)
 pub work_no_float : (d : Data) (w : Work) → d ≡ work_tree w → has_float d ≡ false
 work_no_float d w e = rw e refl
 
-pub finding_no_float : (d : Data) (tier : ℕ) (f : Finding) → d ≡ finding_tree tier f → has_float d ≡ false
-finding_no_float d tier f e = rw e refl
+pub finding_no_float : (d : Data) (tier : ℕ) (state : TierState) → d ≡ finding_tree tier state → has_float d ≡ false
+finding_no_float d tier state e = rw e refl

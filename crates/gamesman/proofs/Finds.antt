@@ -1,9 +1,12 @@
 -- The positions found tier by tier, and the tables that they come from.
-use Rattle.gamesman.proofs.Lower.{◌≡◌, ℕ, suc, ◌+◌, inl, inr, Bool, List, [], ◌∷◌, ◌++◌, length, take, drop, Option, None, Some, Result, Ok, Err, refl, sym, ap, subst, ◌∙◌, arith, append-nil, take-append-drop, Contains, flat_map, Appends, Keeps, Appends-trans, Appends-kept, Position, Rules, TableData, AppendsPart, part_after, Found, IsFound, AreChosen, PositionSearch, Fault, NoSuchGame, NoSuchPosition, NoSuchPositionInLine, NoSuchGameInLine, NoSuchTier, NoSuchIndex, NotLegal, NotCanonical, OutOfMemory, NotBuilt, AnotherGames, InputFailed, OutputFailed, OutputClosed, TooMuchInput, EngineNotRead, NotAnEngine, GameSpec, IsCutOff, IsMemoryFault, board_row, AreLinesOf}
-use Rattle.std.proofs.Common.{zero, ◌-◌, ◌⊎◌, map, ap₂, length-append}
+use Rattle.gamesman.proofs.Lower.{◌≡◌, ℕ, suc, ◌+◌, inl, inr, Bool, List, [], ◌∷◌, ◌++◌, length, take, drop, Option, None, Some, Result, Ok, Err, refl, sym, ap, subst, ◌∙◌, arith, append-nil, take-append-drop, Contains, flat_map, Appends, Keeps, Appends-trans, Appends-kept, Position, Rules, TableData, AppendsPart, part_after, Found, IsFound, AreChosen, PositionSearch, Fault, NoSuchGame, NoSuchPosition, NoSuchPositionInLine, NoSuchGameInLine, NoSuchTier, NoSuchIndex, NotLegal, NotCanonical, OutOfMemory, NotBuilt, AnotherGames, InputFailed, OutputFailed, OutputClosed, TooMuchInput, EngineNotRead, NotAnEngine, GameSpec, IsCutOff, IsMemoryFault, board_row, AreLinesOf, HoldsExactly, IsOrderFrom, first_of}
+use Rattle.std.proofs.Common.{zero, ◌-◌, ◌⊎◌, map, ap₂, length-append, MatchOption}
 use Rattle.std.proofs.lemmas.Grind.{flat_map-append}
 use Rattle.gm_game.proofs.Lists.{contains_none, contains_cases}
+use Rattle.gm_tiers.specs.Orders.{IsTierOrder}
 use Rattle.gm_play.specs.Reached.{AreAllHeld}
+use Rattle.gamesman.proofs.Parts.{appends_none}
+use Rattle.gamesman.proofs.Reached.{order_held, reached_held}
 use Rattle.gm_find.specs.Founds.{AreFound, HasTriesAsked, found_position}
 use Rattle.gm_command.specs.declared.requests.LineForm.{LineForm}
 use Rattle.gm_command.specs.declared.requests.Report.{Report}
@@ -29,6 +32,21 @@ held_one r entries tier held t has = elim (contains_cases tier t [] has) [
   | inl e ↦ subst (AreAllHeld r entries) e held
   | inr c ↦ absurd (contains_none t c)
 ]
+
+-- the tiers that are searched: the named one, or all of this order
+abbrev pub AreTiersOf : Option ℕ → List ℕ → List ℕ → Type 0
+AreTiersOf tier order tiers = MatchOption tier (tiers ≡ order) (λ t. tiers ≡ t ∷ [])
+
+module _ (r : Rules) (order tiers : List ℕ) where
+  pub tiers_asked : (tier : Option ℕ) → IsOrderFrom r (first_of r tier) order → AreTiersOf tier order tiers → AreTiersFor r tier tiers
+  tiers_asked None is same = subst (IsTierOrder r) (sym same) is
+  tiers_asked (Some tier) is one = one
+
+  pub tiers_held : (entries : List TableData) (tier : Option ℕ) → IsOrderFrom r (first_of r tier) order → HoldsExactly entries order
+      → AreTiersOf tier order tiers → (t : ℕ) → Contains tiers t → AreAllHeld r entries t
+  tiers_held entries None is held same t has = order_held r entries order r.initial.tier is held t (subst (λ (ts : List ℕ). Contains ts t) same has)
+  tiers_held entries (Some tier) is held one t has =
+      held_one r entries tier (reached_held r entries order tier is held) t (subst (λ (ts : List ℕ). Contains ts t) one has)
 
 -- ---- the texts
 joined : (f : Found → List ℕ) (xs ys : List Found) (out more : List ℕ) → out ≡ flat_map f xs → more ≡ flat_map f ys → out ++ more ≡ flat_map f (xs ++ ys)
@@ -99,17 +117,13 @@ neither : ⊥ ⊎ ⊥ → ⊥
 neither (inl x) = x
 neither (inr x) = x
 
-append_none : (o : Option (List ℕ)) → Appends o o []
-append_none None = tt
-append_none (Some xs) = sym (append-nil xs)
-
 module _ (g : GameSpec) (asked : PositionSearch) (form : LineForm) (limit : ℕ) (lines : asked.report ≡ Lines form) (first : asked.choice ≡ First limit) where
   -- lines are the text that is asked for
   as_asked : (xs : List Found) (text : List ℕ) → AreLinesOf g form xs text → IsTextOf g asked.report xs text
   as_asked xs text is = subst (λ (report : Report). IsTextOf g report xs text) (sym lines) is
 
   pub so_far_none : (o : Option (List ℕ)) → IsSoFar g asked form limit [] o o limit
-  so_far_none o = ([], found_none g.rules asked.sought asked.reached limit, omega arith, ([], lines_none g form, append_none o))
+  so_far_none o = ([], found_none g.rules asked.sought asked.reached limit, omega arith, ([], lines_none g form, appends_none o))
 
   so_far_more : (tiers : List ℕ) (tier n next left : ℕ) (a b c : Option (List ℕ)) → IsSoFar g asked form limit tiers a b left → IsTierTold g asked form tier left b c
       (Ok n) → next ≡ left - n

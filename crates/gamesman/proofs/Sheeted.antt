@@ -15,15 +15,16 @@ use Rattle.gm_play.specs.PlayTexts.{IsReadAs}
 use Rattle.gm_play.specs.Dialogue.{without_return}
 use Rattle.gm_play.proofs.Rows.{flat_more}
 use Rattle.gm_command.specs.declared.names.GameName.{GameName}
-use Rattle.gm_caption.specs.declared.caption.Caption.{Caption}
 use Rattle.gm_page.specs.declared.puzzles.Puzzle.{Puzzle}
-use Rattle.gm_page.specs.Puzzles.{legend_of, listed_sheet}
+use Rattle.gm_page.specs.declared.puzzles.SheetLook.{SheetLook}
+use Rattle.gm_page.specs.Puzzles.{legend_of}
+use Rattle.gm_command.specs.declared.requests.SheetRequest.{SheetRequest}
 use Rattle.gamesman.specs.declared.list.ListLine.{ListLine}
 use Rattle.gamesman.specs.declared.list.PositionList.{PositionList}
 use Rattle.gamesman.specs.declared.sheet.Parts.{Parts}
 use Rattle.gamesman.specs.Games.{spec_of}
 use Rattle.gamesman.specs.Lists.{IsPlaced, IsGameAdded, IsOfGame, IsNamed, IsFirstLine, AreGamesOf, IsListOf, IsNoLine, IsWholeInput, text_on}
-use Rattle.gamesman.specs.Listed.{AreFilled, IsPartOf, IsNoPuzzle, IsUnfilled, IsOfSome, AreOfSome, AreAllOfSome, AreAllFilled, IsPuzzleOf, IsPuzzleAt, IsListedSheet, IsNoSheet, IsNoSheetOfInput}
+use Rattle.gamesman.specs.Listed.{AreFilled, IsPartOf, IsNoPuzzle, IsUnfilled, IsOfSome, AreOfSome, AreAllOfSome, AreAllFilled, IsPuzzleOf, IsPuzzleAt, look_of, IsOrderedSheet, IsSheetWith, IsListedSheet, IsNoSheet, IsNoSheetOfInput}
 
 pub some_inj : {X : Type 0} {x y : X} → Some x ≡ Some y → x ≡ y
 some_inj {X} {x} {y} e = ap (λ (o : Option X). elim o [ None ↦ x | Some z ↦ z ]) e
@@ -252,14 +253,14 @@ below m k less = grind (arith, less)
 apart : (m k : ℕ) → m < k → m ≡ k → ⊥
 apart m k less same = absurd (omega (arith, less, same))
 
-module _ (g : GameSpec) (caption : Caption) (k : ℕ) (lines : List ListLine) (j : ℕ) (line : ListLine) (at : slice_get lines j ≡ Some line)
-    (start old : List Puzzle) (so_far : AreFilled g caption k lines j start old) where
+module _ (g : GameSpec) (look : SheetLook) (k : ℕ) (lines : List ListLine) (j : ℕ) (line : ListLine) (at : slice_get lines j ≡ Some line)
+    (start old : List Puzzle) (so_far : AreFilled g look k lines j start old) where
   same_line : (i : ℕ) (l : ListLine) → slice_get lines i ≡ Some l → i ≡ j → l ≡ line
   same_line i l there one = some_inj (sym there ∙ ap (slice_get lines) one ∙ at)
 
   -- the puzzle of one line more is made
-  pub fill_one : (p : Puzzle) → line.game ≡ k → j < length old → IsPuzzleOf g caption (j + 1) line.text.items p
-      → AreFilled g caption k lines (j + 1) start (set old j p)
+  pub fill_one : (p : Puzzle) → line.game ≡ k → j < length old → IsPuzzleOf g look line.text.items p
+      → AreFilled g look k lines (j + 1) start (set old j p)
   fill_one p same less is = record {
     many = set_long old j p ∙ so_far.many;
     here = λ i l there place before. elim (below i j before) [
@@ -267,8 +268,7 @@ module _ (g : GameSpec) (caption : Caption) (k : ℕ) (lines : List ListLine) (j
       | inr one ↦ (
         p,
         subst (λ (n : ℕ). slice_get (set old j p) n ≡ Some p) (sym one) (set_here old j p less),
-        subst (λ (n : ℕ). IsPuzzleOf g caption (n + 1) l.text.items p) (sym one)
-            (subst (λ (x : ListLine). IsPuzzleOf g caption (j + 1) x.text.items p) (sym (same_line i l there one)) is),
+        subst (λ (x : ListLine). IsPuzzleOf g look x.text.items p) (sym (same_line i l there one)) is,
       )
     ];
     others = λ i l there not.
@@ -276,7 +276,7 @@ module _ (g : GameSpec) (caption : Caption) (k : ℕ) (lines : List ListLine) (j
   }
 
   -- the line is of another game
-  pub fill_none : (line.game ≡ k → ⊥) → AreFilled g caption k lines (j + 1) start old
+  pub fill_none : (line.game ≡ k → ⊥) → AreFilled g look k lines (j + 1) start old
   fill_none not_here = record {
     many = so_far.many;
     here = λ i l there place before. elim (below i j before) [
@@ -292,17 +292,17 @@ pub some_held : (g : GameSpec) (text : List ℕ) (p : Position) (entries : List 
 some_held g text p entries order read is held has = (p, read, (is.each p.tier).0 ((held p.tier).0 has))
 
 -- no line is filled yet
-pub fill_begins : (g : GameSpec) (caption : Caption) (k : ℕ) (lines : List ListLine) (start : List Puzzle) → AreFilled g caption k lines 0 start start
-fill_begins g caption k lines start = record {
+pub fill_begins : (g : GameSpec) (look : SheetLook) (k : ℕ) (lines : List ListLine) (start : List Puzzle) → AreFilled g look k lines 0 start start
+fill_begins g look k lines start = record {
   many = refl;
   here = λ j l there place less. absurd (omega (arith, less));
   others = λ j l there not. refl;
 }
 
 -- the lines before have their puzzles, so they are those of positions
-pub some_before : (g : GameSpec) (caption : Caption) (k : ℕ) (lines : List ListLine) (j : ℕ) (start old : List Puzzle)
-    → AreFilled g caption k lines j start old → AreOfSome g k lines j
-some_before g caption k lines j start old filled i l there place less = let (p, found, made) = filled.here i l there place less in made.1
+pub some_before : (g : GameSpec) (look : SheetLook) (k : ℕ) (lines : List ListLine) (j : ℕ) (start old : List Puzzle)
+    → AreFilled g look k lines j start old → AreOfSome g k lines j
+some_before g look k lines j start old filled i l there place less = let (p, found, made) = filled.here i l there place less in made.1
 
 pub puzzle_fault : (g : GameSpec) (k j : ℕ) (lines : List ListLine) (l : ListLine) → slice_get lines j ≡ Some l → l.game ≡ k → AreOfSome g k lines j
     → (fault : Fault) → IsNoPuzzle g l.text.items (j + 1) fault → IsUnfilled g k lines fault
@@ -345,8 +345,8 @@ build_fault g k lines NotAnEngine is = absurd is
 
 -- ---- several games
 -- the lines of the games before the place k have their puzzles, so they are those of positions
-pub all_some_before : (caption : Caption) (list : PositionList) (k : ℕ) (parts : Parts) → AreAllFilled caption list k parts → AreAllOfSome list k
-all_some_before caption list k parts so_far j l game here place less = let (p, there, made) = so_far.made j l game here place less in made.1
+pub all_some_before : (look : SheetLook) (list : PositionList) (k : ℕ) (parts : Parts) → AreAllFilled look list k parts → AreAllOfSome list k
+all_some_before look list k parts so_far j l game here place less = let (p, there, made) = so_far.made j l game here place less in made.1
 
 -- a line that is looked up before that at the place j, of the game at the place k
 earlier_some : (all : Option GameName) (list : PositionList) (lines : List (List ℕ)) → IsListOf all lines list → (k : ℕ) (game : GameName)
@@ -408,9 +408,9 @@ game_fault all list lines are k game at before EngineNotRead is = (list.games.it
 game_fault all list lines are k game at before NotAnEngine is = (list.games.items, are.are_games, k, game, at, is)
 
 -- one game more
-pub filled_more : (caption : Caption) (list : PositionList) (k : ℕ) (game : GameName) (old new : Parts) → slice_get list.games.items k ≡ Some game
-    → AreAllFilled caption list k old → IsPartOf (spec_of game) caption k list.lines.items old new → AreAllFilled caption list (k + 1) new
-filled_more caption list k game old new at so_far part = record {
+pub filled_more : (look : SheetLook) (list : PositionList) (k : ℕ) (game : GameName) (old new : Parts) → slice_get list.games.items k ≡ Some game
+    → AreAllFilled look list k old → IsPartOf (spec_of game) look k list.lines.items old new → AreAllFilled look list (k + 1) new
+filled_more look list k game old new at so_far part = record {
   many = part.filled.many ∙ so_far.many;
   made = λ j l other here place less. elim (below l.game k less) [
     | inl before ↦ (
@@ -418,7 +418,7 @@ filled_more caption list k game old new at so_far part = record {
         (p, part.filled.others j l here (λ same. apart l.game k before same) ∙ there, is))
     | inr same ↦ (
         let one : game ≡ other = some_inj (sym at ∙ ap (slice_get list.games.items) (sym same) ∙ place) in
-        subst (λ (g : GameName). IsPuzzleAt (spec_of g) caption l.text.items new.puzzles.items j) one (part.filled.here j l here same (slice_get_within list.lines.items j l here)))
+        subst (λ (g : GameName). IsPuzzleAt (spec_of g) look l.text.items new.puzzles.items j) one (part.filled.here j l here same (slice_get_within list.lines.items j l here)))
   ];
   legends = flat_more (λ (g : GameName). legend_of (spec_of g)) list.games.items k game old.legends.items new.legends.items (legend_of (spec_of game))
       (slice_get_within list.games.items k game at) so_far.legends part.legends
@@ -426,10 +426,10 @@ filled_more caption list k game old new at so_far part = record {
 }
 
 -- all games
-pub sheet_filled : (all : Option GameName) (caption : Caption) (title : List ℕ) (list : PositionList) (lines : List (List ℕ)) (parts : Parts) (out : List ℕ)
-    → AreAllFilled caption list (length list.games.items) parts → out ≡ listed_sheet title parts.legends.items parts.puzzles.items → IsListOf all lines list
-    → IsListedSheet all caption title lines out
-sheet_filled all caption title list lines parts out filled is are = record {
+pub sheet_filled : (all : Option GameName) (request : SheetRequest) (list : PositionList) (lines : List (List ℕ)) (parts : Parts) (out : List ℕ)
+    → AreAllFilled (look_of request) list (length list.games.items) parts → IsSheetWith request parts out → IsListOf all lines list
+    → IsListedSheet all request lines out
+sheet_filled all request list lines parts out filled is are = record {
   games = list.games.items;
   are_games = are.are_games;
   puzzles = parts.puzzles.items;
@@ -439,13 +439,13 @@ sheet_filled all caption title list lines parts out filled is are = record {
         let (l, there, (game, named, place, text)) = placed all list.games.items lines list.lines.items j line are.placed here in (
           game,
           named,
-          subst (λ (t : List ℕ). IsPuzzleAt (spec_of game) caption t parts.puzzles.items j) text
+          subst (λ (t : List ℕ). IsPuzzleAt (spec_of game) (look_of request) t parts.puzzles.items j) text
               (filled.made j l game there place (slice_get_within list.games.items l.game game place)),
         ));
   };
-  out_is = is ∙ ap (λ (t : List ℕ). listed_sheet title t parts.puzzles.items)
+  sheet = subst (λ (t : List ℕ). IsOrderedSheet request t parts.puzzles.items out)
       (filled.legends ∙ ap (flat_map (λ (g : GameName). legend_of (spec_of g)))
-      (take_all (length list.games.items) list.games.items (omega arith)));
+      (take_all (length list.games.items) list.games.items (omega arith))) is;
 }
 
 -- ---- inputs

@@ -1,29 +1,25 @@
 -- The output of `check` on the files of a game.
-use Rattle.std.specs.Prelude.{◌≡◌, ℕ, ◌⊎◌, Bool, true, false, List, [], ◌∷◌, ◌++◌, codes, Option, None, Some, IsTrue, Result, Ok, Err}
+use Rattle.std.specs.Prelude.{◌≡◌, ℕ, ◌⊎◌, Bool, true, false, List, [], ◌∷◌, ◌++◌, codes, Option, Result, Ok, Err}
 use Rattle.std.specs.Result.{IsErrAnd}
 use Rattle.std.specs.Fmt.{decimal}
 use Rattle.std.specs.Io.KnownBytes.{Keeps, Appends}
 use Rattle.serde_json.specs.Data.{Data, object, member, no_members}
 use Rattle.gm_game.specs.Rules.{Rules}
-use Rattle.gm_table.specs.Tables.{TableData, AreTables, AreHeld}
+use Rattle.gm_table.specs.Tables.{TableData, AreTables}
 use Rattle.gm_tiers.specs.Orders.{IsTierOrder}
 use Rattle.gm_tierdb.specs.declared.file_error.FileError.{FileError}
-use Rattle.gm_tierdb.specs.Refusals.{Refuses}
 use Rattle.gm_json.specs.Words.{whole, text, line_of}
-use Rattle.gm_build.specs.TrueTexts.{IsTrueText}
-use Rattle.gm_build.specs.Inspections.{IsUntrueText}
+use Rattle.gm_build.specs.Inspections.{IsTierState}
 use Rattle.gm_build.specs.declared.build_error.BuildError.TheVariants.{StoreFailed}
 use Rattle.gm_build.specs.Work.{HoldsExactly}
 use Rattle.gm_play.specs.Sessions.{AppendsPart}
 use Rattle.gm_tierdb.specs.StoreTexts.{StoreView}
 use Rattle.gm_table.specs.declared.checker.CheckError.TheVariants.{OutOfMemory as NoRoom, WrongSize, WrongRecord}
 use Rattle.gm_tierdb.specs.declared.file_error.FileError.TheVariants.{OutOfMemory, Truncated, BadMagic, WrongGame, WrongTier, WrongSize as OtherSize, BadRecord, Trailing, BadDigest, OldVersion}
-use Rattle.gm_build.specs.declared.inspect.Inspected.{Inspected}
-use Rattle.gm_build.specs.declared.inspect.Inspected.TheVariants.{Right as Found, Missing as Absent, NoFile as BadFile, NoTable as BadTable}
+use Rattle.gm_build.specs.declared.inspect.TierState.{TierState}
+use Rattle.gm_build.specs.declared.inspect.TierState.TheVariants.{Right, Missing, NotChecked, NoFile, NoTable}
 use Rattle.gamesman.specs.declared.fault.Fault.{Fault}
 use Rattle.gamesman.specs.declared.fault.Fault.TheVariants.{NotBuilt}
-use Rattle.gamesman.specs.declared.finding.Finding.{Finding}
-use Rattle.gamesman.specs.declared.finding.Finding.TheVariants.{Right, Missing, NotChecked, NoFile, NoTable}
 use Rattle.gamesman.specs.Outputs.{IsOutputFault}
 use Rattle.gamesman.specs.Refusals.{IsUnbuilt}
 use Rattle.gamesman.specs.Told.{IsMemoryFault}
@@ -42,7 +38,7 @@ file_words BadDigest = codes "bad digest"
 file_words OldVersion = codes "old version"
 
 -- the words for the finding on a tier's file
-abbrev pub finding_words : Finding → List ℕ
+abbrev pub finding_words : TierState → List ℕ
 finding_words Right = codes "ok"
 finding_words Missing = codes "missing"
 finding_words NotChecked = codes "not checked"
@@ -52,66 +48,20 @@ finding_words (NoTable WrongSize) = codes "bad: wrong size"
 finding_words (NoTable NoRoom) = codes "bad: wrong size"
 
 -- the line for a tier
-abbrev pub finding_line : ℕ → Finding → List ℕ
-finding_line tier finding = ((codes "tier " ++ decimal tier) ++ codes " ") ++ finding_words finding ++ codes "\n"
+abbrev pub finding_line : ℕ → TierState → List ℕ
+finding_line tier state = ((codes "tier " ++ decimal tier) ++ codes " ") ++ finding_words state ++ codes "\n"
 
 -- the same as a JSON tree; the members in alphabetical order
-abbrev pub finding_tree : ℕ → Finding → Data
-finding_tree tier finding = object (member (codes "finding") (text (finding_words finding)) (member (codes "tier") (whole tier) no_members))
+abbrev pub finding_tree : ℕ → TierState → Data
+finding_tree tier state = object (member (codes "finding") (text (finding_words state)) (member (codes "tier") (whole tier) no_members))
 
 -- the line for a tier, of JSON or of words
-abbrev pub tier_line : Bool → ℕ → Finding → List ℕ
-tier_line true tier finding = line_of (finding_tree tier finding)
-tier_line false tier finding = finding_line tier finding
-
-module _ (r : Rules) (entries : List TableData) (store : StoreView) (tier : ℕ) where
-  -- the finding on these bytes, over the tables of the child tiers
-  abbrev pub IsFindingIn : List ℕ → Finding → Type 0
-  IsFindingIn bytes Right = IsTrueText r tier bytes
-  IsFindingIn bytes Missing = ⊥
-  IsFindingIn bytes NotChecked = ⊥
-  IsFindingIn bytes (NoFile why) = Refuses r tier bytes why × (IsTrueText r tier bytes → ⊥)
-  IsFindingIn bytes (NoTable why) = IsUntrueText r entries tier bytes why × (IsTrueText r tier bytes → ⊥)
-
-  -- the finding on the bytes that were read, if there were any
-  abbrev pub IsFindingOf : Option (List ℕ) → Finding → Type 0
-  IsFindingOf None finding = finding ≡ Missing
-  IsFindingOf (Some bytes) finding = IsFindingIn bytes finding
-
-  -- these are the tier's bytes, if the reads of the store are promised
-  abbrev pub IsReadOf : Option (List ℕ) → Type 0
-  IsReadOf read = IsTrue store.is_read → read ≡ store.texts tier
-
-  -- the finding on a tier's file, which is read exactly if the tables of all child tiers are held
-  abbrev pub IsFinding : Finding → Type 0
-  IsFinding finding =
-      ((finding ≡ NotChecked) × (AreHeld r entries tier → ⊥)) ⊎ (AreHeld r entries tier × ((read : Option (List ℕ)) × IsReadOf read × IsFindingOf read finding))
-
--- the finding for what an entry is found to be
-abbrev pub finding_for : {G : Type 0} → Inspected G → Finding
-finding_for (Found table) = Right
-finding_for Absent = Missing
-finding_for (BadFile why) = NoFile why
-finding_for (BadTable why) = NoTable why
-
--- the table that was found, if the entry is right
-abbrev pub table_found : {G : Type 0} → Inspected G → Option TableData
-table_found (Found table) = Some table
-table_found Absent = None
-table_found (BadFile why) = None
-table_found (BadTable why) = None
-
--- the tier's table is given exactly if it is right
-abbrev pub IsTableFor : ℕ → Finding → Option TableData → Type 0
-IsTableFor tier Right None = ⊥
-IsTableFor tier Right (Some table) = table.tier ≡ tier
-IsTableFor tier Missing table = table ≡ None
-IsTableFor tier NotChecked table = table ≡ None
-IsTableFor tier (NoFile why) table = table ≡ None
-IsTableFor tier (NoTable why) table = table ≡ None
+abbrev pub tier_line : Bool → ℕ → TierState → List ℕ
+tier_line true tier state = line_of (finding_tree tier state)
+tier_line false tier state = finding_line tier state
 
 -- the tiers that are right, after one more tier
-abbrev pub right_with : ℕ → Finding → List ℕ → List ℕ
+abbrev pub right_with : ℕ → TierState → List ℕ → List ℕ
 right_with tier Right right = tier ∷ right
 right_with tier Missing right = right
 right_with tier NotChecked right = right
@@ -119,36 +69,35 @@ right_with tier (NoFile why) right = right
 right_with tier (NoTable why) right = right
 
 -- the exit status after one more tier: 1 unless all tiers are right
-abbrev pub status_with : ℕ → Finding → ℕ
+abbrev pub status_with : ℕ → TierState → ℕ
 status_with status Right = status
 status_with status Missing = 1
 status_with status NotChecked = 1
 status_with status (NoFile why) = 1
 status_with status (NoTable why) = 1
 
--- the finding on a tier's file, if exactly these of the tiers before it are right
-abbrev pub IsFoundAfter : Rules → StoreView → List ℕ → ℕ → Finding → Type 0
-IsFoundAfter r store right tier finding = (entries : List TableData) × AreTables r entries × HoldsExactly entries right × IsFinding r entries store tier finding
+-- the state of a tier's file, if exactly these of the tiers before it are right
+abbrev pub IsFoundAfter : Rules → StoreView → List ℕ → ℕ → TierState → Type 0
+IsFoundAfter r store right tier state = (entries : List TableData) × AreTables r entries × HoldsExactly entries right × IsTierState r entries store tier state
 
 -- the lines of some tiers, one after another, and the status after them; given are the right tiers and the status before them
 abbrev pub AreLines : Rules → StoreView → Bool → List ℕ → ℕ → List ℕ → List ℕ → ℕ → Type 0
 AreLines r store json right status [] out ends = (out ≡ []) × (ends ≡ status)
-AreLines r store json right status (tier ∷ tiers) out ends = (finding : Finding) × (rest : List ℕ) × IsFoundAfter r store right tier finding
-    × AreLines r store json (right_with tier finding right) (status_with status finding) tiers rest ends × (out ≡ tier_line json tier finding ++ rest)
+AreLines r store json right status (tier ∷ tiers) out ends = (state : TierState) × (rest : List ℕ) × IsFoundAfter r store right tier state
+    × AreLines r store json (right_with tier state right) (status_with status state) tiers rest ends × (out ≡ tier_line json tier state ++ rest)
 
 -- a tier's file is not read to its end: memory is refused, or the read failed
 abbrev pub IsUnreadAt : ℕ → Fault → Type 0
 IsUnreadAt tier fault = IsMemoryFault fault ⊎ (fault ≡ NotBuilt (StoreFailed tier))
 
--- the line of a tier is not written to its end, or memory is refused after it
+-- a tier is not checked to its end: its file is not read, and nothing is written, or its line is not written to its end
 abbrev pub IsTierCut : Rules → List TableData → StoreView → Bool → ℕ → Option (List ℕ) → Option (List ℕ) → Fault → Type 0
 IsTierCut r entries store json tier before after fault = (IsUnreadAt tier fault × Keeps before after)
-    ⊎ ((finding : Finding) × IsFinding r entries store tier finding × ((IsOutputFault fault × AppendsPart before after (tier_line json tier finding))
-    ⊎ (IsMemoryFault fault × Appends before after (tier_line json tier finding))))
+    ⊎ ((state : TierState) × IsTierState r entries store tier state × IsOutputFault fault × AppendsPart before after (tier_line json tier state))
 
--- the reason why a check ends before the remaining tiers: memory is refused, or the next tier's file can't be read
+-- the reason why a check ends before the remaining tiers: the file of the next is not read to its end
 abbrev pub IsFileUnread : List ℕ → Fault → Type 0
-IsFileUnread [] fault = IsMemoryFault fault
+IsFileUnread [] fault = ⊥
 IsFileUnread (tier ∷ tiers) fault = IsUnreadAt tier fault
 
 -- a check ended early: the lines of the tiers before are written, or a first part of them if a write failed

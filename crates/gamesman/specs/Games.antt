@@ -1,5 +1,8 @@
 -- The games by their names: each with its rules, its texts and its drawings.
-use Rattle.std.specs.Prelude.{true, false}
+use Rattle.std.specs.Prelude.{ℕ, true, false, List}
+use Rattle.gm_game.specs.declared.position.Position.{Position}
+use Rattle.gm_game.specs.Rules.{Rules}
+use Rattle.gm_draw.specs.Pictures.{PictureSpec}
 use Rattle.gm_command.specs.declared.names.GameName.{GameName}
 use Rattle.gm_command.specs.declared.names.GameName.TheVariants.{Countdown, Wheel, TacTix1, TacTix2, TacTix3, TacTix4, TacTix5, TacTix1Misere, TacTix2Misere}
 use Rattle.gm_command.specs.declared.names.GameName.TheVariants.{TacTix3Misere, TacTix4Misere, TacTix5Misere, TicTacToe, ThreeMens, Achi, MuTorere, Dao, Hare}
@@ -25,6 +28,14 @@ pub use Rattle.gm_squares.specs.Pictures.{chess_spec, kpk_spec, foxhounds_spec}
 pub use Rattle.gm_tactix.specs.TactixPicture.{tactix_spec}
 pub use Rattle.gm_toys.specs.Pictures.{countdown_spec, takeaway_spec, wheel_spec}
 pub use Rattle.gm_ways.specs.WayPictures.{shisima_spec, tapatan_spec}
+
+-- what a type of a game states: the ghost members of `Pictured`, with those of the traits above it
+abbrev pub Stated : Type 0
+Stated = record { rules : Rules; shown : Position → List ℕ; move_shown : Position → ℕ → List ℕ; picture : PictureSpec }
+
+-- the game of such a type
+abbrev pub spec : Stated → GameSpec
+spec g = game_spec g.rules g.shown g.move_shown g.picture
 
 -- each game by its name
 abbrev pub spec_of : GameName → GameSpec

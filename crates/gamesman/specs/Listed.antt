@@ -10,8 +10,9 @@ use Rattle.gm_play.specs.PlayTexts.{IsReadAs}
 use Rattle.gm_json.specs.Asking.{lines_of}
 use Rattle.gm_caption.specs.declared.caption.Caption.{Caption}
 use Rattle.gm_page.specs.declared.puzzles.Puzzle.{Puzzle}
-use Rattle.gm_caption.specs.Captions.{caption_for}
-use Rattle.gm_page.specs.Puzzles.{IsPuzzle, legend_of, listed_sheet}
+use Rattle.gm_page.specs.declared.puzzles.SheetLook.{SheetLook}
+use Rattle.gm_caption.specs.Captions.{caption_for, is_valued}
+use Rattle.gm_page.specs.Puzzles.{IsPuzzle, IsSheetOrder, legend_of, listed_sheet}
 use Rattle.gm_command.specs.declared.names.GameName.{GameName}
 use Rattle.gm_command.specs.Names.{game_of_name}
 use Rattle.gm_command.specs.declared.requests.SheetRequest.{SheetRequest}
@@ -31,23 +32,23 @@ use Rattle.gamesman.specs.Told.{IsTold}
 abbrev pub IsOfSome : GameSpec → List ℕ → Type 0
 IsOfSome g text = (p : Position) × IsReadAs g.rules g.shown g.move_shown text p × IsReached g.rules p.tier
 
--- the puzzle is that of the position of the game with this text, and has this number
-abbrev pub IsPuzzleOf : GameSpec → Caption → ℕ → List ℕ → Puzzle → Type 0
-IsPuzzleOf g caption number text p = IsPuzzle g caption number text p × IsOfSome g text
+-- the puzzle is that of the position of the game with this text
+abbrev pub IsPuzzleOf : GameSpec → SheetLook → List ℕ → Puzzle → Type 0
+IsPuzzleOf g look text p = IsPuzzle g look text p × IsOfSome g text
 
--- the puzzle at this place is, with the number of its line
-abbrev pub IsPuzzleAt : GameSpec → Caption → List ℕ → List Puzzle → ℕ → Type 0
-IsPuzzleAt g caption text puzzles j = (p : Puzzle) × (slice_get puzzles j ≡ Some p) × IsPuzzleOf g caption (j + 1) text p
+-- the puzzle at this place is
+abbrev pub IsPuzzleAt : GameSpec → SheetLook → List ℕ → List Puzzle → ℕ → Type 0
+IsPuzzleAt g look text puzzles j = (p : Puzzle) × (slice_get puzzles j ≡ Some p) × IsPuzzleOf g look text p
 
 -- of the first n lines those whose game is at the place k have their puzzles, and no other puzzle changes
-pub record AreFilled (g : GameSpec) (caption : Caption) (k : ℕ) (lines : List ListLine) (n : ℕ) (old new : List Puzzle) : Type 0 where
+pub record AreFilled (g : GameSpec) (look : SheetLook) (k : ℕ) (lines : List ListLine) (n : ℕ) (old new : List Puzzle) : Type 0 where
   pub many : length new ≡ length old
-  pub here : (j : ℕ) (l : ListLine) → slice_get lines j ≡ Some l → l.game ≡ k → j < n → IsPuzzleAt g caption l.text.items new j
+  pub here : (j : ℕ) (l : ListLine) → slice_get lines j ≡ Some l → l.game ≡ k → j < n → IsPuzzleAt g look l.text.items new j
   pub others : (j : ℕ) (l : ListLine) → slice_get lines j ≡ Some l → (l.game ≡ k → ⊥) → slice_get new j ≡ slice_get old j
 
 -- those puzzles are made, and the line on who is who is added
-pub record IsPartOf (g : GameSpec) (caption : Caption) (k : ℕ) (lines : List ListLine) (old new : Parts) : Type 0 where
-  pub filled : AreFilled g caption k lines (length lines) old.puzzles.items new.puzzles.items
+pub record IsPartOf (g : GameSpec) (look : SheetLook) (k : ℕ) (lines : List ListLine) (old new : Parts) : Type 0 where
+  pub filled : AreFilled g look k lines (length lines) old.puzzles.items new.puzzles.items
   pub legends : new.legends.items ≡ old.legends.items ++ legend_of g
 
 -- no position of the game has the text of the line with this number
@@ -67,15 +68,15 @@ IsUnfilled g k lines (NoSuchPositionInLine n) =
 IsUnfilled g k lines fault = IsUnbuilt g.rules g.rules.initial.tier fault
 
 -- the parts of a sheet for the game are made, or not, with the reason
-unfoldable pub IsFilledBy : GameSpec → Caption → ℕ → List ListLine → Parts → Parts → Result Unit Fault → Type 0
-IsFilledBy g caption k lines old new result = OnOk result (IsPartOf g caption k lines old new) × IfErr result (IsUnfilled g k lines)
+unfoldable pub IsFilledBy : GameSpec → SheetLook → ℕ → List ListLine → Parts → Parts → Result Unit Fault → Type 0
+IsFilledBy g look k lines old new result = OnOk result (IsPartOf g look k lines old new) × IfErr result (IsUnfilled g k lines)
 
 -- ---- several games
 -- the puzzles of those lines are made whose game is before the place k, and the lines on who is who in these games
-pub record AreAllFilled (caption : Caption) (list : PositionList) (k : ℕ) (parts : Parts) : Type 0 where
+pub record AreAllFilled (look : SheetLook) (list : PositionList) (k : ℕ) (parts : Parts) : Type 0 where
   pub many : length parts.puzzles.items ≡ length list.lines.items
   pub made : (j : ℕ) (l : ListLine) (game : GameName) → slice_get list.lines.items j ≡ Some l → slice_get list.games.items l.game ≡ Some game → l.game < k
-      → IsPuzzleAt (spec_of game) caption l.text.items parts.puzzles.items j
+      → IsPuzzleAt (spec_of game) look l.text.items parts.puzzles.items j
   pub legends : parts.legends.items ≡ flat_map (λ game. legend_of (spec_of game)) (take k list.games.items)
 
 -- the lines of the games before the place k are those of positions
@@ -90,22 +91,39 @@ IsUnfilledOf list fault = (k : ℕ) × (game : GameName) × (slice_get list.game
 
 -- ---- lists
 -- there is a puzzle for each line, in their order
-pub record ArePuzzles (all : Option GameName) (caption : Caption) (lines : List (List ℕ)) (puzzles : List Puzzle) : Type 0 where
+pub record ArePuzzles (all : Option GameName) (look : SheetLook) (lines : List (List ℕ)) (puzzles : List Puzzle) : Type 0 where
   pub many : length puzzles ≡ length lines
   pub each : (j : ℕ) (line : List ℕ) → slice_get lines j ≡ Some line → (game : GameName) × IsOfGame all line game
-      × IsPuzzleAt (spec_of game) caption (text_on all (without_return line)) puzzles j
+      × IsPuzzleAt (spec_of game) look (text_on all (without_return line)) puzzles j
 
 -- the heading
 abbrev pub title_of : Option (Bor (List ℕ)) → List ℕ
 title_of title = elim title [ None ↦ codes "Puzzles" | Some text ↦ text.now ]
 
--- the sheet of these lines: their puzzles, and the lines on who is who in each of their games
-pub record IsListedSheet (all : Option GameName) (caption : Caption) (title : List ℕ) (lines : List (List ℕ)) (out : List ℕ) : Type 0 where
+-- what is shown of each value
+abbrev pub sheet_caption : SheetRequest → Caption
+sheet_caption request = caption_for request.template request.valued request.own_moves
+
+-- what the diagrams show
+abbrev pub look_of : SheetRequest → SheetLook
+look_of request = record { valued = is_valued (sheet_caption request); arrow = request.arrow }
+
+-- the sheet of these puzzles in the order that is asked for, with these lines on who is who
+pub record IsOrderedSheet (request : SheetRequest) (legends : List ℕ) (puzzles : List Puzzle) (out : List ℕ) : Type 0 where
+  pub listed : List Puzzle
+  pub order : IsSheetOrder request.rising puzzles listed
+  pub out_is : out ≡ listed_sheet (title_of request.title) legends (sheet_caption request) listed
+
+abbrev pub IsSheetWith : SheetRequest → Parts → List ℕ → Type 0
+IsSheetWith request parts out = IsOrderedSheet request parts.legends.items parts.puzzles.items out
+
+-- the sheet of these lines: their puzzles in order, and the lines on who is who in each of their games
+pub record IsListedSheet (all : Option GameName) (request : SheetRequest) (lines : List (List ℕ)) (out : List ℕ) : Type 0 where
   pub games : List GameName
   pub are_games : AreGamesOf all lines games
   pub puzzles : List Puzzle
-  pub are_puzzles : ArePuzzles all caption lines puzzles
-  pub out_is : out ≡ listed_sheet title (flat_map (λ game. legend_of (spec_of game)) games) puzzles
+  pub are_puzzles : ArePuzzles all (look_of request) lines puzzles
+  pub sheet : IsOrderedSheet request (flat_map (λ game. legend_of (spec_of game)) games) puzzles out
 
 -- each line is of a game, and no position of its game has the text of the line with this number. The lines that are looked up before it, those of the games
 -- before its game and the earlier ones of its game, have texts of positions
@@ -140,7 +158,7 @@ IsNoSheet all lines fault = IsTableless all lines fault
 -- the sheet of the lines of an input
 abbrev pub IsSheetOfInput : Option GameName → SheetRequest → Option (List ℕ) → List ℕ → Type 0
 IsSheetOfInput all request input out = (bytes : List ℕ) × IsWholeInput input bytes
-    × IsListedSheet all (caption_for request.template request.valued request.own_moves) (title_of request.title) (lines_of bytes) out
+    × IsListedSheet all request (lines_of bytes) out
 
 -- why there is none
 abbrev pub IsNoSheetOfInput : Option GameName → Option (List ℕ) → Fault → Type 0

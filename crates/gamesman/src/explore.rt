@@ -1,6 +1,6 @@
 //! The answers to questions about a position: the values of its moves, and best play from it.
 ghost use Rattle.std.specs.Prelude.{◌≡◌, ◌++◌, codes, IfOk};
-ghost use Rattle.gamesman.specs.Games.{game_spec};
+ghost use Rattle.gamesman.specs.Games.{spec};
 ghost use Rattle.gamesman.specs.Texts.{IsQueryLine, IsValueLine, IsPlacedText, IsMovesText, IsBoardLine, IsDiagramText, IsTextFor};
 
 use gm_command::requests::{DiagramForm, DiagramRequest, Question};
@@ -30,8 +30,7 @@ pub fn text_for<G: Pictured>(
     known: &Known<'_, G>,
     question: Question,
 ) -> Result<Vec<u8>, AllocError>
-    ensures { IfOk result (λ v. IsTextFor (game_spec G.Game.rules G.shown G.move_shown G.picture)
-        question (G.shown known.now.position) v.items) }
+    ensures { IfOk result (λ v. IsTextFor (spec G.Pictured) question (G.shown known.now.position) v.items) }
 {
     match question {
         Question::Value { json: true } => value_json(alloc, known, false),
@@ -117,7 +116,7 @@ fn diagram_for<G: Pictured>(
     known: &Known<'_, G>,
     asked: DiagramRequest,
 ) -> Result<Vec<u8>, AllocError>
-    ensures { IfOk result (λ v. IsDiagramText (game_spec G.Game.rules G.shown G.move_shown G.picture) asked (G.shown known.now.position) v.items) }
+    ensures { IfOk result (λ v. IsDiagramText (spec G.Pictured) asked (G.shown known.now.position) v.items) }
 {
     let look = Look {
         valued: asked.valued,
@@ -131,7 +130,7 @@ fn diagram_for<G: Pictured>(
 
 // Returns the board and the value of a position as a line of JSON.
 fn board_line<G: Pictured>(alloc: Global, known: &Known<'_, G>) -> Result<Vec<u8>, AllocError>
-    ensures { IfOk result (λ v. IsBoardLine (game_spec G.Game.rules G.shown G.move_shown G.picture) (G.shown known.now.position) v.items) }
+    ensures { IfOk result (λ v. IsBoardLine (spec G.Pictured) (G.shown known.now.position) v.items) }
 {
     let p = known.position;
     ended(board_json(alloc, known, draw::<G>(p).as_slice(), mover::<G>(p))?)

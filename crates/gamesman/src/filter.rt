@@ -4,7 +4,7 @@ ghost use Rattle.std.specs.Io.KnownBytes.{Appends};
 ghost use Rattle.gm_tiers.specs.Orders.{IsTierOrder};
 ghost use Rattle.gm_build.specs.Work.{HoldsExactly};
 ghost use Rattle.gm_play.specs.Dialogue.{without_return as without_return_spec};
-ghost use Rattle.gamesman.specs.Games.{game_spec};
+ghost use Rattle.gamesman.specs.Games.{spec};
 ghost use Rattle.gamesman.specs.Texts.{IsTextFor};
 ghost use Rattle.gamesman.specs.Filters.{IsOfNone, IsLineFault, AreLinesAnswered};
 
@@ -35,7 +35,7 @@ pub fn answer_input<G: Pictured, I: Read, O: Write>(
 ) -> Result<u8, Fault>
     requires order { IsTierOrder G.Game.rules built.now.order }
     requires held { HoldsExactly built.now.tables built.now.order }
-    ensures { AreLinesAnswered (IsTextFor (game_spec G.Game.rules G.shown G.move_shown G.picture) question) (IsOfNone G.Game.rules G.shown G.move_shown)
+    ensures { AreLinesAnswered (IsTextFor (spec G.Pictured) question) (IsOfNone G.Game.rules G.shown G.move_shown)
         (I.remaining input.old) (O.contents output.old) (O.contents output.new) result }
 {
     match BufReader::new(alloc, input) {
@@ -56,7 +56,7 @@ where
     I: Drop,
     requires order { IsTierOrder G.Game.rules built.now.order }
     requires held { HoldsExactly built.now.tables built.now.order }
-    ensures { AreLinesAnswered (IsTextFor (game_spec G.Game.rules G.shown G.move_shown G.picture) question) (IsOfNone G.Game.rules G.shown G.move_shown)
+    ensures { AreLinesAnswered (IsTextFor (spec G.Pictured) question) (IsOfNone G.Game.rules G.shown G.move_shown)
         (I.remaining reader) (O.contents output.old) (O.contents output.new) result }
 {
     let mut line: ArrayVec<u8, KEPT> = ArrayVec::new();
@@ -90,9 +90,9 @@ fn answer_line<G: Pictured, O: Write>(
 ) -> Result<(), Fault>
     requires order { IsTierOrder G.Game.rules built.now.order }
     requires held { HoldsExactly built.now.tables built.now.order }
-    ensures ok { OnOk result ((out : List ℕ) × IsTextFor (game_spec G.Game.rules G.shown G.move_shown G.picture) question (without_return_spec line.now) out
+    ensures ok { OnOk result ((out : List ℕ) × IsTextFor (spec G.Pictured) question (without_return_spec line.now) out
         × Appends (O.contents output.old) (O.contents output.new) out) }
-    ensures err { IfErr result (IsLineFault (IsTextFor (game_spec G.Game.rules G.shown G.move_shown G.picture) question)
+    ensures err { IfErr result (IsLineFault (IsTextFor (spec G.Pictured) question)
         (IsOfNone G.Game.rules G.shown G.move_shown) line.now number (O.contents output.old) (O.contents output.new)) }
 {
     let Some(position) = G::read(without_return(line)) else {

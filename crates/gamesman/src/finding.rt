@@ -1,4 +1,4 @@
-//! The finding on a tier's file, and its line.
+//! The line of `check` for a tier.
 ghost use Rattle.std.specs.Prelude.{◌≡◌, ◌+◌, ◌≤◌, ◌++◌, IfOk};
 ghost use Rattle.serde_json.specs.View.{view};
 ghost use Rattle.gm_json.specs.Words.{line_of};
@@ -7,6 +7,7 @@ ghost use Rattle.gamesman.specs.Checking.{file_words, finding_words, finding_lin
 
 use crate::run::REFUSED;
 use arrayvec::ArrayVec;
+use gm_build::inspect::TierState;
 use gm_game::limits::LINE;
 use gm_game::shown::Line;
 use gm_game::text::{push_decimal, push_text};
@@ -19,110 +20,98 @@ use std::alloc::{AllocError, Global};
 // A bound on the bytes of a tier's line.
 const ROOM: usize = 2 * LINE + 2;
 
-/// The finding on a tier's file.
-#[derive(Clone, Copy, Debug)]
-pub enum Finding {
-    /// The file has the tier's true table.
-    Right,
-    /// There is no file.
-    Missing,
-    /// A child tier isn't right, so the file isn't read.
-    NotChecked,
-    /// The bytes are not a file of the tier.
-    NoFile(FileError),
-    /// The file has records that are not the tier's.
-    NoTable(CheckError),
+/// Returns the line for a tier whose file has this state, of JSON or of words.
+pub fn line_in(
+    alloc: Global,
+    tier: u64,
+    state: TierState,
+    json: bool,
+) -> Result<Vec<u8>, AllocError>
+    ensures { IfOk result (λ v. v.items ≡ tier_line json tier state) }
+{
+    if json {
+        json_line(alloc, tier, state)
+    } else {
+        words_line(alloc, tier, state)
+    }
 }
 
-impl Finding {
-    /// Returns the line for a tier with this finding, of JSON or of words.
-    pub fn line_in(self, alloc: Global, tier: u64, json: bool) -> Result<Vec<u8>, AllocError>
-        ensures { IfOk result (λ v. v.items ≡ tier_line json tier self) }
-    {
-        if json {
-            self.json(alloc, tier)
-        } else {
-            self.row(alloc, tier)
+// Returns the line of JSON.
+fn json_line(alloc: Global, tier: u64, state: TierState) -> Result<Vec<u8>, AllocError>
+    ensures { IfOk result (λ v. v.items ≡ line_of (finding_tree tier state)) }
+{
+    let tree = tree_of(alloc, tier, state)?;
+    let mut line = Vec::new(alloc);
+    push_line(alloc, &mut line, tree)?;
+    Ok(line)
+}
+
+// Returns the line of words.
+fn words_line(alloc: Global, tier: u64, state: TierState) -> Result<Vec<u8>, AllocError>
+    ensures { IfOk result (λ v. v.items ≡ finding_line tier state) }
+{
+    let mut line = Vec::new(alloc);
+    line.extend_from_slice(line_bytes(tier, state).as_slice())?;
+    Ok(line)
+}
+
+// Returns the finding on a tier's file as a tree.
+fn tree_of(alloc: Global, tier: u64, state: TierState) -> Result<Json, AllocError>
+    ensures { IfOk result (λ v. view v ≡ finding_tree tier state) }
+{
+    let mut members = Map::new(alloc);
+    put_text(alloc, &mut members, "finding", words_of(state).as_slice())?;
+    put(&mut members, alloc, "tier", Json::from(tier))?;
+    Ok(Json::Object(members))
+}
+
+fn line_bytes(tier: u64, state: TierState) -> ArrayVec<u8, ROOM>
+    ensures { result.items ≡ finding_line tier state }
+{
+    let mut head = ArrayVec::new();
+    push_text(&mut head, b"tier ");
+    push_decimal(&mut head, tier);
+    let words = words_of(state);
+    let mut line = ArrayVec::new();
+    let _fits = line.try_extend_from_slice(head.as_slice());
+    line.push(b' ');
+    let _fits = line.try_extend_from_slice(words.as_slice());
+    line.push(b'\n');
+    line
+}
+
+/// Returns the exit status after one more tier, whose file has this state.
+pub fn status_after(state: TierState, before: u8) -> u8
+    ensures { result ≡ status_with before state }
+{
+    match state {
+        TierState::Right => before,
+        TierState::Missing | TierState::NotChecked => REFUSED,
+        TierState::NoFile(_) | TierState::NoTable(_) => REFUSED,
+    }
+}
+
+fn words_of(state: TierState) -> Line
+    ensures { result.items ≡ finding_words state }
+{
+    let mut line = ArrayVec::new();
+    match state {
+        TierState::Right => push_text(&mut line, b"ok"),
+        TierState::Missing => push_text(&mut line, b"missing"),
+        TierState::NotChecked => push_text(&mut line, b"not checked"),
+        TierState::NoFile(why) => {
+            push_text(&mut line, b"bad: ");
+            push_why(&mut line, why);
+        }
+        TierState::NoTable(CheckError::WrongRecord { index }) => {
+            push_text(&mut line, b"bad: wrong record ");
+            push_decimal(&mut line, index);
+        }
+        TierState::NoTable(CheckError::WrongSize | CheckError::OutOfMemory) => {
+            push_text(&mut line, b"bad: wrong size");
         }
     }
-
-    // Returns the line of JSON.
-    fn json(self, alloc: Global, tier: u64) -> Result<Vec<u8>, AllocError>
-        ensures { IfOk result (λ v. v.items ≡ line_of (finding_tree tier self)) }
-    {
-        let tree = self.tree(alloc, tier)?;
-        let mut line = Vec::new(alloc);
-        push_line(alloc, &mut line, tree)?;
-        Ok(line)
-    }
-
-    // Returns the line of words.
-    fn row(self, alloc: Global, tier: u64) -> Result<Vec<u8>, AllocError>
-        ensures { IfOk result (λ v. v.items ≡ finding_line tier self) }
-    {
-        let mut line = Vec::new(alloc);
-        line.extend_from_slice(self.line(tier).as_slice())?;
-        Ok(line)
-    }
-
-    // Returns the finding on a tier as a tree.
-    fn tree(self, alloc: Global, tier: u64) -> Result<Json, AllocError>
-        ensures { IfOk result (λ v. view v ≡ finding_tree tier self) }
-    {
-        let mut members = Map::new(alloc);
-        put_text(alloc, &mut members, "finding", self.words().as_slice())?;
-        put(&mut members, alloc, "tier", Json::from(tier))?;
-        Ok(Json::Object(members))
-    }
-
-    fn line(self, tier: u64) -> ArrayVec<u8, ROOM>
-        ensures { result.items ≡ finding_line tier self }
-    {
-        let mut head = ArrayVec::new();
-        push_text(&mut head, b"tier ");
-        push_decimal(&mut head, tier);
-        let words = self.words();
-        let mut line = ArrayVec::new();
-        let _fits = line.try_extend_from_slice(head.as_slice());
-        line.push(b' ');
-        let _fits = line.try_extend_from_slice(words.as_slice());
-        line.push(b'\n');
-        line
-    }
-
-    /// Returns the exit status after one more tier, which has this finding.
-    pub fn status(self, before: u8) -> u8
-        ensures { result ≡ status_with before self }
-    {
-        match self {
-            Finding::Right => before,
-            Finding::Missing | Finding::NotChecked => REFUSED,
-            Finding::NoFile(_) | Finding::NoTable(_) => REFUSED,
-        }
-    }
-
-    fn words(self) -> Line
-        ensures { result.items ≡ finding_words self }
-    {
-        let mut line = ArrayVec::new();
-        match self {
-            Finding::Right => push_text(&mut line, b"ok"),
-            Finding::Missing => push_text(&mut line, b"missing"),
-            Finding::NotChecked => push_text(&mut line, b"not checked"),
-            Finding::NoFile(why) => {
-                push_text(&mut line, b"bad: ");
-                push_why(&mut line, why);
-            }
-            Finding::NoTable(CheckError::WrongRecord { index }) => {
-                push_text(&mut line, b"bad: wrong record ");
-                push_decimal(&mut line, index);
-            }
-            Finding::NoTable(CheckError::WrongSize | CheckError::OutOfMemory) => {
-                push_text(&mut line, b"bad: wrong size");
-            }
-        }
-        line
-    }
+    line
 }
 
 // Appends the reason why bytes are not a file of a tier.

@@ -2,7 +2,7 @@
 ghost use Rattle.gm_tiers.specs.Orders.{IsOrderFrom};
 ghost use Rattle.gm_build.specs.Work.{HoldsExactly, IsSomeWork};
 ghost use Rattle.std.specs.Prelude.{◌≡◌, true};
-ghost use Rattle.gamesman.specs.Games.{game_spec};
+ghost use Rattle.gamesman.specs.Games.{spec};
 ghost use Rattle.gamesman.specs.inner.Needed.{IsNeeded};
 ghost use Rattle.gamesman.specs.Answers.{IsAnsweredFromTables};
 ghost use Rattle.gamesman.specs.Finds.{AreFoundBy};
@@ -41,8 +41,7 @@ pub fn answer_from_tables<G: Pictured + Send + Sync, R: Host, I: Read, O: Write,
     output: &mut O,
     errors: &mut E,
 ) -> Result<u8, Fault>
-    ensures { IsAnsweredFromTables (game_spec G.Game.rules G.shown G.move_shown G.picture)
-        command.entry (I.remaining input.old) (O.contents output.old) (O.contents output.new) result }
+    ensures { IsAnsweredFromTables (spec G.Pictured) command.entry (I.remaining input.old) (O.contents output.old) (O.contents output.new) result }
 {
     let needs = match needs_of::<G, R>(rt, command) {
         Ok(needs) => needs,
@@ -78,12 +77,11 @@ fn write_answer<G: Pictured, I: Read, O: Write, E: Write>(
     errors: &mut E,
     progress: Telling,
 ) -> Result<u8, Fault>
-    requires needed { IsNeeded (game_spec G.Game.rules G.shown G.move_shown G.picture) command needs.now }
+    requires needed { IsNeeded (spec G.Pictured) command needs.now }
     requires order { IsOrderFrom G.Game.rules needs.now.tier built.now.order }
     requires held { HoldsExactly built.now.tables built.now.order }
     requires work { IsSomeWork G.Game.rules built.now.order built.now.work }
-    ensures { IsAnsweredFromTables (game_spec G.Game.rules G.shown G.move_shown G.picture)
-        command.entry (I.remaining input.old) (O.contents output.old) (O.contents output.new) result }
+    ensures { IsAnsweredFromTables (spec G.Pictured) command.entry (I.remaining input.old) (O.contents output.old) (O.contents output.new) result }
 {
     match command {
         TableCommand::Solve { json } => put_text(output, report_for(alloc, built.work, json)),
@@ -130,8 +128,7 @@ fn find<G: Pictured, O: Write, E: Write>(
 ) -> Result<u8, Fault>
     requires order { IsOrderFrom G.Game.rules (first_of G.Game.rules asked.tier) built.now.order }
     requires held { HoldsExactly built.now.tables built.now.order }
-    ensures { AreFoundBy (game_spec G.Game.rules G.shown G.move_shown G.picture)
-        asked (IsUnsearched G.Game.rules asked.tier) (O.contents output.old) (O.contents output.new) result }
+    ensures { AreFoundBy (spec G.Pictured) asked (IsUnsearched G.Game.rules asked.tier) (O.contents output.old) (O.contents output.new) result }
 {
     let mut any = asked.report == Report::Sheet;
     let written = write_found(alloc, built, asked, &mut any, output);

@@ -1,6 +1,6 @@
 //! The games by their names.
 ghost use Rattle.std.specs.Prelude.{◌≡◌, length};
-ghost use Rattle.gamesman.specs.Games.{game_spec, spec_of};
+ghost use Rattle.gamesman.specs.Games.{spec, spec_of};
 ghost use Rattle.gamesman.specs.Answers.{IsAnswered, IsAnsweredIn};
 ghost use Rattle.gamesman.specs.inner.Services.{done_of};
 ghost use Rattle.gamesman.specs.Listed.{IsFilledBy};
@@ -15,11 +15,11 @@ use crate::naming::write_naming;
 use crate::service::{Ended, Service, answer_asked};
 use crate::sheet::{Parts, fill};
 use crate::tables::BuildOptions;
-use gm_caption::caption::Caption;
 use gm_command::names::GameName;
 use gm_command::requests::GameCommand;
 use gm_command::with_games;
 use gm_draw::pictured::Pictured;
+use gm_page::puzzles::SheetLook;
 use std::io::{Read, Write};
 
 // Returns how a command ended that goes on with no other game.
@@ -42,7 +42,7 @@ fn answer<G: Pictured + Send + Sync, R: Host, I: Read, O: Write, E: Write + Send
     output: &mut O,
     errors: &mut E,
 ) -> Result<Ended, Fault>
-    ensures answered { IsAnsweredIn (game_spec G.Game.rules G.shown G.move_shown G.picture) command.entry service.old service.new
+    ensures answered { IsAnsweredIn (spec G.Pictured) command.entry service.old service.new
         (I.remaining input.old) (I.remaining input.new) (O.contents output.old) (O.contents output.new) result }
     ensures naming { command.entry ≡ GameCommand.Naming → output.new ≡ output.old }
 {
@@ -132,18 +132,18 @@ pub fn fill_for<R: Host, E: Write + Send>(
     game: GameName,
     k: usize,
     lines: &[ListLine],
-    caption: Caption<'_>,
+    look: SheetLook,
     options: BuildOptions<'_>,
     parts: &mut Parts,
     errors: &mut E,
 ) -> Result<(), Fault>
     requires { length parts.old.puzzles.items ≡ length lines.now }
-    ensures { IsFilledBy (spec_of game) caption.entry k lines.now parts.old parts.new result }
+    ensures { IsFilledBy (spec_of game) look k lines.now parts.old parts.new result }
 {
     macro_rules! fills {
         ([] $({ $($name:literal => $game:ident: $type:ty,)* })*) => {
             match game {
-                $($(GameName::$game => fill::<$type, R, E>(rt, k, lines, caption, options, parts, errors),)*)*
+                $($(GameName::$game => fill::<$type, R, E>(rt, k, lines, look, options, parts, errors),)*)*
             }
         };
     }

@@ -4,7 +4,7 @@ ghost use Rattle.std.specs.List.{flat_map};
 ghost use Rattle.serde_json.specs.Data.{object};
 ghost use Rattle.serde_json.specs.View.{members_view};
 ghost use Rattle.gm_json.specs.Words.{line_of};
-ghost use Rattle.gamesman.specs.Games.{game_spec, spec_of};
+ghost use Rattle.gamesman.specs.Games.{spec, spec_of};
 ghost use Rattle.gamesman.specs.Listing.{AreTheGames, AreTextsOf, data_of, entry_data, entry_tree, entry_line, listed_lines, title_line};
 
 use crate::catalog::{LATER_ROWS, ROWS};
@@ -96,7 +96,7 @@ struct Texts {
 
 // Returns the texts of the game of this type.
 fn texts_of<G: Pictured>() -> Texts
-    ensures { AreTextsOf (game_spec G.Game.rules G.shown G.move_shown G.picture) result }
+    ensures { AreTextsOf (spec G.Pictured) result }
 {
     laws::<G>();
     Texts {

@@ -1,7 +1,7 @@
 //! What a command needs before tables are built.
 ghost use Rattle.std.specs.Prelude.{◌≡◌, ◌⊎◌, ℕ, List, [], Option, Err, IfOk, OnOk, IfErr};
 ghost use Rattle.gm_tiers.specs.Reach.{IsReached};
-ghost use Rattle.gamesman.specs.Games.{game_spec};
+ghost use Rattle.gamesman.specs.Games.{spec};
 ghost use Rattle.gamesman.specs.Told.{IsNoPlace, IsUnknown};
 ghost use Rattle.gamesman.specs.Searches.{first_of, IsUnnamed};
 ghost use Rattle.gamesman.specs.inner.Needed.{IsAbout, IsAboutNone, IsAtPlace, IsNeeded, AreDigitsOf, IsEngineFaultOf};
@@ -49,9 +49,9 @@ pub fn needs_of<G: Pictured, R: Files + AllocGlobal>(
     rt: &R,
     command: TableCommand<'_>,
 ) -> Result<Needs, Fault>
-    ensures needed { IfOk result (IsNeeded (game_spec G.Game.rules G.shown G.move_shown G.picture) command.entry) }
+    ensures needed { IfOk result (IsNeeded (spec G.Pictured) command.entry) }
     ensures refused { (input output : Option (List ℕ)) → IfErr result (λ fault. IsAnsweredFromTables
-        (game_spec G.Game.rules G.shown G.move_shown G.picture) command.entry input output output (Err fault)) }
+        (spec G.Pictured) command.entry input output output (Err fault)) }
 {
     match command {
         TableCommand::Explore { position, .. } => needs_at::<G>(rt.alloc(), position),
@@ -70,8 +70,8 @@ pub fn needs_of<G: Pictured, R: Files + AllocGlobal>(
 // Returns what a command about a position needs: about the start if no text is given, and otherwise about the legal position with
 // this text, if there is one.
 fn needs_at<G: Pictured>(alloc: Global, position: Option<&str>) -> Result<Needs, Fault>
-    ensures about { IfOk result (IsAbout (game_spec G.Game.rules G.shown G.move_shown G.picture) position.entry) }
-    ensures refused { IfErr result (IsAboutNone (game_spec G.Game.rules G.shown G.move_shown G.picture) position.entry) }
+    ensures about { IfOk result (IsAbout (spec G.Pictured) position.entry) }
+    ensures refused { IfErr result (IsAboutNone (spec G.Pictured) position.entry) }
 {
     match position {
         None => {

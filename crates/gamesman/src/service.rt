@@ -5,7 +5,7 @@ ghost use Rattle.gm_tiers.specs.Orders.{IsTierOrder};
 ghost use Rattle.gm_build.specs.Work.{HoldsExactly};
 ghost use Rattle.gm_play.specs.Sessions.{AppendsPart};
 ghost use Rattle.gm_json.specs.inner.Feeds.{unread};
-ghost use Rattle.gamesman.specs.Games.{game_spec};
+ghost use Rattle.gamesman.specs.Games.{spec};
 ghost use Rattle.gamesman.specs.Outputs.{IsOutputFault};
 ghost use Rattle.gamesman.specs.Asks.{front_text, ready_text, IsAskedIn};
 
@@ -64,7 +64,7 @@ pub fn answer_asked<G: Pictured + Send + Sync, R: Host, I: Read, O: Write, E: Wr
     output: &mut O,
     errors: &mut E,
 ) -> Result<Ended, Fault>
-    ensures { IsAskedIn asked (game_spec G.Game.rules G.shown G.move_shown G.picture) service.old service.new (I.remaining input.old)
+    ensures { IsAskedIn asked (spec G.Pictured) service.old service.new (I.remaining input.old)
         (I.remaining input.new) (O.contents output.old) (O.contents output.new) result }
 {
     let built = match options.build::<G, R, E>(rt, G::initial().tier, errors) {
@@ -87,7 +87,7 @@ fn serve<G: Pictured, I: Read, O: Write>(
 ) -> Result<Ended, Fault>
     requires order { IsTierOrder G.Game.rules built.now.order }
     requires held { HoldsExactly built.now.tables built.now.order }
-    ensures { IsAskedIn asked (game_spec G.Game.rules G.shown G.move_shown G.picture) service.old service.new (I.remaining input.old)
+    ensures { IsAskedIn asked (spec G.Pictured) service.old service.new (I.remaining input.old)
         (I.remaining input.new) (O.contents output.old) (O.contents output.new) result }
 {
     write_front(asked.ready, service, output)?;

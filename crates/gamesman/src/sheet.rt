@@ -2,11 +2,10 @@
 ghost use Rattle.std.specs.Prelude.{◌≡◌, ◌<◌, ◌+◌, [], length, IfOk, OnOk, IfErr, Option, set, ℕ, List};
 ghost use Rattle.gm_tiers.specs.Orders.{IsTierOrder};
 ghost use Rattle.gm_build.specs.Work.{HoldsExactly};
-ghost use Rattle.gm_page.specs.Puzzles.{listed_sheet as listed_sheet_spec};
 ghost use Rattle.gm_command.specs.declared.names.GameName.{GameName};
-ghost use Rattle.gamesman.specs.Games.{game_spec};
+ghost use Rattle.gamesman.specs.Games.{spec};
 ghost use Rattle.gamesman.specs.Lists.{IsListOf};
-ghost use Rattle.gamesman.specs.Listed.{AreFilled, IsPartOf, IsPuzzleOf, IsNoPuzzle, IsUnfilled, IsFilledBy, AreAllFilled, IsUnfilledOf, title_of, IsListedSheet, IsNoSheet, IsSheetOfInput, IsNoSheetOfInput, IsSheetWritten, IsSheeted};
+ghost use Rattle.gamesman.specs.Listed.{AreFilled, IsPartOf, IsPuzzleOf, IsNoPuzzle, IsUnfilled, IsFilledBy, AreAllFilled, IsUnfilledOf, title_of, sheet_caption, IsSheetWith, IsListedSheet, IsNoSheet, IsSheetOfInput, IsNoSheetOfInput, IsSheetWritten, IsSheeted};
 
 use crate::fault::Fault;
 use crate::games::fill_for;
@@ -20,7 +19,7 @@ use gm_command::names::{GameName, game_named};
 use gm_command::requests::SheetRequest;
 use gm_draw::pictured::Pictured;
 use gm_game::game::laws;
-use gm_page::puzzles::{Puzzle, listed_sheet, push_legend, puzzle_of};
+use gm_page::puzzles::{Puzzle, SheetLook, listed_sheet, push_legend, put_in_order, puzzle_of};
 use gm_play::closed::Closed;
 use std::alloc::{AllocError, Global};
 use std::io::{Read, Write};
@@ -93,10 +92,8 @@ fn sheet_of_input<R: Host, I: Read, E: Write + Send>(
         Ok(list) => list,
         Err(fault) => return Err(fault),
     };
-    let title = title_of(request.title);
-    let caption = Caption::of(request.template, request.valued, request.own_moves);
     let options = BuildOptions::of_sheet(request, terminal);
-    let sheet = sheet_of(rt, &list, title, caption, options, errors);
+    let sheet = sheet_of(rt, &list, request, options, errors);
     drop(list);
     drop(bytes);
     sheet
@@ -112,23 +109,29 @@ fn title_of<'a>(title: Option<&'a str>) -> &'a [u8]
     }
 }
 
+// Returns what is shown of each value.
+fn sheet_caption<'a>(request: SheetRequest<'a>) -> Caption<'a>
+    ensures { result ≡ sheet_caption request.entry }
+{
+    Caption::of(request.template, request.valued, request.own_moves)
+}
+
 // Returns the sheet of the positions of a list.
 fn sheet_of<R: Host, E: Write + Send>(
     rt: &R,
     list: &PositionList,
-    title: &[u8],
-    caption: Caption<'_>,
+    request: SheetRequest<'_>,
     options: BuildOptions<'_>,
     errors: &mut E,
 ) -> Result<Vec<u8>, Fault>
-    ensures ok { IfOk result (λ v. (all : Option GameName) (lines : List (List ℕ)) → IsListOf all lines list.now → IsListedSheet all caption.entry title.now lines v.items) }
+    ensures ok { IfOk result (λ v. (all : Option GameName) (lines : List (List ℕ)) → IsListOf all lines list.now → IsListedSheet all request.entry lines v.items) }
     ensures err { IfErr result (λ fault. (all : Option GameName) (lines : List (List ℕ)) → IsListOf all lines list.now → IsNoSheet all lines fault) }
 {
     let mut parts = match blank_parts(rt.alloc(), list.lines.len()) {
         Ok(parts) => parts,
         Err(error) => return Err(Fault::OutOfMemory(error)),
     };
-    let sheet = filled_sheet(rt, list, title, caption, options, &mut parts, errors);
+    let sheet = filled_sheet(rt, list, request, options, &mut parts, errors);
     drop(parts);
     sheet
 }
@@ -137,33 +140,50 @@ fn sheet_of<R: Host, E: Write + Send>(
 fn filled_sheet<R: Host, E: Write + Send>(
     rt: &R,
     list: &PositionList,
-    title: &[u8],
-    caption: Caption<'_>,
+    request: SheetRequest<'_>,
     options: BuildOptions<'_>,
     parts: &mut Parts,
     errors: &mut E,
 ) -> Result<Vec<u8>, Fault>
     requires many { length parts.old.puzzles.items ≡ length list.now.lines.items }
     requires empty { parts.old.legends.items ≡ [] }
-    ensures ok { IfOk result (λ v. (all : Option GameName) (lines : List (List ℕ)) → IsListOf all lines list.now → IsListedSheet all caption.entry title.now lines v.items) }
+    ensures ok { IfOk result (λ v. (all : Option GameName) (lines : List (List ℕ)) → IsListOf all lines list.now → IsListedSheet all request.entry lines v.items) }
     ensures err { IfErr result (λ fault. (all : Option GameName) (lines : List (List ℕ)) → IsListOf all lines list.now → IsNoSheet all lines fault) }
 {
-    match fill_all(rt, list, caption, options, parts, errors) {
-        Ok(()) => sheet_with(rt.alloc(), title, parts),
+    let look = SheetLook {
+        valued: sheet_caption(request).is_valued(),
+        arrow: request.arrow,
+    };
+    match fill_all(rt, list, look, options, parts, errors) {
+        Ok(()) => sheet_with(rt.alloc(), request, parts),
         Err(fault) => Err(fault),
     }
 }
 
 // Returns the sheet of these parts.
-fn sheet_with(alloc: Global, title: &[u8], parts: &Parts) -> Result<Vec<u8>, Fault>
-    ensures ok { IfOk result (λ v. v.items ≡ listed_sheet_spec title.now parts.now.legends.items parts.now.puzzles.items) }
+fn sheet_with(alloc: Global, request: SheetRequest<'_>, parts: &mut Parts) -> Result<Vec<u8>, Fault>
+    ensures ok { IfOk result (λ v. IsSheetWith request.entry parts.old v.items) }
     ensures err { IfErr result (λ fault. (all : Option GameName) (lines : List (List ℕ)) → IsNoSheet all lines fault) }
 {
-    let legends = parts.legends.as_slice();
-    match listed_sheet(alloc, title, legends, parts.puzzles.as_slice()) {
+    match ordered_sheet(alloc, request, parts) {
         Ok(sheet) => Ok(sheet),
         Err(error) => Err(Fault::OutOfMemory(error)),
     }
+}
+
+// Returns the sheet of these parts, whose puzzles it puts in order.
+fn ordered_sheet(
+    alloc: Global,
+    request: SheetRequest<'_>,
+    parts: &mut Parts,
+) -> Result<Vec<u8>, AllocError>
+    ensures { IfOk result (λ v. IsSheetWith request.entry parts.old v.items) }
+{
+    put_in_order(&mut parts.puzzles, request.rising)?;
+    let title = title_of(request.title);
+    let legends = parts.legends.as_slice();
+    let puzzles = parts.puzzles.as_slice();
+    listed_sheet(alloc, title, legends, sheet_caption(request), puzzles)
 }
 
 // Returns the parts of a sheet before any is made, with a blank puzzle for each of this many lines.
@@ -184,18 +204,18 @@ fn blank_parts(alloc: Global, count: usize) -> Result<Parts, AllocError>
 fn fill_all<R: Host, E: Write + Send>(
     rt: &R,
     list: &PositionList,
-    caption: Caption<'_>,
+    look: SheetLook,
     options: BuildOptions<'_>,
     parts: &mut Parts,
     errors: &mut E,
 ) -> Result<(), Fault>
     requires many { length parts.old.puzzles.items ≡ length list.now.lines.items }
     requires empty { parts.old.legends.items ≡ [] }
-    ensures ok { OnOk result (AreAllFilled caption.entry list.now (length list.now.games.items) parts.new) }
+    ensures ok { OnOk result (AreAllFilled look list.now (length list.now.games.items) parts.new) }
     ensures err { IfErr result (IsUnfilledOf list.now) }
 {
     for k in 0..list.games.len() {
-        fill_at(rt, list, k, caption, options, parts, errors)?;
+        fill_at(rt, list, k, look, options, parts, errors)?;
     }
     Ok(())
 }
@@ -205,19 +225,19 @@ fn fill_at<R: Host, E: Write + Send>(
     rt: &R,
     list: &PositionList,
     k: usize,
-    caption: Caption<'_>,
+    look: SheetLook,
     options: BuildOptions<'_>,
     parts: &mut Parts,
     errors: &mut E,
 ) -> Result<(), Fault>
     requires within { k < length list.now.games.items }
-    requires before { AreAllFilled caption list.now k parts.old }
-    ensures ok { OnOk result (AreAllFilled caption.entry list.now (k + 1) parts.new) }
+    requires before { AreAllFilled look list.now k parts.old }
+    ensures ok { OnOk result (AreAllFilled look list.now (k + 1) parts.new) }
     ensures err { IfErr result (IsUnfilledOf list.now) }
 {
     let game = game_at(list.games.as_slice(), k);
     let lines = list.lines.as_slice();
-    fill_for(rt, game, k, lines, caption, options, parts, errors)
+    fill_for(rt, game, k, lines, look, options, parts, errors)
 }
 
 /// Makes the parts of a sheet for those lines of a list whose game, of this type, is at the place k.
@@ -225,20 +245,20 @@ pub fn fill<G: Pictured + Send + Sync, R: Host, E: Write + Send>(
     rt: &R,
     k: usize,
     lines: &[ListLine],
-    caption: Caption<'_>,
+    look: SheetLook,
     options: BuildOptions<'_>,
     parts: &mut Parts,
     errors: &mut E,
 ) -> Result<(), Fault>
     requires { length parts.old.puzzles.items ≡ length lines.now }
-    ensures { IsFilledBy (game_spec G.Game.rules G.shown G.move_shown G.picture) caption.entry k lines.now parts.old parts.new result }
+    ensures { IsFilledBy (spec G.Pictured) look k lines.now parts.old parts.new result }
 {
     laws::<G>();
     let built = match options.build::<G, R, E>(rt, G::initial().tier, errors) {
         Ok(built) => built,
         Err(fault) => return Err(fault),
     };
-    let filled = fill_from(rt.alloc(), &built, k, lines, caption, parts);
+    let filled = fill_from(rt.alloc(), &built, k, lines, look, parts);
     drop(built);
     filled
 }
@@ -249,17 +269,17 @@ fn fill_from<G: Pictured>(
     built: &Built<G>,
     k: usize,
     lines: &[ListLine],
-    caption: Caption<'_>,
+    look: SheetLook,
     parts: &mut Parts,
 ) -> Result<(), Fault>
     requires order { IsTierOrder G.Game.rules built.now.order }
     requires held { HoldsExactly built.now.tables built.now.order }
     requires many { length parts.old.puzzles.items ≡ length lines.now }
-    ensures ok { OnOk result (IsPartOf (game_spec G.Game.rules G.shown G.move_shown G.picture) caption.entry k lines.now parts.old parts.new) }
-    ensures err { IfErr result (IsUnfilled (game_spec G.Game.rules G.shown G.move_shown G.picture) k lines.now) }
+    ensures ok { OnOk result (IsPartOf (spec G.Pictured) look k lines.now parts.old parts.new) }
+    ensures err { IfErr result (IsUnfilled (spec G.Pictured) k lines.now) }
 {
     push_legend::<G>(&mut parts.legends)?;
-    fill_lines(alloc, built, k, lines, caption, &mut parts.puzzles)
+    fill_lines(alloc, built, k, lines, look, &mut parts.puzzles)
 }
 
 // Makes the puzzles of those lines whose game is at the place k.
@@ -268,17 +288,17 @@ fn fill_lines<G: Pictured>(
     built: &Built<G>,
     k: usize,
     lines: &[ListLine],
-    caption: Caption<'_>,
+    look: SheetLook,
     puzzles: &mut Vec<Puzzle>,
 ) -> Result<(), Fault>
     requires order { IsTierOrder G.Game.rules built.now.order }
     requires held { HoldsExactly built.now.tables built.now.order }
     requires many { length puzzles.old.items ≡ length lines.now }
-    ensures ok { OnOk result (AreFilled (game_spec G.Game.rules G.shown G.move_shown G.picture) caption.entry k lines.now (length lines.now) puzzles.old.items puzzles.new.items) }
-    ensures err { IfErr result (IsUnfilled (game_spec G.Game.rules G.shown G.move_shown G.picture) k lines.now) }
+    ensures ok { OnOk result (AreFilled (spec G.Pictured) look k lines.now (length lines.now) puzzles.old.items puzzles.new.items) }
+    ensures err { IfErr result (IsUnfilled (spec G.Pictured) k lines.now) }
 {
     for j in 0..lines.len() {
-        fill_line(alloc, built, k, lines, j, caption, puzzles)?;
+        fill_line(alloc, built, k, lines, j, look, puzzles)?;
     }
     Ok(())
 }
@@ -290,7 +310,7 @@ fn fill_line<G: Pictured>(
     k: usize,
     lines: &[ListLine],
     j: usize,
-    caption: Caption<'_>,
+    look: SheetLook,
     puzzles: &mut Vec<Puzzle>,
 ) -> Result<(), Fault>
     requires order { IsTierOrder G.Game.rules built.now.order }
@@ -299,11 +319,11 @@ fn fill_line<G: Pictured>(
     requires many { length puzzles.old.items ≡ length lines.now }
     ensures many { length puzzles.new.items ≡ length puzzles.old.items }
     ensures ok { OnOk result ((start : List Puzzle)
-        → AreFilled (game_spec G.Game.rules G.shown G.move_shown G.picture) caption.entry k lines.now j start puzzles.old.items
-        → AreFilled (game_spec G.Game.rules G.shown G.move_shown G.picture) caption.entry k lines.now (j + 1) start puzzles.new.items) }
+        → AreFilled (spec G.Pictured) look k lines.now j start puzzles.old.items
+        → AreFilled (spec G.Pictured) look k lines.now (j + 1) start puzzles.new.items) }
     ensures err { IfErr result (λ fault. (start : List Puzzle)
-        → AreFilled (game_spec G.Game.rules G.shown G.move_shown G.picture) caption.entry k lines.now j start puzzles.old.items
-        → IsUnfilled (game_spec G.Game.rules G.shown G.move_shown G.picture) k lines.now fault) }
+        → AreFilled (spec G.Pictured) look k lines.now j start puzzles.old.items
+        → IsUnfilled (spec G.Pictured) k lines.now fault) }
 {
     let line = line_at(lines, j);
     let place = line.game;
@@ -311,7 +331,7 @@ fn fill_line<G: Pictured>(
         return Ok(());
     }
     let number = number_at(lines, j);
-    match puzzle_in(alloc, built, line.text.as_slice(), number, caption) {
+    match puzzle_in(alloc, built, line.text.as_slice(), number, look) {
         Ok(made) => {
             put(puzzles, j, made);
             Ok(())
@@ -338,18 +358,18 @@ fn put(puzzles: &mut Vec<Puzzle>, j: usize, made: Puzzle)
     puzzles[j] = made;
 }
 
-// Returns the puzzle of the position with this text, from the line with this number, which is its number too.
+// Returns the puzzle of the position with this text, from the line with this number.
 fn puzzle_in<G: Pictured>(
     alloc: Global,
     built: &Built<G>,
     text: &[u8],
     line: u64,
-    caption: Caption<'_>,
+    look: SheetLook,
 ) -> Result<Puzzle, Fault>
     requires order { IsTierOrder G.Game.rules built.now.order }
     requires held { HoldsExactly built.now.tables built.now.order }
-    ensures ok { IfOk result (IsPuzzleOf (game_spec G.Game.rules G.shown G.move_shown G.picture) caption.entry line text.now) }
-    ensures err { IfErr result (IsNoPuzzle (game_spec G.Game.rules G.shown G.move_shown G.picture) text.now line) }
+    ensures ok { IfOk result (IsPuzzleOf (spec G.Pictured) look text.now) }
+    ensures err { IfErr result (IsNoPuzzle (spec G.Pictured) text.now line) }
 {
     let Some(position) = G::read(text) else {
         return Err(Fault::NoSuchPositionInLine { line });
@@ -360,7 +380,7 @@ fn puzzle_in<G: Pictured>(
     let Some(known) = tables.known(position) else {
         return Err(Fault::NoSuchPositionInLine { line });
     };
-    match puzzle_of(alloc, &known, caption, line) {
+    match puzzle_of(alloc, &known, look) {
         Ok(puzzle) => Ok(puzzle),
         Err(error) => Err(Fault::OutOfMemory(error)),
     }

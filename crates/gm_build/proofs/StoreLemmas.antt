@@ -3,7 +3,6 @@ use Rattle.gm_build.proofs.Lower.{◌≡◌, ℕ, ◌↔◌, inl, inr, List, [],
 use Rattle.std.proofs.Common.{◌≢◌, ◌==◌, ◌⊎◌, true, false, if◌then◌else◌, IsSome, eqb-true, eq-eqb}
 use Rattle.std.proofs.lemmas.List.Elements.{Contains-append_left, Contains-push, Contains-push_cases}
 use Rattle.gm_build.specs.TrueTexts.{HasText, HasOldText, IsTrueText, IsOldText}
-use Rattle.gm_build.specs.Inspections.{IsInspected, IsInspectedIn}
 use Rattle.gm_build.specs.Work.{HoldsToo}
 use Rattle.gm_table.specs.Tables.{table_of, Inserts, IsHeld}
 use Rattle.gm_build.specs.Outcomes.{MayHaveText}
@@ -11,8 +10,6 @@ use Rattle.gm_tierdb.specs.StoreTexts.{AreSame}
 use Rattle.gm_build.specs.declared.found.Found.{Found}
 use Rattle.gm_build.specs.declared.found.Found.TheVariants.{Current, Old, Nothing}
 use Rattle.gm_build.specs.Findings.{IsFound, IsEntryFound}
-use Rattle.gm_build.specs.declared.inspect.Inspected.{Inspected}
-use Rattle.gm_build.specs.declared.inspect.Inspected.TheVariants.{Right, Missing, NoFile, NoTable}
 
 -- an entry that stays the same stays the text of the true table
 pub text_kept : (r : Rules) (old new : Texts) (tier : ℕ) → new tier ≡ old tier → HasText r old tier → HasText r new tier
@@ -47,15 +44,6 @@ pub found_in : {G : Type 0} → (r : Rules) (texts : Texts) (tier : ℕ) (bytes 
 found_in r texts tier bytes e (Current table) is = ((has_text r texts tier bytes e).1 is.0, λ h. is.1 ((has_old_text r texts tier bytes e).0 h))
 found_in r texts tier bytes e (Old table) is = ((has_old_text r texts tier bytes e).1 is.0, λ h. is.1 ((has_text r texts tier bytes e).0 h))
 found_in r texts tier bytes e Nothing is = (λ h. is.0 ((has_text r texts tier bytes e).0 h), λ h. is.1 ((has_old_text r texts tier bytes e).0 h))
-
--- what the entry is found to be, by its bytes
-pub inspected_in : {G : Type 0} → (r : Rules) (entries : List TableData) (texts : Texts) (tier : ℕ) (bytes : List ℕ) → texts tier ≡ Some bytes
-    → (found : Inspected G)
-    → IsInspected r entries tier bytes found → IsInspectedIn r entries texts tier found
-inspected_in r entries texts tier bytes e (Right table) is = (bytes, e, is)
-inspected_in r entries texts tier bytes e Missing is = absurd is
-inspected_in r entries texts tier bytes e (NoFile why) is = (bytes, e, is)
-inspected_in r entries texts tier bytes e (NoTable why) is = (bytes, e, is)
 
 module _ (r : Rules) (front : List ℕ) (tier : ℕ) (fresh : Contains front tier → ⊥) where
   -- the tier's entry is still as at the start

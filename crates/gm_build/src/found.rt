@@ -8,7 +8,7 @@ ghost use Rattle.gm_build.specs.Findings.{IsOfTier, IsFound, IsEntryFound};
 ghost use Rattle.gm_build.specs.Outcomes.{failures_in, IsTierError};
 
 use crate::build_error::BuildError;
-use crate::inspect::{Inspected, check_beside, inspect_text, read_entry};
+use crate::inspect::{TierState, check_beside, inspect_text, read_entry};
 use gm_game::game::Game;
 use gm_game::limits::{REMOTENESS, TIER_SIZE};
 use gm_table::packed::Packed;
@@ -73,17 +73,20 @@ pub fn read_entry_table<G: Game + Send + Sync, R: Threads + Sync>(
     ensures tier { IfOk result (IsOfTier tier) }
     ensures exact { IfOk result (IsFound G.rules tier bytes.now) }
 {
-    match inspect_text(rt, alloc, tier, bytes, tables) {
-        Ok(Inspected::Right(table)) => Ok(Found::Current(table)),
-        Ok(Inspected::NoFile(FileError::OldVersion)) => {
+    let mut table = None;
+    let state = inspect_text(rt, alloc, tier, bytes, tables, &mut table)?;
+    if let Some(current) = table {
+        return Ok(Found::Current(current));
+    }
+    match state {
+        TierState::NoFile(FileError::OldVersion) => {
             match old_table(rt, alloc, tier, bytes, tables) {
                 Ok(Some(table)) => Ok(Found::Old(table)),
                 Ok(None) => Ok(Found::Nothing),
                 Err(refused) => Err(refused),
             }
         }
-        Ok(_) => Ok(Found::Nothing),
-        Err(refused) => Err(refused),
+        _ => Ok(Found::Nothing),
     }
 }
 

@@ -3,9 +3,9 @@ ghost use Rattle.std.specs.Prelude.{◌≡◌, ◌+◌, ◌<◌, ◌≤◌, ◌�
 ghost use Rattle.gm_table.specs.Tables.{AreHeld, IsTable};
 ghost use Rattle.gm_table.specs.Checks.{AreWrong};
 ghost use Rattle.gm_game.specs.Records.{IsTrueTable};
-ghost use Rattle.gm_tierdb.specs.StoreTexts.{Texts, AreSame};
+ghost use Rattle.gm_tierdb.specs.StoreTexts.{AreSame, store_view};
 ghost use Rattle.gm_tierdb.specs.inner.Seals.{IsSealed};
-ghost use Rattle.gm_build.specs.Inspections.{IsInspected, IsInspectedIn};
+ghost use Rattle.gm_build.specs.Inspections.{IsInspected, IsStateRead, IsTableFor};
 ghost use Rattle.gm_build.specs.Outcomes.{failures_in, IsReadError};
 
 use crate::build_error::BuildError;
@@ -23,21 +23,23 @@ use std::alloc::{AllocError, Global};
 use std::fs::Files;
 use std::thread::Threads;
 
-/// What a tier's entry is found to be.
-#[derive(Drop)]
-pub enum Inspected<G: Game> {
-    /// The text of the tier's true table, which is this one.
-    Right(Table<G>),
+/// The state of a tier's entry.
+#[derive(Clone, Copy, Debug)]
+pub enum TierState {
+    /// The text of the tier's true table.
+    Right,
     /// The store has no entry.
     Missing,
+    /// The table of a child tier isn't held, so the entry isn't read.
+    NotChecked,
     /// The bytes are no text of a tier file of the present version.
     NoFile(FileError),
     /// They are the text of records that are not the tier's.
     NoTable(CheckError),
 }
 
-/// Reads the entry of a tier once, and returns its state. It writes nothing. The tables of the child tiers are given. Unless memory runs out, the entry
-/// determines the answer.
+/// Reads the entry of a tier once, and returns its state, which is not `NotChecked`. It writes nothing. The tables of the child tiers are given. Unless memory
+/// runs out, the entry determines the answer. Then `table` has the tier's table if the entry is right.
 ///
 /// The bytes are decoded first, and then the records are checked in turn: `NoFile` and `NoTable` have the first reason that applies.
 pub fn inspect_tier<G: Game + Send + Sync, R: Threads + Files + Sync, S: Store>(
@@ -46,22 +48,27 @@ pub fn inspect_tier<G: Game + Send + Sync, R: Threads + Files + Sync, S: Store>(
     tier: u64,
     tables: &Tables<G>,
     store: &mut S,
-) -> Result<Inspected<G>, BuildError>
+    table: &mut Option<Table<G>>,
+) -> Result<TierState, BuildError>
     requires held { AreHeld G.rules tables.now tier }
     requires small { G.rules.tier_size tier ≤ TIER_SIZE }
     requires few { S.failed store.old < u64.MAX }
     // What was read is the entry, if the store promises its reads.
-    ensures found { IfOk result (λ i. (read : Texts) × (IsTrue S.READS → read tier ≡ S.texts store.old tier) × IsInspectedIn G.rules tables.now read tier i) }
+    ensures found { IfOk result (IsStateRead G.rules tables.now (store_view S.READS (S.texts store.old)) tier) }
+    ensures table { IfOk result (λ state. IsTableFor tier state table.new) }
     ensures same { IsTrue S.READS → AreSame (S.texts store.old) (S.texts store.new) }
     ensures error { IfErr result (IsReadError tier) }
     ensures count { S.failed store.new ≡ S.failed store.old + failures_in result }
 {
     let text = match read_entry(rt, alloc, tier, store)? {
         Some(text) => text,
-        None => return Ok(Inspected::Missing),
+        None => {
+            *table = None;
+            return Ok(TierState::Missing);
+        }
     };
-    match inspect_text(rt, alloc, tier, text.as_slice(), tables) {
-        Ok(found) => Ok(found),
+    match inspect_text(rt, alloc, tier, text.as_slice(), tables, table) {
+        Ok(state) => Ok(state),
         Err(_refused) => Err(BuildError::OutOfMemory),
     }
 }
@@ -87,31 +94,37 @@ pub(crate) fn read_entry<R: Files, S: Store>(
 }
 
 /// Returns the state of an entry by its bytes: they are decoded first, and then the records are checked in turn, by the tables of the child tiers, while
-/// another thread takes the digest of a long one. `NoFile` and `NoTable` have the first reason that applies; `Missing` is never the answer. Takes time and
-/// memory in proportion to the tier's size.
+/// another thread takes the digest of a long one. `NoFile` and `NoTable` have the first reason that applies; `Missing` and `NotChecked` are never the answer.
+/// Then `table` has the tier's table if the entry is right. Takes time and memory in proportion to the tier's size.
 pub fn inspect_text<G: Game + Send + Sync, R: Threads + Sync>(
     rt: &R,
     alloc: Global,
     tier: u64,
     bytes: &[u8],
     tables: &Tables<G>,
-) -> Result<Inspected<G>, AllocError>
+    table: &mut Option<Table<G>>,
+) -> Result<TierState, AllocError>
     requires held { AreHeld G.rules tables.now tier }
     requires small { G.rules.tier_size tier ≤ TIER_SIZE }
     ensures exact { IfOk result (IsInspected G.rules tables.now tier bytes.now) }
+    ensures table { IfOk result (λ state. IsTableFor tier state table.new) }
 {
+    *table = None;
     let records = match decode_unsealed::<G, R>(rt, alloc, tier, bytes) {
         Ok(records) => records,
         Err(FileError::OutOfMemory) => return Err(AllocError),
-        Err(why) => return Ok(Inspected::NoFile(why)),
+        Err(why) => return Ok(TierState::NoFile(why)),
     };
     let (checked, sealed) = check_beside(rt, tier, records, tables, bytes);
     if !sealed {
-        return Ok(Inspected::NoFile(FileError::BadDigest));
+        return Ok(TierState::NoFile(FileError::BadDigest));
     }
     match checked {
-        Ok(table) => Ok(Inspected::Right(table)),
-        Err(why) => Ok(Inspected::NoTable(why)),
+        Ok(right) => {
+            *table = Some(right);
+            Ok(TierState::Right)
+        }
+        Err(why) => Ok(TierState::NoTable(why)),
     }
 }
 

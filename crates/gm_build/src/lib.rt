@@ -8,6 +8,7 @@
 mod ahead;
 pub mod build;
 pub mod build_error;
+pub mod check;
 pub mod found;
 pub mod inspect;
 pub mod progress;

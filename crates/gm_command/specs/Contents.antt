@@ -54,13 +54,15 @@ pub record GameContent : Type 0 where
   pub progress : Telling
 
 -- what a request for a sheet says: the game's name, the heading, whether values are shown, whether only the moves of the side to move are counted, the template of
--- captions, the plan, and how progress is reported
+-- captions, whether puzzles are sorted, whether best moves are marked, the plan, and how progress is reported
 pub record SheetContent : Type 0 where
   pub game : Option (List ℕ)
   pub title : Option (List ℕ)
   pub valued : Bool
   pub own_moves : Bool
   pub template : Option (List ℕ)
+  pub rising : Bool
+  pub arrow : Bool
   pub plan : PlanNumbers
   pub progress : Telling
 
@@ -110,6 +112,8 @@ sheet_content r = record {
   valued = r.valued;
   own_moves = r.own_moves;
   template = option_map (λ t. t.now) r.template;
+  rising = r.rising;
+  arrow = r.arrow;
   plan = plan_of r.plan;
   progress = r.progress;
 }

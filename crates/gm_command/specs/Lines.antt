@@ -125,7 +125,8 @@ find_line = game_command_line game_command.Find (codes "find") (game ∷ word (c
 
 abbrev pub sheet_line : Line
 sheet_line = line Sheet (codes "sheet") (word (codes "GAME") place_optional ∷ word (codes "title") (text false) ∷ word (codes "no-value") flag
-    ∷ word (codes "own-moves") flag ∷ word (codes "caption") (text false) ∷ word (codes "workers") (number (pos 1) (pos 16) (Some (codes "4"))) ∷ quiet ∷ [])
+    ∷ word (codes "own-moves") flag ∷ word (codes "caption") (text false) ∷ word (codes "sort") (text false) ∷ word (codes "arrow") flag
+    ∷ word (codes "workers") (number (pos 1) (pos 16) (Some (codes "4"))) ∷ quiet ∷ [])
 
 abbrev pub counts_line : Line
 counts_line = game_command_line game_command.Counts (codes "counts") (game ∷ word (codes "legal") flag ∷ word (codes "by-tier") flag ∷ reached ∷ word (codes "csv") flag ∷ json

@@ -55,6 +55,10 @@ abbrev pub template_from : Option (List ℕ) → Option (Option (List ℕ))
 template_from None = Some None
 template_from (Some text) = if is_template text then Some (Some text) else None
 
+-- whether the order of a sheet is the rising one
+abbrev pub rising_named : List ℕ → Option Bool
+rising_named word = if bytes_eq word (codes "list") then Some false else (if bytes_eq word (codes "long") then Some true else None)
+
 -- the command only reads its folder
 abbrev pub only_reads : GameCommandName → Bool
 only_reads command.Check = true
@@ -178,17 +182,23 @@ module _ (rows : List Row) where
   abbrev pub template_in : Option (Option (List ℕ))
   template_in = template_from (text_in rows (codes "caption"))
 
-  -- a request for a sheet: the game's name, the heading, what is shown of a value, the plan and the report of progress
+  -- whether the puzzles of a sheet are sorted; none if `--sort` names no order
+  abbrev pub rising_in : Option Bool
+  rising_in = elim (text_in rows (codes "sort")) [ None ↦ Some false | Some word ↦ rising_named word ]
+
+  -- a request for a sheet: the game's name, the heading, what is shown of a value, the order, the plan and the report of progress
   abbrev pub sheet_in : Option SheetContent
-  sheet_in = option_and_then (λ template. option_map (λ plan. record {
+  sheet_in = option_and_then (λ template. option_and_then (λ rising. option_map (λ plan. record {
     game = text_in rows (codes "GAME");
     title = text_in rows (codes "title");
     valued = not (has rows (codes "no-value"));
     own_moves = has rows (codes "own-moves");
     template = template;
+    rising = rising;
+    arrow = has rows (codes "arrow");
     plan = plan;
     progress = progress_in;
-  }) plan_in) template_in
+  }) plan_in) rising_in) template_in
 
   -- how the games are listed: in JSON, with their titles, or by their names
   abbrev pub list_form_in : ListForm

@@ -55,8 +55,8 @@ fn plain<'a>(alloc: Global, word: &'static ArgSpec) -> Arg<'a>
 }
 
 // Adds to an argument its possible values. The text of the help already lists them.
-fn valued<'a>(arg: Arg<'a>, name: &str) -> Arg<'a> {
-    match values_of(name) {
+fn valued<'a>(arg: Arg<'a>, name: &str, words: &[ArgSpec]) -> Arg<'a> {
+    match values_of(name, words) {
         Some(values) => arg.value_parser(values).hide_possible_values(true),
         None => arg,
     }
@@ -90,7 +90,7 @@ fn arg_of<'a>(
 {
     let arg = plain(alloc, word);
     if explained {
-        related(valued(arg, word.name), word, words)
+        related(valued(arg, word.name, words), word, words)
     } else {
         Ok(arg)
     }

@@ -211,6 +211,8 @@ static SHEET: CommandSpec = CommandSpec {
         word!("no-value": Flag, "Leave the value out of each diagram"),
         word!("own-moves": Flag, "Count only the moves of the side to move, as in `x wins in 3`"),
         word!("caption": Text("TEMPLATE"), "The line under each diagram, as `{number}. {side} {value} in {moves}`"),
+        word!("sort": Text("ORDER"), "The order: list, or long (rising by moves to the end, draws last)"),
+        word!("arrow": Flag, "Mark the best move on a diagram beside each solution"),
         word!("workers": Number("N", 1..=16, WORKERS_WORD), "Number of worker threads, 1 to 16"),
         QUIET,
     ],

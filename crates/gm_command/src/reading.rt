@@ -6,7 +6,7 @@ ghost use Rattle.clap.specs.Words.{kind_of, subcommand_rows_of};
 ghost use Rattle.gm_command.specs.Contents.{content_of, game_content, sheet_content, kept_at, plan_of as numbers_of};
 ghost use Rattle.gm_command.specs.Given.{rows_in, text_in};
 ghost use Rattle.gm_command.specs.Lines.{line_of_spec};
-ghost use Rattle.gm_command.specs.Reading.{folder_in, plan_in, progress_in, template_in, only_reads, list_form_in, game_in, sheet_in, request_in, request_with, request_of as content_in};
+ghost use Rattle.gm_command.specs.Reading.{folder_in, plan_in, progress_in, template_in, rising_named, rising_in, only_reads, list_form_in, game_in, sheet_in, request_in, request_with, request_of as content_in};
 ghost use Rattle.gm_command.specs.Readings.{IsOutcome, IsReadingOf, why_not};
 
 use crate::commands::gamesman;
@@ -126,6 +126,27 @@ fn template_of<'a>(inner: &ArgMatches<'a>) -> Result<Option<&'a str>, &'static s
     }
 }
 
+// Returns whether the order that a word of `--sort` names is the rising one, or the reason for a refusal.
+fn rising_named(word: &str) -> Result<bool, &'static str>
+    ensures { result_ok result ≡ rising_named word.now }
+{
+    match word {
+        "list" => Ok(false),
+        "long" => Ok(true),
+        _ => Err("the order of a sheet is list or long"),
+    }
+}
+
+// Reads whether the puzzles of a sheet come in rising order, or returns the reason for a refusal.
+fn rising_of(inner: &ArgMatches<'_>) -> Result<bool, &'static str>
+    ensures { result_ok result ≡ rising_in (rows_in inner.now) }
+{
+    match text_in(inner, "sort") {
+        Some(word) => rising_named(word),
+        None => Ok(false),
+    }
+}
+
 // Reads a line of `sheet`.
 fn sheet_request_of<'a>(inner: &ArgMatches<'a>) -> Option<SheetRequest<'a>>
     ensures { option_map sheet_content result ≡ sheet_in (rows_in inner.now) }
@@ -136,6 +157,8 @@ fn sheet_request_of<'a>(inner: &ArgMatches<'a>) -> Option<SheetRequest<'a>>
         valued: !has(inner, "no-value"),
         own_moves: has(inner, "own-moves"),
         template: template_of(inner).ok()?,
+        rising: rising_of(inner).ok()?,
+        arrow: has(inner, "arrow"),
         plan: plan_of(inner)?,
         progress: progress_of(inner),
     })
@@ -224,7 +247,7 @@ fn misfit(matches: &ArgMatches<'_>) -> Option<&'static str> {
         CommandName::Game(GameCommandName::At) => place_of(inner).err(),
         CommandName::Game(GameCommandName::Find) => search_fault(inner),
         CommandName::Game(GameCommandName::Ask) => json_of(inner).err(),
-        CommandName::Sheet => template_of(inner).err(),
+        CommandName::Sheet => template_of(inner).err().or(rising_of(inner).err()),
         _ => None,
     }
 }

@@ -8,10 +8,11 @@ use crate::given::is_given;
 use crate::words::{ArgKind, ArgSpec};
 use clap::ArgMatches;
 
-/// Returns the values that a word of this name can have, and `None` if it takes any text.
-pub(crate) fn values_of(name: &str) -> Option<&'static [&'static str]> {
+/// Returns the values that a word of this name can have beside these other words, and `None` if it takes any text.
+pub(crate) fn values_of(name: &str, words: &[ArgSpec]) -> Option<&'static [&'static str]> {
     match name {
         "value" => Some(&["win", "tie", "draw", "lose"]),
+        "sort" if has_word(words, "title") => Some(&["list", "long"]),
         "sort" => Some(&["index", "long", "hard"]),
         "SHELL" => Some(&["bash", "zsh", "fish"]),
         _ => None,

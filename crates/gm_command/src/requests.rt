@@ -224,6 +224,10 @@ pub struct SheetRequest<'a> {
     pub own_moves: bool,
     /// The template of the line under each diagram, which takes the place of the two.
     pub template: Option<&'a str>,
+    /// Whether the puzzles come in rising order of their moves to the end, and not in that of the list.
+    pub rising: bool,
+    /// Whether the best move is marked on a diagram beside each solution.
+    pub arrow: bool,
     /// How the tables of each game are made.
     pub plan: Plan,
     /// How it is reported how far that is.

@@ -1,9 +1,9 @@
 -- What these games look like.
-use Rattle.std.specs.Prelude.{ℕ, Bool, true, false, List, [], ◌++◌, codes, if◌then◌else◌}
+use Rattle.std.specs.Prelude.{ℕ, Bool, true, false, List, ◌++◌, codes, if◌then◌else◌}
 use Rattle.gm_draw.specs.declared.pictured.Style.TheVariants.{Counters}
-use Rattle.gm_draw.specs.Pictures.{PictureSpec, player_moves}
+use Rattle.gm_draw.specs.Pictures.{PictureSpec}
 use Rattle.gm_draw.specs.GameSpecs.{GameSpec}
-use Rattle.gm_patterns.specs.PatternPictures.{pattern_spec, on_square, common_naming}
+use Rattle.gm_patterns.specs.PatternPictures.{pattern_spec, on_board, on_square, common_naming}
 use Rattle.gm_dominoes.specs.DominoRules.{domineering_four, domineering_five, cram_four, cram_five}
 use Rattle.gm_dominoes.specs.KaylesRules.{kayles}
 
@@ -30,15 +30,8 @@ abbrev pub cram_five_spec : GameSpec
 cram_five_spec = pattern_spec 25 cram_five (domino_five_picture true)
 
 unfoldable pub kayles_picture : PictureSpec
-kayles_picture = record {
-  title = codes "Kayles";
-  style = Counters;
-  board = codes "a b c d e f g h i j k l\nA B C D E F G H I J K L";
-  rows = [];
-  points = kayles.names;
-  mover = player_moves;
-  naming = codes "A pin is its letter.\nA position is the pins from a to l: x for a pin\nthat stands, . for one that is taken.\nA move is a pin, or two.\n";
-}
+kayles_picture = on_board Counters (codes "Kayles") (codes "a b c d e f g h i j k l\nA B C D E F G H I J K L")
+    kayles.names (codes "player") (codes "A pin is its letter.\nA position is the pins from a to l: x for a pin\nthat stands, . for one that is taken.\nA move is a pin, or two.\n")
 
 abbrev pub kayles_spec : GameSpec
 kayles_spec = pattern_spec 12 kayles kayles_picture

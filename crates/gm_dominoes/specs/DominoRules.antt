@@ -1,12 +1,10 @@
 -- The rules of Domineering and of Cram on a square of side s: the cells that dominoes cover have pieces that belong to both players.
-use Rattle.std.specs.Prelude.{ℕ, ◌+◌, ◌-◌, ◌*◌, ◌/◌, ◌%◌, ◌==◌, ◌&&◌, nat_lt, Bool, true, false, List, [], ◌∷◌, ◌++◌, map, replicate, codes, None}
+use Rattle.std.specs.Prelude.{ℕ, ◌+◌, ◌-◌, ◌*◌, ◌/◌, ◌%◌, ◌==◌, ◌&&◌, nat_lt, Bool, true, false, List, [], ◌∷◌, ◌++◌, map, replicate, codes}
 use Rattle.std.specs.List.{filter, range_with_len}
 use Rattle.gm_board.specs.Squares.{square_symmetries}
-use Rattle.gm_board.specs.declared.cell.Cell.TheVariants.{Empty}
 use Rattle.gm_draw.specs.Points.{square_points}
-use Rattle.gm_game.specs.declared.position.End.TheVariants.{Lose}
 use Rattle.gm_patterns.specs.Steps.{cover}
-use Rattle.gm_patterns.specs.PatternGames.{PatternGame}
+use Rattle.gm_patterns.specs.PatternGames.{PatternGame, usual}
 use Rattle.gm_patterns.specs.declared.rules.Tiers.TheVariants.{Common}
 use Rattle.gm_patterns.specs.declared.step.Step.{Step}
 
@@ -26,23 +24,14 @@ flips s = map (λ f. map f (range_with_len 0 (s * s)))
 -- Domineering: after each domino two more cells are covered, and their number tells whose turn it is: the first player places upright dominoes, the second lying
 -- ones; who can't place a domino has lost
 abbrev pub domineering_with : List ℕ → ℕ → PatternGame
-domineering_with name s = record {
+domineering_with name s = record (usual (s * s)) {
   name = name;
-  start = replicate (s * s) Empty;
   names = square_points s;
   numbers = λ mine theirs. mine % 2 == 0 && theirs == 0;
-  over = λ mine theirs. None;
   tiers = Common;
-  adds = true;
   phase = λ pieces. pieces / 2 % 2;
   phases = upright s ∷ lying s ∷ [];
   swapped = false;
-  turn = None;
-  forbidden = [];
-  lost = [];
-  won = [];
-  tied = [];
-  stuck = Lose;
   symmetries = flips s;
 }
 

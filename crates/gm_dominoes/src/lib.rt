@@ -5,5 +5,4 @@
 pub mod cram;
 pub mod domineering;
 pub mod kayles;
-pub mod picture;
 pub mod tables;

@@ -1,15 +1,13 @@
 -- The rules of the games of nine points: three rows from the top, each from left to right.
-use Rattle.std.specs.Prelude.{ℕ, ◌+◌, ◌-◌, ◌/◌, ◌%◌, ◌==◌, ◌&&◌, ◌||◌, nat_le, Bool, true, false, List, [], ◌∷◌, ◌++◌, map, replicate, codes, if◌then◌else◌, None}
+use Rattle.std.specs.Prelude.{ℕ, ◌+◌, ◌-◌, ◌/◌, ◌%◌, ◌==◌, ◌&&◌, ◌||◌, nat_le, Bool, true, false, List, [], ◌∷◌, ◌++◌, map, replicate, codes, if◌then◌else◌}
 use Rattle.std.specs.List.{range_with_len}
 use Rattle.gm_board.specs.Squares.{square_symmetries}
-use Rattle.gm_board.specs.declared.cell.Cell.TheVariants.{Empty}
 use Rattle.gm_draw.specs.Points.{square_points}
 use Rattle.gm_game.specs.declared.position.End.{End}
 use Rattle.gm_game.specs.declared.position.End.TheVariants.{Lose, Tie}
 use Rattle.gm_patterns.specs.Patterns.{mine_on, theirs_on}
 use Rattle.gm_patterns.specs.Steps.{place, slides}
-use Rattle.gm_patterns.specs.PatternGames.{PatternGame}
-use Rattle.gm_patterns.specs.declared.rules.Tiers.TheVariants.{Placed}
+use Rattle.gm_patterns.specs.PatternGames.{PatternGame, usual}
 use Rattle.gm_morris.specs.declared.games.Variant.{Variant}
 use Rattle.gm_morris.specs.declared.games.Variant.TheVariants.{TicTacToe, TicTacToeMisere, ThreeMens, NineHoles, Achi, Picaria}
 
@@ -85,22 +83,15 @@ is_misere v = false
 
 -- the game: each side places pieces by turns up to the last tier, in which they move; a full line ends the game, and else it ends where the player to move can't
 abbrev pub morris : Variant → PatternGame
-morris v = record {
+morris v = record (usual 9) {
   name = variant_name v;
-  start = replicate 9 Empty;
   names = square_points 3;
   numbers = λ mine theirs. (mine == theirs || mine + 1 == theirs) && nat_le (mine + theirs) (last_tier v);
-  over = λ mine theirs. None;
-  tiers = Placed;
-  adds = true;
   phase = λ pieces. if pieces == last_tier v then 1 else 0;
   phases = map place (range_with_len 0 9) ∷ slides 9 (joins v) ∷ [];
-  swapped = true;
-  turn = None;
   forbidden = map mine_on (lines_of v);
   lost = if is_misere v then [] else map theirs_on (lines_of v);
   won = if is_misere v then map theirs_on (lines_of v) else [];
-  tied = [];
   stuck = end_if_no_move v;
   symmetries = square_symmetries 3;
 }

@@ -1,26 +1,18 @@
 -- What the games of nine points look like.
-use Rattle.std.specs.Prelude.{ℕ, List, [], ◌++◌, codes}
+use Rattle.std.specs.Prelude.{ℕ, List, ◌++◌, codes}
 use Rattle.gm_draw.specs.declared.pictured.Style.{Style}
 use Rattle.gm_draw.specs.declared.pictured.Style.TheVariants.{Crosses, Discs, Stones}
-use Rattle.gm_draw.specs.Pictures.{PictureSpec, x_moves}
+use Rattle.gm_draw.specs.Pictures.{PictureSpec}
 use Rattle.gm_draw.specs.GameSpecs.{GameSpec}
 use Rattle.gm_draw.specs.Points.{square_naming, square_points}
-use Rattle.gm_patterns.specs.PatternPictures.{pattern_spec, on_square}
+use Rattle.gm_patterns.specs.PatternPictures.{pattern_spec, on_board, on_square}
 use Rattle.gm_morris.specs.declared.games.Variant.{Variant}
 use Rattle.gm_morris.specs.declared.games.Variant.TheVariants.{TicTacToe, TicTacToeMisere, ThreeMens, NineHoles, Achi, Picaria}
 use Rattle.gm_morris.specs.Morris.{variant_of, nine_points}
 
 -- a board with far columns, and how moves are written
 abbrev pub nine_with : List ℕ → Style → List ℕ → List ℕ → PictureSpec
-nine_with title style board naming = record {
-  title = title;
-  style = style;
-  board = codes "    1   2   3\n" ++ board;
-  rows = [];
-  points = square_points 3;
-  mover = x_moves;
-  naming = square_naming ++ naming;
-}
+nine_with title style board naming = on_board style title (codes "    1   2   3\n" ++ board) (square_points 3) (codes "x") (square_naming ++ naming)
 
 abbrev pub crossing : List ℕ
 crossing = codes "a   A | B | C\n   ---+---+---\nb   D | E | F\n   ---+---+---\nc   G | H | I"

@@ -3,4 +3,3 @@
 #![tactic(auto)]
 
 pub mod games;
-pub mod picture;

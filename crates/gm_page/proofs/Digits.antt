@@ -1,8 +1,8 @@
 -- Digits of an engine.
-use Rattle.gm_page.proofs.Lower.{◌≡◌, ℕ, true, List, [], ◌∷◌, inl, inr, ap, subst, refl, cases_Bool, and_from}
+use Rattle.gm_page.proofs.Lower.{◌≡◌, ℕ, true, List, [], ◌∷◌, inl, inr, ap, subst, refl, cases_Bool}
 use Rattle.std.proofs.Common.{not, eqb, eqb-true}
 use Rattle.std.specs.List.{list_all}
-use Rattle.std.proofs.lemmas.Bool.{and_parts}
+use Rattle.std.proofs.lemmas.Bool.{and_from, and_parts}
 use Rattle.gm_page.specs.Scripts.{opens_none}
 use Rattle.gm_page.specs.Engines.{is_digit}
 

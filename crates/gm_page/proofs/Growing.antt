@@ -1,8 +1,6 @@
 -- Lists that grow by one position at a time: what each step keeps, and the contents afterwards.
-use Rattle.gm_page.proofs.Lower.{◌≡◌, ℕ, zero, suc, ◌+◌, ◌<◌, ◌≤◌, List, [], ◌∷◌, ◌++◌, length, take, get_or, slice_get, Some, refl, sym, ap, ◌∙◌, subst, ◌⊎◌, inl, inr, arith, Contains, cases_lt, take_all, Contains-get_or, Position, Rules, contains_none, contains_cases, with_new, with_all}
-use Rattle.std.proofs.lemmas.Option.{slice_get_within, get_or_from_slice_get}
+use Rattle.gm_page.proofs.Lower.{◌≡◌, ℕ, zero, suc, ◌+◌, ◌<◌, ◌≤◌, List, [], ◌∷◌, ◌++◌, length, take, slice_get, Some, refl, sym, ap, ◌∙◌, subst, ◌⊎◌, inl, inr, arith, Contains, cases_lt, take_all, Position, Rules, contains_none, contains_cases, with_new, with_all}
 use Rattle.gm_game.proofs.Lists.{contains_first, contains_later}
-use Rattle.gm_play.specs.BestLines.{AreFresh}
 use Rattle.gm_page.specs.Listings.{ComesFromEarlier}
 use Rattle.std.proofs.lemmas.List.{length-append, get_or_append_left, get_or_push, take-append-le}
 use Rattle.std.proofs.lemmas.List.Elements.{Contains-append_left, Contains-push}
@@ -12,19 +10,6 @@ pub long_more : (old : List Position) (q : Position) → length (old ++ q ∷ []
 long_more old q = length-append old (q ∷ [])
 
 -- ---- properties that one more position preserves
-pub fresh_more : (old : List Position) (q : Position) → AreFresh old → (Contains old q → ⊥) → AreFresh (old ++ q ∷ [])
-fresh_more old q fresh new i j d less inside same =
-    let long = long_more old q in
-    let i_in : i < length old = omega arith in
-    let at_i : get_or (old ++ q ∷ []) i d ≡ get_or old i d = get_or_append_left old (q ∷ []) d i i_in in
-    elim (cases_lt j (length old)) [
-      | inl j_in ↦ fresh i j d less j_in (sym at_i ∙ same ∙ get_or_append_left old (q ∷ []) d j j_in)
-      | inr past ↦ (
-          let e : length old ≡ j = omega arith in
-          let at_j : get_or (old ++ q ∷ []) j d ≡ q = get_or_push old q d j e in
-          new (subst (Contains old) (sym at_i ∙ same ∙ at_j) (Contains-get_or old i d i_in)))
-    ]
-
 -- a list with the result of a move of one of its positions added
 pub earlier_more : (r : Rules) (old : List Position) (p q : Position) (m : ℕ) → ComesFromEarlier r old → Contains old p → Contains (r.moves p) m → r.play p
     m ≡ q → ComesFromEarlier r (old ++ q ∷ [])
@@ -57,9 +42,6 @@ pub place_more : (old : List Position) (y : Position) (j : ℕ) (x : Position) �
 place_more [] y j x h = absurd (let z : ⊥ = cc in z)
 place_more (a ∷ rest) y zero x h = h
 place_more (a ∷ rest) y (suc j) x h = place_more rest y j x h
-
-pub at_place : (old : List Position) (k : ℕ) (p : Position) → slice_get old k ≡ Some p → Contains old p
-at_place old k p e = (let l = slice_get_within old k p e in subst (Contains old) (get_or_from_slice_get old k p p e) (Contains-get_or old k p l))
 
 module _ (limit : ℕ) where
   -- ---- a property that each step preserves

@@ -18,7 +18,7 @@ pub use Rattle.serde_json.specs.Data.{Data, array}
 pub use Rattle.serde_json.specs.View.{items_of, view}
 pub use Rattle.serde_json.specs.Written.{has_float}
 pub use Rattle.std.proofs.Common.{Bool, List, None, Option, Some, [], ap, ap₂, arith, cond, drop, false, get_or, inl, inr, length, map, refl, rules, slice_get, subst, suc, sym, take, true, zero, ℕ, ◌++◌, ◌+◌, ◌-◌, ◌<◌, ◌∙◌, ◌∷◌, ◌≡◌, ◌≤◌, ◌⊎◌}
-pub use Rattle.std.proofs.lemmas.Bool.{and_from, cases_Bool, cases_lt, cond-false, cond-true}
+pub use Rattle.std.proofs.lemmas.Bool.{cases_Bool, cases_lt, cond-false, cond-true}
 pub use Rattle.std.proofs.lemmas.List.{append-nil, append_assoc, drop_all, drop_more, take_all}
 pub use Rattle.std.proofs.lemmas.List.Elements.{Contains-get_or}
 pub use Rattle.std.specs.HashMap.{get}

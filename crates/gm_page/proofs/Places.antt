@@ -1,25 +1,19 @@
 -- Places of positions in a list.
-use Rattle.gm_page.proofs.Lower.{◌≡◌, ℕ, ◌+◌, ◌<◌, ◌≤◌, Bool, true, false, cond, List, [], ◌∷◌, ◌++◌, length, Option, None, Some, refl, sym, ap, ◌∙◌, subst, ◌⊎◌, inl, inr, arith, get, Contains, cases_Bool, cond-true, cond-false, and_from, Position, at, contains_none, contains_cases, place_of, is_key, with_new}
-use Rattle.std.proofs.Common.{eqb-true, is_some, nat_eq, eq-eqb, leb, leb-true, ◌↔◌}
-use Rattle.std.proofs.lemmas.Bool.{and_parts, false≢true}
+use Rattle.gm_page.proofs.Lower.{◌≡◌, ℕ, ◌+◌, ◌<◌, ◌≤◌, Bool, true, false, cond, List, [], ◌∷◌, ◌++◌, length, Option, None, Some, refl, sym, ap, ◌∙◌, subst, ◌⊎◌, inl, inr, arith, get, Contains, cases_Bool, cond-true, cond-false, Position, at, contains_none, contains_cases, place_of, is_key, with_new}
+use Rattle.std.proofs.Common.{is_some, leb, leb-true, ◌↔◌}
+use Rattle.std.proofs.lemmas.Bool.{false≢true}
 use Rattle.gm_game.proofs.Lists.{contains_first, contains_later}
-use Rattle.gm_page.specs.Listings.{is_same, place_from, Tells}
+use Rattle.gm_game.specs.Children.{is_same}
+use Rattle.gm_page.specs.Listings.{place_from, Tells}
 use Rattle.std.specs.HashMap.{HashMap}
 use Rattle.std.proofs.lemmas.Bool.Decides.{nat_tests}
-use Rattle.gm_game.proofs.SetLemmas.{same_position}
-
--- the test for equal positions
-same_is : (p q : Position) → is_same p q ≡ true → p ≡ q
-same_is p q e = let (a, b) = and_parts (nat_eq p.tier q.tier) (nat_eq p.index q.index) e in same_position p q (eqb-true _ _ a) (eqb-true _ _ b)
-
-same_self : (p : Position) → is_same p p ≡ true
-same_self p = and_from _ _ (eq-eqb p.tier p.tier refl) (eq-eqb p.index p.index refl)
+use Rattle.gm_game.proofs.SetLemmas.{same_position, is_same_means, is_same_itself}
 
 -- a position with a place is listed
 place_in : (n k : ℕ) (ps : List Position) (p : Position) → place_from n ps p ≡ Some k → Contains ps p
 place_in n k [] p e = absurd (let z : ⊥ = cc in z)
 place_in n k (q ∷ qs) p e = elim (cases_Bool (is_same p q)) [
-  | inl f ↦ subst (Contains (q ∷ qs)) (sym (same_is p q f)) (contains_first q qs)
+  | inl f ↦ subst (Contains (q ∷ qs)) (sym (is_same_means p q f)) (contains_first q qs)
   | inr f ↦ contains_later q p qs (place_in (n + 1) k qs p (sym (cond-false _ _ _ f) ∙ e))
 ]
 
@@ -29,7 +23,7 @@ place_out n [] p e c = contains_none p c
 place_out n (q ∷ qs) p e c = elim (cases_Bool (is_same p q)) [
   | inl f ↦ (let g : Some n ≡ None = sym (cond-true _ _ _ f) ∙ e in let z : ⊥ = cc in z)
   | inr f ↦ elim (contains_cases q p qs c) [
-    | inl g ↦ (let h : is_same p q ≡ true = subst (λ (x : Position). is_same p x ≡ true) (sym g) (same_self p) in let z : ⊥ = cc in z)
+    | inl g ↦ (let h : is_same p q ≡ true = subst (λ (x : Position). is_same p x ≡ true) (sym g) (is_same_itself p) in let z : ⊥ = cc in z)
     | inr d ↦ place_out (n + 1) qs p (sym (cond-false _ _ _ f) ∙ e) d
   ]
 ]
@@ -47,7 +41,7 @@ place_cases ps p = elim (option_cases (place_of ps p)) [
 
 -- the place of an added position
 place_added : (n : ℕ) (ps : List Position) (p : Position) → place_from n ps p ≡ None → place_from n (ps ++ p ∷ []) p ≡ Some (n + length ps)
-place_added n [] p e = cond-true _ _ _ (same_self p) ∙ ap Some (let z : n ≡ n + 0 = omega arith in z)
+place_added n [] p e = cond-true _ _ _ (is_same_itself p) ∙ ap Some (let z : n ≡ n + 0 = omega arith in z)
 place_added n (q ∷ qs) p e = elim (cases_Bool (is_same p q)) [
   | inl f ↦ (let g : Some n ≡ None = sym (cond-true _ _ _ f) ∙ e in let z : ⊥ = cc in absurd z)
   | inr f ↦ cond-false _ _ _ f ∙ place_added (n + 1) qs p (sym (cond-false _ _ _ f) ∙ e) ∙ ap Some
@@ -64,7 +58,7 @@ place_kept n (x ∷ xs) p q e = ap (λ (o : Option ℕ). cond (is_same q x) (Som
 key_apart : (p : Position) (k : ℕ × ℕ) → is_key (p.tier, p.index) k ≡ false → is_same (at k.0 k.1) p ≡ false
 key_apart p k e = elim (cases_Bool (is_same (at k.0 k.1) p)) [
   | inl f ↦ (
-      let g : is_same p (at k.0 k.1) ≡ true = subst (λ (q : Position). is_same p q ≡ true) (sym (same_is (at k.0 k.1) p f)) (same_self p) in
+      let g : is_same p (at k.0 k.1) ≡ true = subst (λ (q : Position). is_same p q ≡ true) (sym (is_same_means (at k.0 k.1) p f)) (is_same_itself p) in
       absurd (let z : ⊥ = cc in z))
   | inr f ↦ f
 ]
@@ -75,7 +69,7 @@ module _ {S : Type 0} where
       → ((k : ℕ × ℕ) → get is_key new k ≡ cond (is_key (p.tier, p.index) k) (Some (length ps)) (get is_key old k)) → Tells new (ps ++ p ∷ [])
   tells_more old new ps p tells none updates k = elim (cases_Bool (is_key (p.tier, p.index) k)) [
     | inl f ↦ updates k ∙ cond-true _ _ _ f ∙ sym (place_added 0 ps p none ∙ ap Some (let z : 0 + length ps ≡ length ps = omega arith in z)) ∙ ap
-        (place_from 0 (ps ++ p ∷ [])) (same_is p (at k.0 k.1) f)
+        (place_from 0 (ps ++ p ∷ [])) (is_same_means p (at k.0 k.1) f)
     | inr f ↦ updates k ∙ cond-false _ _ _ f ∙ tells k ∙ sym (place_kept 0 ps p (at k.0 k.1) (key_apart p k f))
   ]
 

@@ -13,7 +13,9 @@ use Rattle.gm_find.specs.Reaching.{IsPlay}
 use Rattle.gm_play.specs.declared.best_line.BestLine.{BestLine}
 use Rattle.gm_play.specs.Lines.{position_after}
 use Rattle.gm_page.proofs.Places.{new_cases}
-use Rattle.gm_page.proofs.Growing.{earlier_more, new_keeps, new_there, all_keep, all_stays, all_longer, all_there, full_all, place_stays, place_more, at_place, fresh_more, long_more}
+use Rattle.gm_page.proofs.Growing.{earlier_more, new_keeps, new_there, all_keep, all_stays, all_longer, all_there, full_all, place_stays, place_more, long_more}
+use Rattle.gm_game.proofs.MaskLemmas.{at_place}
+use Rattle.gm_play.proofs.Walking.{fresh_push}
 
 module _ (r : Rules) where
   -- ---- lines of play
@@ -99,7 +101,7 @@ module _ (r : Rules) (start : Position) (limit : ℕ) where
       → length l < limit → IsKept (l ++ q ∷ [])
   kept_more l p q m h has listed e absent room = record {
     few = let n = long_more l q in omega arith;
-    fresh = fresh_more l q h.fresh absent;
+    fresh = fresh_push l q h.fresh absent;
     reached = λ x c. elim (Contains-push_cases l q x c) [
       | inl d ↦ h.reached x d
       | inr f ↦ subst (IsReachedFrom r start) (e ∙ f) (reached_more r start p m (h.reached p has) listed)

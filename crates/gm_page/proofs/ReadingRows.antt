@@ -6,7 +6,8 @@ use Rattle.serde_json.specs.Data.{number}
 use Rattle.serde_json.specs.Read.{read, of_json, of_items}
 use Rattle.serde_json.specs.Written.{outline, items_outline}
 use Rattle.gm_game.specs.declared.position.Solved.{Solved}
-use Rattle.gm_page.specs.Listings.{is_same, place_from}
+use Rattle.gm_game.specs.Children.{is_same}
+use Rattle.gm_page.specs.Listings.{place_from}
 use Rattle.gm_page.specs.Rows.{place_cells, group_cells, row_cells}
 use Rattle.json.specs.Tree.{depth, items_depth, json_tokens, items_tokens}
 use Rattle.serde_json.proofs.Numbers.{number_of-decimal}

@@ -1,5 +1,6 @@
 -- Texts that open no tag.
-use Rattle.gm_page.proofs.Lower.{◌≡◌, ℕ, true, List, [], ◌∷◌, refl, ap, ◌∙◌, inl, inr, flat_map, cases_Bool, cond-true, cond-false, and_from, Data, script_byte, script_line}
+use Rattle.gm_page.proofs.Lower.{◌≡◌, ℕ, true, List, [], ◌∷◌, refl, ap, ◌∙◌, inl, inr, flat_map, cases_Bool, cond-true, cond-false, Data, script_byte, script_line}
+use Rattle.std.proofs.lemmas.Bool.{and_from}
 use Rattle.std.proofs.Common.{eqb, not}
 use Rattle.std.specs.List.{list_all}
 use Rattle.std.proofs.lemmas.List.Folds.{list_all-append}

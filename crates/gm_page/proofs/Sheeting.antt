@@ -1,13 +1,14 @@
 -- Sheets: puzzles one by one, and solutions move by move.
 use Rattle.gm_page.proofs.Lower.{◌≡◌, ◌+◌, ◌<◌, ◌≤◌, length, take, take_all, get_or, refl, sym, subst, arith, ℕ, List, [], ◌∷◌, ◌++◌, ap, ◌∙◌, codes, flat_map, append-nil, append_assoc, Position, Rules, Found, steps_text}
-use Rattle.std.proofs.lemmas.List.{take_more}
+use Rattle.std.proofs.lemmas.List.{length-take-le, take_more}
+use Rattle.std.specs.List.{AllZip}
 use Rattle.gm_draw.specs.Diagrams.{escaped}
 use Rattle.gm_draw.specs.GameSpecs.{GameSpec}
-use Rattle.gm_caption.specs.declared.caption.Caption.TheVariants.{BothSides}
+use Rattle.gm_caption.specs.declared.caption.Caption.{Caption}
 use Rattle.gm_play.specs.declared.move_values.MoveValue.{MoveValue}
 use Rattle.gm_page.specs.Defences.{IsDefence, AreDefences}
 use Rattle.gm_page.specs.declared.puzzles.Puzzle.{Puzzle}
-use Rattle.gm_page.specs.Puzzles.{IsPuzzle, ArePuzzlesOf}
+use Rattle.gm_page.specs.Puzzles.{IsPuzzleFor, item_of, items_of}
 use Rattle.gm_play.proofs.Rows.{flat_more}
 
 -- ---- moves
@@ -28,22 +29,37 @@ line_parts t0 front steps moves end t1 t2 t3 a b e c =
 
 -- ---- puzzles
 -- the puzzle of one more found position
-pub puzzle_more : (g : GameSpec) (n : ℕ) (xs : List Found) (ps : List Puzzle) (x : Found) (p : Puzzle) → ArePuzzlesOf g n xs ps
-    → IsPuzzle g BothSides (n + length ps + 1) (g.shown x.position) p → ArePuzzlesOf g n (xs ++ x ∷ []) (ps ++ p ∷ [])
-puzzle_more g n [] [] x p are is = (subst (λ (m : ℕ). IsPuzzle g BothSides m (g.shown x.position) p) (omega arith) is, tt)
-puzzle_more g n [] (q ∷ qs) x p are is = absurd are
-puzzle_more g n (y ∷ ys) [] x p are is = absurd are
-puzzle_more g n (y ∷ ys) (q ∷ qs) x p are is =
-    (are.0, puzzle_more g (n + 1) ys qs x p are.1 (subst (λ (m : ℕ). IsPuzzle g BothSides m (g.shown x.position) p) (omega arith) is))
+puzzle_more : (g : GameSpec) (xs : List Found) (ps : List Puzzle) (x : Found) (p : Puzzle) → AllZip (IsPuzzleFor g) xs ps → IsPuzzleFor g x p
+    → AllZip (IsPuzzleFor g) (xs ++ x ∷ []) (ps ++ p ∷ [])
+puzzle_more g [] [] x p are is = (is, tt)
+puzzle_more g [] (q ∷ qs) x p are is = absurd are
+puzzle_more g (y ∷ ys) [] x p are is = absurd are
+puzzle_more g (y ∷ ys) (q ∷ qs) x p are is = (are.0, puzzle_more g ys qs x p are.1 is)
 
-pub puzzle_next : (g : GameSpec) (xs : List Found) (k : ℕ) (d : Found) (ps new : List Puzzle) (p : Puzzle) (number : ℕ) → k < length xs
-    → ArePuzzlesOf g 0 (take k xs) ps → number ≡ length ps → IsPuzzle g BothSides (number + 1) (g.shown (get_or xs k d).position) p → new ≡ ps ++ p ∷ []
-    → ArePuzzlesOf g 0 (take (k + 1) xs) new
-puzzle_next g xs k d ps new p number less are long is e =
-    let x = get_or xs k d in
-    subst (λ (l : List Puzzle). ArePuzzlesOf g 0 (take (k + 1) xs) l) (sym e)
-    (subst (λ (l : List Found). ArePuzzlesOf g 0 l (ps ++ p ∷ [])) (sym (take_more xs k d less))
-    (puzzle_more g 0 (take k xs) ps x p are (subst (λ (m : ℕ). IsPuzzle g BothSides m (g.shown x.position) p) (omega (arith, long)) is)))
+pub puzzle_next : (g : GameSpec) (xs : List Found) (k : ℕ) (d : Found) (ps new : List Puzzle) (p : Puzzle) → k < length xs
+    → AllZip (IsPuzzleFor g) (take k xs) ps → IsPuzzleFor g (get_or xs k d) p → new ≡ ps ++ p ∷ [] → AllZip (IsPuzzleFor g) (take (k + 1) xs) new
+puzzle_next g xs k d ps new p less are is e =
+    subst (λ (l : List Puzzle). AllZip (IsPuzzleFor g) (take (k + 1) xs) l) (sym e)
+    (subst (λ (l : List Found). AllZip (IsPuzzleFor g) l (ps ++ p ∷ [])) (sym (take_more xs k d less)) (puzzle_more g (take k xs) ps (get_or xs k d) p are is))
+
+-- the items of puzzles before which there are so many others, and of one more
+numbered_more : (caption : Caption) (n : ℕ) (ps : List Puzzle) (p : Puzzle)
+    → items_of caption n (ps ++ p ∷ []) ≡ items_of caption n ps ++ item_of caption (n + length ps + 1) p
+numbered_more caption n [] p = append-nil (item_of caption (n + 1) p) ∙ ap (λ (m : ℕ). item_of caption m p) (omega arith)
+numbered_more caption n (q ∷ qs) p =
+    let first = item_of caption (n + 1) q in
+    ap (λ (t : List ℕ). first ++ t) (numbered_more caption (n + 1) qs p
+    ∙ ap (λ (m : ℕ). items_of caption (n + 1) qs ++ item_of caption m p) (omega arith)) ∙ sym (append_assoc first _ _)
+
+pub numbered_next : (caption : Caption) (ps : List Puzzle) (k : ℕ) (d p : Puzzle) (start old new : List ℕ) → k < length ps
+    → old ≡ start ++ items_of caption 0 (take k ps) → p ≡ get_or ps k d → new ≡ old ++ item_of caption (k + 1) p
+    → new ≡ start ++ items_of caption 0 (take (k + 1) ps)
+numbered_next caption ps k d p start old new less o is n =
+    let long : length (take k ps) ≡ k = length-take-le k ps (omega (arith, less)) in
+    n ∙ ap (λ (t : List ℕ). t ++ item_of caption (k + 1) p) o ∙ append_assoc start (items_of caption 0 (take k ps)) (item_of caption (k + 1) p)
+    ∙ ap (λ (t : List ℕ). start ++ t) (ap (λ (m : ℕ). items_of caption 0 (take k ps) ++ item_of caption m p) (omega (arith, long))
+    ∙ sym (numbered_more caption 0 (take k ps) p) ∙ ap (λ (q : Puzzle). items_of caption 0 (take k ps ++ q ∷ [])) is
+    ∙ ap (items_of caption 0) (sym (take_more ps k d less)))
 
 -- ---- defences
 -- the text of one more move

@@ -3,6 +3,7 @@ use Rattle.std.specs.Prelude.{◌≡◌, ℕ, ◌-◌, ◌<◌, Bool, ◌&&◌, 
 use Rattle.std.specs.HashMap.{get, HashMap}
 use Rattle.std.specs.List.{Contains}
 use Rattle.gm_game.specs.declared.position.Position.{Position}
+use Rattle.gm_game.specs.Children.{is_same}
 use Rattle.gm_game.specs.Rules.{Rules, at}
 use Rattle.gm_play.specs.declared.best_line.BestLine.{BestLine}
 use Rattle.gm_play.specs.declared.move_values.MoveValue.{MoveValue}
@@ -12,10 +13,6 @@ use Rattle.gm_find.specs.Reaching.{IsPlay}
 use Rattle.gm_play.specs.Lines.{position_after}
 
 -- ---- places
--- whether two positions are equal
-abbrev pub is_same : Position → Position → Bool
-is_same p q = nat_eq p.tier q.tier && nat_eq p.index q.index
-
 -- the place of a position in a list whose first place has this number
 abbrev pub place_from : ℕ → List Position → Position → Option ℕ
 place_from n [] p = None

@@ -1,16 +1,17 @@
 //! Sheets: puzzles of one or more games, and their solutions at the end.
 ghost use Rattle.std.specs.Prelude.{◌≡◌, ◌++◌, true, IfOk, OnOk, is_some};
-ghost use Rattle.std.specs.List.{All, flat_map};
+ghost use Rattle.std.specs.List.{All, AllZip, flat_map};
 ghost use Rattle.gm_draw.specs.GameSpecs.{game_spec};
 ghost use Rattle.gm_caption.specs.Captions.{texts_of};
 ghost use Rattle.gm_find.specs.Founds.{IsFound};
-ghost use Rattle.gm_page.specs.Puzzles.{puzzle_item, unfolding_item, IsKnownFound, ArePuzzlesOf, IsFoundSheet, answer_item, men_words, shared, sides_words, legend, legend_of, item_of, answer_of, list_heading, puzzle_lists, listed_sheet as listed_sheet_spec, IsPuzzle};
+ghost use Rattle.gm_page.specs.Puzzles.{puzzle_item, unfolding_item, IsKnownFound, IsPuzzleFor, IsFoundSheet, IsFirstMove, marked_item, aside, men_words, shared, sides_words, legend, legend_of, item_of, items_of, answer_of, list_heading, puzzle_lists, listed_sheet as listed_sheet_spec, IsPuzzle, moves_key, IsSheetOrder};
 
 use crate::parts::{LIST_BACK, LIST_FRONT, LIST_LEGENDS, LIST_PUZZLES, LIST_SOLUTIONS};
-use crate::show::diagram_text;
+use crate::show::{diagram_text, svg_text};
 use crate::solution::solution_text;
 use gm_caption::caption::{Caption, Labels, push_under};
 use gm_draw::drawn::mover;
+use gm_draw::look::Look;
 use gm_draw::markup::push_escaped;
 use gm_draw::pictured::{Pictured, Style};
 use gm_find::choice::find_some;
@@ -18,62 +19,97 @@ use gm_find::found::Found;
 use gm_find::reached::Reached;
 use gm_find::sought::{Choice, Sought};
 use gm_game::game::{Game, laws};
+use gm_game::position::{Solved, Value};
+use gm_game::shown::Line;
 use gm_play::known::Known;
 use gm_play::known_tiers::KnownTiers;
 use gm_table::tables::Tables;
 use std::alloc::{AllocError, Global};
 
-/// The parts of a sheet for one position.
+/// What a sheet has of one position. Its number is its place on the sheet.
 #[derive(Drop)]
 pub struct Puzzle {
-    /// Its diagram as an item of the list.
-    pub item: Vec<u8>,
-    /// Its solution as an item of the list of solutions.
-    pub answer: Vec<u8>,
+    /// The title of its game.
+    pub game: &'static [u8],
+    /// The side to move.
+    pub side: &'static [u8],
+    pub solved: Solved,
+    /// Its diagram.
+    pub diagram: Vec<u8>,
+    /// Its solution.
+    pub solution: Vec<u8>,
+    /// The diagram beside its solution, on which the best move is marked. It is empty on a sheet without such diagrams.
+    pub first_move: Vec<u8>,
+    /// The text of its position.
+    pub text: Line,
+}
+
+/// What the diagrams of a sheet show.
+#[derive(Clone, Copy, Debug, PartialEq, Eq)]
+pub struct SheetLook {
+    /// Whether a diagram has the value.
+    pub valued: bool,
+    /// Whether each solution has a diagram on which the best move is marked.
+    pub arrow: bool,
 }
 
 impl Puzzle {
     /// Returns a puzzle with nothing in it.
     pub fn blank(alloc: Global) -> Puzzle {
         Puzzle {
-            item: Vec::new(alloc),
-            answer: Vec::new(alloc),
+            game: b"",
+            side: b"",
+            solved: Solved {
+                value: Value::Draw,
+                remoteness: 0,
+            },
+            diagram: Vec::new(alloc),
+            solution: Vec::new(alloc),
+            first_move: Vec::new(alloc),
+            text: Line::new(),
         }
     }
 }
 
-/// Returns the puzzle of a position, which has this number on its sheet.
+/// Returns the puzzle of a position.
 pub fn puzzle_of<G: Pictured>(
     alloc: Global,
     known: &Known<'_, G>,
-    caption: Caption<'_>,
-    number: u64,
+    look: SheetLook,
 ) -> Result<Puzzle, AllocError>
-    ensures { IfOk result (IsPuzzle (game_spec G.Game.rules G.shown G.move_shown G.picture) caption.entry number (G.shown known.now.position)) }
+    ensures { IfOk result (IsPuzzle (game_spec G.Game.rules G.shown G.move_shown G.picture) look (G.shown known.now.position)) }
 {
     let found = found_at(known);
-    let diagram = diagram_text(alloc, known, caption.is_valued())?;
+    let diagram = diagram_text(alloc, known, look.valued)?;
+    let first_move = first_move_text(alloc, known, look.arrow)?;
     let solution = solution_text(alloc, known, found)?;
-    let labels = Labels {
+    Ok(Puzzle {
         game: G::picture().title,
         side: mover::<G>(found.position),
         solved: found.value,
-        number,
+        diagram,
+        solution,
+        first_move,
+        text: G::show(found.position),
+    })
+}
+
+// Returns the diagram on which the best move of a position is marked, on request, and otherwise nothing.
+fn first_move_text<G: Pictured>(
+    alloc: Global,
+    known: &Known<'_, G>,
+    arrow: bool,
+) -> Result<Vec<u8>, AllocError>
+    ensures { IfOk result (λ v. IsFirstMove (game_spec G.Game.rules G.shown G.move_shown G.picture) arrow (G.shown known.now.position) v.items) }
+{
+    if !arrow {
+        return Ok(Vec::new(alloc));
+    }
+    let look = Look {
+        valued: false,
+        figures: false,
     };
-    let text = G::show(found.position);
-    let answer_text = solution.as_slice();
-    let mut item = Vec::new(alloc);
-    push_item(
-        &mut item,
-        diagram.as_slice(),
-        caption,
-        labels,
-        answer_text,
-        text.as_slice(),
-    )?;
-    let mut answer = Vec::new(alloc);
-    push_answer(&mut answer, answer_text)?;
-    Ok(Puzzle { item, answer })
+    svg_text(alloc, known, look, true)
 }
 
 // Returns the answer for a position, without tries.
@@ -124,14 +160,37 @@ fn push_unfolding(item: &mut Vec<u8>, solution: &[u8], text: &[u8]) -> Result<()
     item.extend_from_slice(b"</code></p></details>")
 }
 
-// Appends the item of a solution.
+// Appends the item of a solution, with the diagram beside it if there is one.
 #[tactic(auto, unfolding(crate::specs::Puzzles::answer_item))]
-fn push_answer(answer: &mut Vec<u8>, solution: &[u8]) -> Result<(), AllocError>
-    ensures { OnOk result (answer.new.items ≡ answer.old.items ++ answer_item solution.now) }
+fn push_answer(sheet: &mut Vec<u8>, p: &Puzzle) -> Result<(), AllocError>
+    ensures { OnOk result (sheet.new.items ≡ sheet.old.items ++ answer_of p.now) }
 {
-    answer.extend_from_slice(b"<li>")?;
-    answer.extend_from_slice(solution)?;
-    answer.extend_from_slice(b"</li>\n")
+    sheet.extend_from_slice(b"<li>")?;
+    push_first_move(sheet, p.first_move.as_slice())?;
+    sheet.extend_from_slice(p.solution.as_slice())?;
+    sheet.extend_from_slice(b"</li>\n")
+}
+
+// Appends the diagram beside a solution, if there is one.
+fn push_first_move(sheet: &mut Vec<u8>, first_move: &[u8]) -> Result<(), AllocError>
+    ensures { OnOk result (sheet.new.items ≡ sheet.old.items ++ marked_item first_move.now) }
+{
+    if first_move.is_empty() {
+        Ok(())
+    } else {
+        push_aside(sheet, first_move)
+    }
+}
+
+// Appends a diagram beside a solution.
+#[tactic(auto, unfolding(crate::specs::Puzzles::aside))]
+fn push_aside(sheet: &mut Vec<u8>, first_move: &[u8]) -> Result<(), AllocError>
+    ensures { OnOk result (sheet.new.items ≡ sheet.old.items ++ aside first_move.now) }
+{
+    sheet.extend_from_slice(b"<div style=\"width:9rem\">")?;
+    sheet.extend_from_slice(first_move)?;
+    sheet.extend_from_slice(b"</div>")?;
+    Ok(())
 }
 
 // Returns the words on whose men of a look are.
@@ -228,7 +287,14 @@ pub fn found_sheet<G: Pictured>(
     let mut legends = Vec::new(alloc);
     push_legend::<G>(&mut legends)?;
     let title = G::picture().title;
-    listed_sheet(alloc, title, legends.as_slice(), puzzles.as_slice())
+    let caption = Caption::BothSides;
+    listed_sheet(
+        alloc,
+        title,
+        legends.as_slice(),
+        caption,
+        puzzles.as_slice(),
+    )
 }
 
 // Returns the puzzles of found positions, in their order.
@@ -238,19 +304,43 @@ fn puzzles_of<G: Pictured>(
     found: &[Found],
 ) -> Result<Vec<Puzzle>, AllocError>
     requires { All (IsKnownFound G.Game.rules tables.now) found.now }
-    ensures { IfOk result (λ v. ArePuzzlesOf (game_spec G.Game.rules G.shown G.move_shown G.picture) 0 found.now v.items) }
+    ensures { IfOk result (λ v. AllZip (IsPuzzleFor (game_spec G.Game.rules G.shown G.move_shown G.picture)) found.now v.items) }
 {
+    let look = SheetLook {
+        valued: true,
+        arrow: false,
+    };
     let mut puzzles = Vec::new(alloc);
     for x in found {
         let known = Known {
             tables,
             position: x.position,
         };
-        let number = puzzles.len() as u64 + 1;
-        let puzzle = puzzle_of(alloc, &known, Caption::BothSides, number)?;
-        puzzles.push(puzzle)?;
+        puzzles.push(puzzle_of(alloc, &known, look)?)?;
     }
     Ok(puzzles)
+}
+
+/// Puts puzzles in rising order of the numbers of moves to the end, draws last, if this is asked for. Those with one number of moves keep
+/// their order.
+pub fn put_in_order(puzzles: &mut Vec<Puzzle>, rising: bool) -> Result<(), AllocError>
+    ensures { OnOk result (IsSheetOrder rising puzzles.old.items puzzles.new.items) }
+{
+    if rising {
+        puzzles.sort_by_key(|p| moves_of(p.solved))
+    } else {
+        Ok(())
+    }
+}
+
+// Returns the sort key of a value: the number of moves to the end, or a number above all of these if there is no end.
+fn moves_of(solved: Solved) -> u64
+    ensures { result ≡ moves_key solved }
+{
+    match solved.value {
+        Value::Draw => 1 << 32,
+        Value::Win | Value::Lose | Value::Tie => u64::from(solved.remoteness),
+    }
 }
 
 /// Returns the sheet of puzzles in their order, under a title, with these lines on who is who.
@@ -258,13 +348,14 @@ pub fn listed_sheet(
     alloc: Global,
     title: &[u8],
     legends: &[u8],
+    caption: Caption<'_>,
     puzzles: &[Puzzle],
 ) -> Result<Vec<u8>, AllocError>
-    ensures { IfOk result (λ v. v.items ≡ listed_sheet_spec title.now legends.now puzzles.now) }
+    ensures { IfOk result (λ v. v.items ≡ listed_sheet_spec title.now legends.now caption.entry puzzles.now) }
 {
     let mut sheet = Vec::new(alloc);
     push_heading(&mut sheet, title, legends)?;
-    push_lists(&mut sheet, puzzles)?;
+    push_lists(&mut sheet, caption, puzzles)?;
     Ok(sheet)
 }
 
@@ -282,30 +373,56 @@ fn push_heading(sheet: &mut Vec<u8>, title: &[u8], legends: &[u8]) -> Result<(),
 
 // Appends the puzzles, and their solutions.
 #[tactic(auto, unfolding(crate::specs::Puzzles::puzzle_lists))]
-fn push_lists(sheet: &mut Vec<u8>, puzzles: &[Puzzle]) -> Result<(), AllocError>
-    ensures { OnOk result (sheet.new.items ≡ sheet.old.items ++ puzzle_lists puzzles.now) }
+fn push_lists(
+    sheet: &mut Vec<u8>,
+    caption: Caption<'_>,
+    puzzles: &[Puzzle],
+) -> Result<(), AllocError>
+    ensures { OnOk result (sheet.new.items ≡ sheet.old.items ++ puzzle_lists caption.entry puzzles.now) }
 {
-    push_items(sheet, puzzles)?;
+    push_items(sheet, caption, puzzles)?;
     sheet.extend_from_slice(LIST_SOLUTIONS)?;
     push_answers(sheet, puzzles)?;
     sheet.extend_from_slice(LIST_BACK)
 }
 
-// Appends the items of puzzles.
-fn push_items(sheet: &mut Vec<u8>, puzzles: &[Puzzle]) -> Result<(), AllocError>
-    ensures { OnOk result (sheet.new.items ≡ sheet.old.items ++ flat_map item_of puzzles.now) }
+// Appends the items of puzzles, numbered from 1.
+fn push_items(
+    sheet: &mut Vec<u8>,
+    caption: Caption<'_>,
+    puzzles: &[Puzzle],
+) -> Result<(), AllocError>
+    ensures { OnOk result (sheet.new.items ≡ sheet.old.items ++ items_of caption.entry 0 puzzles.now) }
 {
-    for p in puzzles {
-        push_item_of(sheet, p)?;
+    for k in 0..puzzles.len() {
+        push_item_of(sheet, caption, k as u64 + 1, &puzzles[k])?;
     }
     Ok(())
 }
 
-// Appends the item of a puzzle, as it is made.
-fn push_item_of(sheet: &mut Vec<u8>, p: &Puzzle) -> Result<(), AllocError>
-    ensures { OnOk result (sheet.new.items ≡ sheet.old.items ++ item_of p.now) }
+// Appends the item of a puzzle with this number.
+fn push_item_of(
+    sheet: &mut Vec<u8>,
+    caption: Caption<'_>,
+    number: u64,
+    p: &Puzzle,
+) -> Result<(), AllocError>
+    ensures { OnOk result (sheet.new.items ≡ sheet.old.items ++ item_of caption.entry number p.now) }
 {
-    sheet.extend_from_slice(p.item.as_slice())
+    let labels = Labels {
+        game: p.game,
+        side: p.side,
+        solved: p.solved,
+        number,
+    };
+    push_item(
+        sheet,
+        p.diagram.as_slice(),
+        caption,
+        labels,
+        p.solution.as_slice(),
+        p.text.as_slice(),
+    )
 }
 
 // Appends the items of their solutions.
@@ -313,14 +430,7 @@ fn push_answers(sheet: &mut Vec<u8>, puzzles: &[Puzzle]) -> Result<(), AllocErro
     ensures { OnOk result (sheet.new.items ≡ sheet.old.items ++ flat_map answer_of puzzles.now) }
 {
     for p in puzzles {
-        push_answer_of(sheet, p)?;
+        push_answer(sheet, p)?;
     }
     Ok(())
-}
-
-// Appends the item of its solution, as it is made.
-fn push_answer_of(sheet: &mut Vec<u8>, p: &Puzzle) -> Result<(), AllocError>
-    ensures { OnOk result (sheet.new.items ≡ sheet.old.items ++ answer_of p.now) }
-{
-    sheet.extend_from_slice(p.answer.as_slice())
 }

@@ -1,22 +1,18 @@
 -- Numbers that the elements of a list give, put into an ascending list one at a time.
 use Rattle.std.specs.Prelude.{◌≡◌, ◌+◌, ◌<◌, ◌≤◌, ◌∷◌, ◌++◌, drop}
-use Rattle.gm_pieces.specs.Common.{ℕ, List, [], length, get_or, take, Option, None, Some, refl, sym, ap, ◌∙◌, arith, cond, eqb, leb, ltb, filter_map, put, put_all, take_more}
-use Rattle.std.proofs.lemmas.Bool.{cond_both, cond-true, cond-false, le-leb, lt-leb}
+use Rattle.gm_pieces.specs.Common.{ℕ, List, [], length, get_or, take, Option, None, Some, refl, sym, ap, ◌∙◌, arith, cond, filter_map, put, put_all, take_more}
+use Rattle.std.proofs.lemmas.Bool.{cond-true, le-leb}
 use Rattle.std.proofs.lemmas.List.{take-append-drop}
 use Rattle.std.proofs.lemmas.List.Elements.{filter_map-append}
 use Rattle.std.proofs.lemmas.List.Sums.{fold-append}
 use Rattle.gm_patterns.specs.PatternGames.{PatternGame, more, fewer, steps_of, child_by, child_tiers}
 use Rattle.gm_patterns.specs.PatternTables.{IsPatternGame}
-use Rattle.gm_patterns.specs.laws.ChildFacts.{few_children}
-use Rattle.gm_patterns.specs.declared.step.Step.{Step}
+use Rattle.gm_patterns.specs.laws.StepFacts.{few_children}
 
 -- a number put into a list makes it no shorter
 put_longer : (x : ℕ) (ys : List ℕ) → length ys ≤ length (put x ys)
 put_longer x [] = omega arith
-put_longer x (y ∷ ys) =
-    let P : List ℕ → Type 0 = λ zs. length (y ∷ ys) ≤ length zs in
-    cond_both (ltb x y) (x ∷ y ∷ ys) (cond (eqb x y) (y ∷ ys) (y ∷ put x ys)) P (λ e. omega arith)
-    (λ e. cond_both (eqb x y) (y ∷ ys) (y ∷ put x ys) P (λ f. omega arith) (λ f. let h = put_longer x ys in omega (arith, h)))
+put_longer x (y ∷ ys) = grind (arith, put_longer x ys)
 
 put_all_longer : (ys xs : List ℕ) → length ys ≤ length (put_all ys xs)
 put_all_longer ys [] = omega arith
@@ -59,30 +55,24 @@ module _ {X : Type 0} (h : X → Option ℕ) (ys : List ℕ) (xs : List X) where
 -- a tier of more pieces than cells has no child tier
 pub no_children : (n : ℕ) (g : PatternGame) (t : ℕ) → n < more g t + fewer g t → child_tiers n g t ≡ []
 unfolding child_tiers steps_of
-no_children n g t l =
-    let up : List Step → List ℕ = filter_map (child_by n g (more g t) (fewer g t)) in
-    let down : List Step → List ℕ = filter_map (child_by n g (fewer g t) (more g t)) in
-    ap (λ (ss : List Step). cond (leb (fewer g t) (more g t)) (put_all [] (up ss ++ down ss)) []) (cond-false _ _ _ (lt-leb _ _ l))
-    ∙ cond_both (leb (fewer g t) (more g t)) [] [] (λ (xs : List ℕ). xs ≡ []) (λ e. refl) (λ e. refl)
+no_children n g t l = grind arith
 
 module _ (n : ℕ) (g : PatternGame) (h : IsPatternGame n g) (t : ℕ) (order : fewer g t ≤ more g t) where
-  up : List ℕ
+  -- the numbers that the steps give from either numbers of pieces
+  abbrev pub up : List ℕ
   up = filter_map (child_by n g (more g t) (fewer g t)) (steps_of n g t)
 
-  down : List ℕ
+  abbrev pub down : List ℕ
   down = filter_map (child_by n g (fewer g t) (more g t)) (steps_of n g t)
 
   -- the child tiers are the numbers of the two lists, put one after the other
-  pub children_are : child_tiers n g t ≡ put_all (put_all [] (filter_map (child_by n g (more g t) (fewer g t)) (steps_of n g t))) (filter_map
-      (child_by n g (fewer g t) (more g t)) (steps_of n g t))
-  unfolding up down child_tiers
+  pub children_are : child_tiers n g t ≡ put_all (put_all [] up) down
+  unfolding child_tiers
   children_are = cond-true _ _ _ (le-leb (fewer g t) (more g t) order) ∙ put_all_append [] up down
 
   -- there is room for them
-  pub rest_room : length (put_all (put_all [] (filter_map (child_by n g (more g t) (fewer g t)) (steps_of n g t))) (filter_map (child_by n g (fewer g t) (more g t))
-      (steps_of n g t))) < 16
+  pub rest_room : length (put_all (put_all [] up) down) < 16
   rest_room = let few = few_children n g h t in let z = ap (λ (xs : List ℕ). length xs) children_are in omega (arith, few, z)
 
-  pub first_room : length (put_all [] (filter_map (child_by n g (more g t) (fewer g t)) (steps_of n g t))) < 16
-  unfolding up down
+  pub first_room : length (put_all [] up) < 16
   first_room = let l = put_all_longer (put_all [] up) down in let k = rest_room in omega (arith, l, k)

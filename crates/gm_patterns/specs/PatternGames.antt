@@ -1,7 +1,7 @@
 -- Games of patterns: the steps, the ends and the boards that can't be are tables of patterns. A board is a list of n cells as the player to move sees them.
-use Rattle.std.specs.Prelude.{ℕ, ◌+◌, ◌-◌, ◌*◌, ◌/◌, ◌%◌, min, max, Bool, true, false, not, ◌&&◌, ◌==◌, nat_le, nat_lt, List, [], ◌++◌, map, length, replicate, slice_index_or, if◌then◌else◌, Option, None, Some}
+use Rattle.std.specs.Prelude.{ℕ, ◌+◌, ◌-◌, ◌*◌, ◌/◌, ◌%◌, min, max, Bool, true, false, not, ◌&&◌, ◌||◌, ◌==◌, nat_le, nat_lt, List, [], ◌∷◌, ◌++◌, map, length, replicate, slice_index_or, if◌then◌else◌, Option, None, Some}
 use Rattle.std.specs.Option.{is_none}
-use Rattle.std.specs.List.{filter_map}
+use Rattle.std.specs.List.{filter_map, range_with_len}
 use Rattle.gm_game.specs.Ascending.{put_all}
 use Rattle.gm_board.specs.declared.cell.Cell.{Cell}
 use Rattle.gm_board.specs.declared.cell.Cell.TheVariants.{Empty}
@@ -15,10 +15,8 @@ use Rattle.gm_game.specs.declared.position.End.TheVariants.{Lose, Tie, Win}
 use Rattle.gm_game.specs.Rules.{Rules}
 use Rattle.gm_pieces.specs.MoveGames.{MoveGame, move_rules}
 use Rattle.gm_patterns.specs.Patterns.{fits, has_some}
-use Rattle.gm_patterns.specs.Steps.{stepped, taken_back}
+use Rattle.gm_patterns.specs.Steps.{stepped, taken_back, place}
 use Rattle.gm_patterns.specs.declared.pattern.Pattern.{Pattern}
-use Rattle.gm_patterns.specs.declared.rules.Meaning.{Meaning}
-use Rattle.gm_patterns.specs.declared.rules.Meaning.TheVariants.{Forbidden, Lost, Won, Tied}
 use Rattle.gm_patterns.specs.declared.rules.Tiers.{Tiers}
 use Rattle.gm_patterns.specs.declared.rules.Tiers.TheVariants.{Sides, Placed, Common, Single}
 use Rattle.gm_patterns.specs.declared.step.Step.{Step}
@@ -55,12 +53,32 @@ pub record PatternGame : Type 0 where
   -- the symmetries: for each cell, the cell whose piece comes there
   pub symmetries : List (List ℕ)
 
--- the patterns of each meaning
-abbrev pub patterns_of : PatternGame → Meaning → List Pattern
-patterns_of g Forbidden = g.forbidden
-patterns_of g Lost = g.lost
-patterns_of g Won = g.won
-patterns_of g Tied = g.tied
+-- what is usual on n cells: the sides place pieces by turns, no pattern ends the game, and a player who can't move has lost. A game says what it has otherwise
+abbrev pub usual : ℕ → PatternGame
+usual n = record {
+  name = [];
+  start = replicate n Empty;
+  names = [];
+  numbers = λ mine theirs. mine == theirs || mine + 1 == theirs;
+  over = λ mine theirs. None;
+  tiers = Placed;
+  adds = true;
+  phase = λ pieces. 0;
+  phases = map place (range_with_len 0 n) ∷ [];
+  swapped = true;
+  turn = None;
+  forbidden = [];
+  lost = [];
+  won = [];
+  tied = [];
+  stuck = Lose;
+  symmetries = [];
+}
+
+-- how numbers of pieces end a game that ends where the mover has fewer pieces than some number, if there is one
+abbrev pub over_below : Option (ℕ × End) → ℕ → ℕ → Option End
+over_below None mine theirs = None
+over_below (Some e) mine theirs = if nat_lt mine e.0 then Some e.1 else None
 
 -- ---- tiers
 -- the number of the tier of the boards on which one side has so many pieces and the other so many

@@ -18,17 +18,15 @@ square_board s =
     if s == 4 then codes "    1 2 3 4\na   A B C D\nb   E F G H\nc   I J K L\nd   M N O P" else
     codes "    1 2 3\na   A B C\nb   D E F\nc   G H I"
 
--- a game on a square of side 3 to 5: the look of its men, its title, the side to move, and how cells, positions and moves are written
+-- a game on a board with a slot for each cell: the look of its men, its title, the board, the names of the cells, the side to move, and how cells, positions and
+-- moves are written
+abbrev pub on_board : Style → List ℕ → List ℕ → List (List ℕ) → List ℕ → List ℕ → PictureSpec
+on_board style title board points mover naming =
+    record { title = title; style = style; board = board; rows = []; points = points; mover = λ p. mover; naming = naming }
+
+-- the same on a square of side 3 to 5
 abbrev pub on_square : ℕ → Style → List ℕ → List ℕ → List ℕ → PictureSpec
-on_square s style title mover naming = record {
-  title = title;
-  style = style;
-  board = square_board s;
-  rows = [];
-  points = square_points s;
-  mover = λ p. mover;
-  naming = naming;
-}
+on_square s style title = on_board style title (square_board s) (square_points s)
 
 -- how cells and positions are written on a square with common pieces
 abbrev pub common_naming : List ℕ

@@ -4,7 +4,7 @@ ghost use Rattle.gm_board.specs.Images.{board_of};
 ghost use Rattle.gm_patterns.specs.PatternGames.{turn_by, end_by_patterns as patterns_end, passed as passed_of};
 
 use crate::pattern::has_some;
-use crate::rules::{Meaning, PatternRules};
+use crate::rules::PatternRules;
 use gm_game::position::End;
 use gm_pieces::board::Board;
 
@@ -12,11 +12,12 @@ use gm_pieces::board::Board;
 pub fn end_by_patterns<const CELLS: u32, T: PatternRules<CELLS>>(board: Board<CELLS>) -> Option<End>
     ensures { result ≡ patterns_end T.game (board_of CELLS board.entry.mine board.entry.theirs) }
 {
-    if has_some(board, T::patterns(Meaning::Lost)) {
+    let ends = T::basics().ends;
+    if has_some(board, ends.lost) {
         Some(End::Lose)
-    } else if has_some(board, T::patterns(Meaning::Won)) {
+    } else if has_some(board, ends.won) {
         Some(End::Win)
-    } else if has_some(board, T::patterns(Meaning::Tied)) {
+    } else if has_some(board, ends.tied) {
         Some(End::Tie)
     } else {
         None

@@ -8,6 +8,7 @@ pub mod lesser;
 pub mod on_patterns;
 pub mod pattern;
 pub mod picture;
+pub mod prelude;
 pub mod rows;
 pub mod rules;
 pub mod step;

@@ -6,15 +6,17 @@ ghost use Rattle.gm_pieces.specs.SideTexts.{cells_text as board_text_of};
 ghost use Rattle.gm_patterns.specs.PatternGames.{pattern_game};
 ghost use Rattle.gm_patterns.specs.PatternTexts.{step_text as step_text_of};
 ghost use Rattle.gm_patterns.specs.laws.PatternLaws.{pattern_lawful, pattern_numbered, pattern_symmetric};
-ghost use Rattle.gm_patterns.specs.laws.PatternTextLaws.{pattern_readable};
+ghost use Rattle.gm_patterns.specs.laws.PatternPictured.{pattern_readable};
 
 use crate::boards::{end_by_patterns, passed};
 use crate::indexes::{boards_before, boards_with};
 use crate::lesser::past_lesser;
 use crate::pattern::has_some;
-use crate::rules::{Meaning, PatternRules};
+use crate::rules::PatternRules;
 use crate::text::name_of;
-use crate::tiers::{as_children, can_have, numbers_in, put_children, step_at, step_count, tier_of};
+use crate::tiers::{
+    as_children, can_have, numbers_in, over_by, put_children, step_at, step_count, tier_of,
+};
 use arrayvec::ArrayVec;
 use gm_game::limits::{CHILD_TIERS, NAME};
 use gm_game::position::{End, Position};
@@ -121,7 +123,7 @@ impl<const CELLS: u32, T: PatternRules<CELLS>> MoveRules for PatternMoves<CELLS,
     fn is_legal_board(board: Board<CELLS>) -> bool {
         let mine = u64::from(board.own_pieces());
         let theirs = u64::from(board.their_pieces());
-        can_have::<CELLS, T>(mine, theirs) && !has_some(board, T::patterns(Meaning::Forbidden))
+        can_have::<CELLS, T>(mine, theirs) && !has_some(board, T::basics().ends.forbidden)
     }
 
     #[tactic(auto, unfolding(crate::specs::PatternGames::tier_on))]
@@ -144,14 +146,14 @@ impl<const CELLS: u32, T: PatternRules<CELLS>> MoveRules for PatternMoves<CELLS,
 
     #[tactic(auto, using(crate::specs::laws::MaskFacts::legal_few), unfolding(crate::specs::PatternGames::end_by_last_move))]
     fn end_by_last_move(board: Board<CELLS>) -> Option<End> {
-        match T::over(board.own_pieces(), board.their_pieces()) {
+        match over_by::<CELLS, T>(board.own_pieces(), board.their_pieces()) {
             Some(end) => Some(end),
             None => end_by_patterns::<CELLS, T>(board),
         }
     }
 
     fn end_if_no_move(_board: Board<CELLS>) -> End {
-        T::basics().stuck
+        T::basics().ends.stuck
     }
 
     #[tactic(auto, unfolding(crate::specs::PatternGames::can_move))]
@@ -182,7 +184,7 @@ impl<const CELLS: u32, T: PatternRules<CELLS>> MoveRules for PatternMoves<CELLS,
         board.text()
     }
 
-    #[tactic(auto, using(crate::specs::laws::MaskFacts::cells_few, crate::specs::laws::PatternBoards::legal_in))]
+    #[tactic(auto, using(crate::specs::laws::MaskFacts::cells_few, crate::specs::laws::TableFacts::legal_in))]
     fn board_in(bytes: &[u8]) -> Board<CELLS> {
         Board::in_text(bytes)
     }
@@ -195,13 +197,13 @@ impl<const CELLS: u32, T: PatternRules<CELLS>> MoveRules for PatternMoves<CELLS,
         )
     }
 
-    ghost lawful = { pattern_lawful CELLS T.game T.tables };
+    ghost lawful = { pattern_lawful CELLS T.game T.right.tables };
 
-    ghost numbered = { pattern_numbered CELLS T.game T.tables };
+    ghost numbered = { pattern_numbered CELLS T.game T.right.tables };
 
-    ghost symmetric = { pattern_symmetric CELLS T.game T.tables };
+    ghost symmetric = { pattern_symmetric CELLS T.game T.right.tables };
 
-    ghost readable = { pattern_readable CELLS T.game T.tables };
+    ghost readable = { pattern_readable CELLS T.game T.right.tables };
 }
 
 impl<const CELLS: u32, T: PatternRules<CELLS>> MoveLists for PatternMoves<CELLS, T> {

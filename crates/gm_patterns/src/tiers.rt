@@ -12,6 +12,7 @@ use crate::rules::{PatternRules, Tiers};
 use crate::step::Step;
 use arrayvec::ArrayVec;
 use gm_game::limits::{CHILD_TIERS, PARENTS};
+use gm_game::position::End;
 use gm_pieces::ascending::put;
 use gm_pieces::board::Board;
 
@@ -56,13 +57,23 @@ pub fn can_have<const CELLS: u32, T: PatternRules<CELLS>>(mine: u64, theirs: u64
     mine + theirs <= u64::from(CELLS) && T::can_have(mine as u32, theirs as u32)
 }
 
+/// Returns how these numbers of pieces of the mover's and of the opponent's end the game, if they do.
+pub fn over_by<const CELLS: u32, T: PatternRules<CELLS>>(mine: u32, theirs: u32) -> Option<End>
+    ensures { result ≡ T.game.over mine theirs }
+{
+    match T::basics().ends.over {
+        Some((least, end)) => (mine < least).then_some(end),
+        None => None,
+    }
+}
+
 // Returns whether the game goes on with these numbers of pieces.
 #[tactic(auto, unfolding(crate::specs::PatternGames::can_play, crate::specs::PatternGames::can_have))]
 fn can_play<const CELLS: u32, T: PatternRules<CELLS>>(mine: u64, theirs: u64) -> bool
     requires { mine + theirs < 2 ^ 64 }
     ensures { result ≡ can_play_in CELLS T.game mine theirs }
 {
-    can_have::<CELLS, T>(mine, theirs) && T::over(mine as u32, theirs as u32).is_none()
+    can_have::<CELLS, T>(mine, theirs) && over_by::<CELLS, T>(mine as u32, theirs as u32).is_none()
 }
 
 /// Returns the steps of a tier.

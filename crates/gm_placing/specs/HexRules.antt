@@ -1,14 +1,10 @@
 -- The rules of Hex on s by s cells: a cell has beside it the next cells of its row and column, the one above it to the right and the one below it to the left.
 -- The mover connects the first row with the last, and the opponent the first column with the last.
-use Rattle.std.specs.Prelude.{ℕ, zero, suc, ◌+◌, ◌-◌, ◌*◌, ◌/◌, ◌%◌, ◌==◌, ◌&&◌, ◌||◌, nat_le, not, Bool, true, List, [], ◌∷◌, ◌++◌, map, replicate, codes, if◌then◌else◌, None, Some}
+use Rattle.std.specs.Prelude.{ℕ, zero, suc, ◌+◌, ◌-◌, ◌*◌, ◌/◌, ◌%◌, ◌==◌, ◌&&◌, ◌||◌, nat_le, not, Bool, List, [], ◌∷◌, ◌++◌, map, replicate, codes, if◌then◌else◌, Some}
 use Rattle.std.specs.List.{filter, flat_map, list_any, range_with_len}
-use Rattle.gm_board.specs.declared.cell.Cell.TheVariants.{Empty}
 use Rattle.gm_draw.specs.Points.{square_points}
-use Rattle.gm_game.specs.declared.position.End.TheVariants.{Lose}
 use Rattle.gm_patterns.specs.Patterns.{mine_on, theirs_on}
-use Rattle.gm_patterns.specs.Steps.{place}
-use Rattle.gm_patterns.specs.PatternGames.{PatternGame}
-use Rattle.gm_patterns.specs.declared.rules.Tiers.TheVariants.{Placed}
+use Rattle.gm_patterns.specs.PatternGames.{PatternGame, usual}
 
 -- whether the second number is one more than the first
 abbrev pub is_next : ℕ → ℕ → Bool
@@ -42,23 +38,12 @@ transposed s k = s * (k % s) + k / s
 
 -- the game: the player who has made a chain has won; a full board has a chain, so that nobody is left without a move. Rows and columns are exchanged for the other player, and the board may be turned by half
 abbrev pub hex_with : List ℕ → ℕ → PatternGame
-hex_with name s = record {
+hex_with name s = record (usual (s * s)) {
   name = name;
-  start = replicate (s * s) Empty;
   names = square_points s;
-  numbers = λ mine theirs. mine == theirs || mine + 1 == theirs;
-  over = λ mine theirs. None;
-  tiers = Placed;
-  adds = true;
-  phase = λ pieces. 0;
-  phases = map place (range_with_len 0 (s * s)) ∷ [];
-  swapped = true;
   turn = Some (map (transposed s) (range_with_len 0 (s * s)));
   forbidden = map mine_on (chains s);
   lost = map (λ ks. theirs_on (map (transposed s) ks)) (chains s);
-  won = [];
-  tied = [];
-  stuck = Lose;
   symmetries = range_with_len 0 (s * s) ∷ map (λ k. s * s - 1 - k) (range_with_len 0 (s * s)) ∷ [];
 }
 

@@ -1,14 +1,13 @@
 -- The rules of games of rows: on a square of side s the players place pieces by turns, and a line of one side's pieces ends the game.
-use Rattle.std.specs.Prelude.{ℕ, ◌+◌, ◌-◌, ◌*◌, ◌==◌, ◌||◌, true, false, List, [], ◌∷◌, ◌++◌, map, replicate, codes, None}
+use Rattle.std.specs.Prelude.{ℕ, ◌+◌, ◌-◌, ◌*◌, ◌==◌, false, List, [], ◌∷◌, ◌++◌, map, replicate, codes}
 use Rattle.std.specs.List.{range_with_len}
 use Rattle.gm_board.specs.Squares.{square_symmetries}
-use Rattle.gm_board.specs.declared.cell.Cell.TheVariants.{Empty}
 use Rattle.gm_draw.specs.Points.{square_points}
 use Rattle.gm_game.specs.declared.position.End.TheVariants.{Win, Tie}
 use Rattle.gm_patterns.specs.Patterns.{mine_on, theirs_on}
 use Rattle.gm_patterns.specs.Steps.{place}
-use Rattle.gm_patterns.specs.PatternGames.{PatternGame}
-use Rattle.gm_patterns.specs.declared.rules.Tiers.TheVariants.{Placed, Common}
+use Rattle.gm_patterns.specs.PatternGames.{PatternGame, usual}
+use Rattle.gm_patterns.specs.declared.rules.Tiers.TheVariants.{Common}
 
 -- the cells from one on, each so many after the last
 abbrev pub run : ℕ → ℕ → ℕ → List ℕ
@@ -23,22 +22,11 @@ lines s =
 
 -- the game on a square of side s: the player who has made a line has won; a full board without a line is a tie
 abbrev pub rows_with : List ℕ → ℕ → PatternGame
-rows_with name s = record {
+rows_with name s = record (usual (s * s)) {
   name = name;
-  start = replicate (s * s) Empty;
   names = square_points s;
-  numbers = λ mine theirs. mine == theirs || mine + 1 == theirs;
-  over = λ mine theirs. None;
-  tiers = Placed;
-  adds = true;
-  phase = λ pieces. 0;
-  phases = map place (range_with_len 0 (s * s)) ∷ [];
-  swapped = true;
-  turn = None;
   forbidden = map mine_on (lines s);
   lost = map theirs_on (lines s);
-  won = [];
-  tied = [];
   stuck = Tie;
   symmetries = square_symmetries s;
 }

@@ -1,12 +1,9 @@
 -- The rules of Sim: the cells are the fifteen lines between six points, numbered 1 to 6. The players colour one line each by turns.
-use Rattle.std.specs.Prelude.{ℕ, ◌+◌, ◌-◌, ◌*◌, ◌/◌, ◌%◌, ◌==◌, ◌||◌, min, max, true, List, [], ◌∷◌, ◌++◌, map, replicate, codes, None}
+use Rattle.std.specs.Prelude.{ℕ, ◌+◌, ◌-◌, ◌*◌, ◌/◌, ◌%◌, min, max, List, [], ◌∷◌, ◌++◌, map, replicate, codes}
 use Rattle.std.specs.List.{flat_map, range_with_len}
-use Rattle.gm_board.specs.declared.cell.Cell.TheVariants.{Empty}
 use Rattle.gm_game.specs.declared.position.End.TheVariants.{Tie}
 use Rattle.gm_patterns.specs.Patterns.{mine_on, theirs_on}
-use Rattle.gm_patterns.specs.Steps.{place}
-use Rattle.gm_patterns.specs.PatternGames.{PatternGame}
-use Rattle.gm_patterns.specs.declared.rules.Tiers.TheVariants.{Placed}
+use Rattle.gm_patterns.specs.PatternGames.{PatternGame, usual}
 
 -- the points, from 0, and those after one
 abbrev pub after : ℕ → List ℕ
@@ -38,22 +35,11 @@ hexagon_symmetries = map (λ r. by_points (λ p. (p + r) % 6)) (range_with_len 0
 
 -- the game: the player who has completed a triangle of his own colour has lost. When all lines have colours there is such a triangle
 abbrev pub sim : PatternGame
-sim = record {
+sim = record (usual 15) {
   name = codes "sim" ++ replicate 13 0;
-  start = replicate 15 Empty;
   names = map (λ e. (49 + e.0) ∷ (49 + e.1) ∷ []) ends;
-  numbers = λ mine theirs. mine == theirs || mine + 1 == theirs;
-  over = λ mine theirs. None;
-  tiers = Placed;
-  adds = true;
-  phase = λ pieces. 0;
-  phases = map place (range_with_len 0 15) ∷ [];
-  swapped = true;
-  turn = None;
   forbidden = map mine_on triangles;
-  lost = [];
   won = map theirs_on triangles;
-  tied = [];
   stuck = Tie;
   symmetries = hexagon_symmetries;
 }

@@ -3,6 +3,5 @@
 #![tactic(auto)]
 
 pub mod hex;
-pub mod picture;
 pub mod rows;
 pub mod sim;

@@ -3,25 +3,19 @@ ghost use Rattle.std.specs.Prelude.{◌≡◌};
 ghost use Rattle.gm_patterns.specs.PatternGames.{pattern_rules};
 ghost use Rattle.gm_patterns.specs.PatternTexts.{pattern_text, pattern_move_text};
 ghost use Rattle.gm_placing.specs.RowRules.{tictactoe_four as four_game, notakto as notakto_game};
-ghost use Rattle.gm_placing.specs.laws.PlacingTables.{tictactoe_four_tables, notakto_tables};
+ghost use Rattle.gm_placing.specs.PlacingPictures.{tictactoe_four_picture, notakto_picture};
+ghost use Rattle.gm_placing.specs.laws.PlacingTables.{tictactoe_four_right, notakto_right};
 
-use gm_draw::cells::square_cells;
-use gm_game::game::Game;
-use gm_game::position::End;
-use gm_game::shown::Shown;
 pub use gm_morris::games::{TicTacToeMisere, tictactoe_misere_is};
-use gm_patterns::on_patterns::OnPatterns;
-use gm_patterns::pattern::Pattern;
-use gm_patterns::rules::{Basics, Meaning, PatternRules, Tiers};
-use gm_patterns::step::Step;
-use gm_patterns::table;
-use gm_pieces::board::Board;
+use gm_patterns::prelude::*;
+use gm_patterns::{on_square, table};
 
 /// The steps on three by three: a piece is placed on an empty cell.
-const NINE: [Step; 9] = table![place 0, 1, 2, 3, 4, 5, 6, 7, 8];
+pub(crate) const NINE: [Step; 9] = table![place 0, 1, 2, 3, 4, 5, 6, 7, 8];
 
 /// The steps on four by four.
-const SIXTEEN: [Step; 16] = table![place 0, 1, 2, 3, 4, 5, 6, 7, 8, 9, 10, 11, 12, 13, 14, 15];
+pub(crate) const SIXTEEN: [Step; 16] =
+    table![place 0, 1, 2, 3, 4, 5, 6, 7, 8, 9, 10, 11, 12, 13, 14, 15];
 
 /// Lines of three of the mover's. Each octal digit of a mask is a row.
 const THREE_MINE: [Pattern; 8] =
@@ -38,6 +32,14 @@ const FOUR_THEIRS: [Pattern; 10] = table![
     theirs_on
     0x000f, 0x00f0, 0x0f00, 0xf000, 0x1111, 0x2222, 0x4444, 0x8888, 0x8421, 0x1248
 ];
+
+/// The description of how cells, positions and moves are written if a piece is placed.
+const PLACES: &[u8] =
+    b"A cell is its row and its column, as a1.\nA position is its cells, row by row: x for the\nside to move, o for the other, . where it is empty\nA move is the cell that is taken.\n";
+
+/// The same with common pieces.
+const COMMON_PLACES: &[u8] =
+    b"A cell is its row and its column, as a1.\nA position is its cells, row by row: x where it is\ntaken, . where it is empty.\nA move is the cell that is taken.\n";
 
 /// The tables of Tic-tac-toe on four by four.
 #[derive(Drop)]
@@ -58,16 +60,17 @@ impl PatternRules<16> for TicTacToeFourRules {
             tiers: Tiers::Placed,
             adds: true,
             swapped: true,
-            stuck: End::Tie,
+            ends: Ends {
+                forbidden: &FOUR_MINE,
+                lost: &FOUR_THEIRS,
+                stuck: End::Tie,
+                ..USUAL_ENDS
+            },
         }
     }
 
     fn can_have(mine: u32, theirs: u32) -> bool {
         mine == theirs || mine + 1 == theirs
-    }
-
-    fn over(_mine: u32, _theirs: u32) -> Option<End> {
-        None
     }
 
     fn steps(_pieces: u32) -> &'static [Step] {
@@ -78,26 +81,34 @@ impl PatternRules<16> for TicTacToeFourRules {
         mask
     }
 
-    fn patterns(meaning: Meaning) -> &'static [Pattern] {
-        match meaning {
-            Meaning::Forbidden => &FOUR_MINE,
-            Meaning::Lost => &FOUR_THEIRS,
-            _ => &[],
-        }
-    }
-
     fn least_index(board: &Board<16>) -> u64 {
         board.least_index(4)
     }
 
-    ghost tables = { tictactoe_four_tables };
+    ghost picture = { tictactoe_four_picture };
+
+    ghost right = { tictactoe_four_right };
+
+    #[tactic(auto, unfolding(crate::specs::PlacingPictures::tictactoe_four_picture, gm_draw::specs::Points::square_points))]
+    fn picture() -> Picture {
+        Picture {
+            title: b"Tic-Tac-Toe 4 by 4",
+            style: Style::Crosses,
+            board: b"    1   2   3   4\na   A | B | C | D\n   ---+---+---+---\nb   E | F | G | H\n   ---+---+---+---\nc   I | J | K | L\n   ---+---+---+---\nd   M | N | O | P",
+            rows: &[],
+            points: square_cells(4),
+            mover: Mover::Same(b"x"),
+            naming: PLACES,
+        }
+    }
 }
 
-/// The rules and texts of Tic-tac-toe on four by four are those that `specs/` states.
+/// The rules, texts and look of Tic-tac-toe on four by four are those that `specs/` states.
 pub fn tictactoe_four_is()
     ensures rules { ⟦<TicTacToeFour as Game>⟧.rules ≡ pattern_rules 16 four_game }
     ensures shown { ⟦<TicTacToeFour as Shown>⟧.shown ≡ pattern_text 16 four_game }
     ensures move_shown { ⟦<TicTacToeFour as Shown>⟧.move_shown ≡ pattern_move_text 16 four_game }
+    ensures picture { ⟦<TicTacToeFour as Pictured>⟧.picture ≡ tictactoe_four_picture }
 {}
 
 /// The tables of Notakto.
@@ -119,16 +130,16 @@ impl PatternRules<9> for NotaktoRules {
             tiers: Tiers::Common,
             adds: true,
             swapped: false,
-            stuck: End::Win,
+            ends: Ends {
+                won: &THREE_MINE,
+                stuck: End::Win,
+                ..USUAL_ENDS
+            },
         }
     }
 
     fn can_have(_mine: u32, theirs: u32) -> bool {
         theirs == 0
-    }
-
-    fn over(_mine: u32, _theirs: u32) -> Option<End> {
-        None
     }
 
     fn steps(_pieces: u32) -> &'static [Step] {
@@ -139,23 +150,24 @@ impl PatternRules<9> for NotaktoRules {
         mask
     }
 
-    fn patterns(meaning: Meaning) -> &'static [Pattern] {
-        match meaning {
-            Meaning::Won => &THREE_MINE,
-            _ => &[],
-        }
-    }
-
     fn least_index(board: &Board<9>) -> u64 {
         board.least_index(3)
     }
 
-    ghost tables = { notakto_tables };
+    ghost picture = { notakto_picture };
+
+    ghost right = { notakto_right };
+
+    #[tactic(auto, unfolding(crate::specs::PlacingPictures::notakto_picture))]
+    fn picture() -> Picture {
+        on_square!(3, Style::Counters, b"Notakto", b"player", COMMON_PLACES)
+    }
 }
 
-/// The rules and texts of Notakto are those that `specs/` states.
+/// The rules, texts and look of Notakto are those that `specs/` states.
 pub fn notakto_is()
     ensures rules { ⟦<Notakto as Game>⟧.rules ≡ pattern_rules 9 notakto_game }
     ensures shown { ⟦<Notakto as Shown>⟧.shown ≡ pattern_text 9 notakto_game }
     ensures move_shown { ⟦<Notakto as Shown>⟧.move_shown ≡ pattern_move_text 9 notakto_game }
+    ensures picture { ⟦<Notakto as Pictured>⟧.picture ≡ notakto_picture }
 {}

@@ -1,12 +1,11 @@
 -- The rules of Hexapawn: a board has nine cells, three rows from the top, each from left to right. The mover's men go up.
-use Rattle.std.specs.Prelude.{◌+◌, ◌-◌, ◌*◌, ◌/◌, ◌%◌, ◌&&◌, nat_le, nat_lt, true, false, List, [], ◌∷◌, ◌++◌, map, replicate, reverse, codes, None, Some}
+use Rattle.std.specs.Prelude.{◌+◌, ◌-◌, ◌*◌, ◌/◌, ◌%◌, ◌&&◌, nat_le, nat_lt, false, List, [], ◌∷◌, ◌++◌, map, replicate, reverse, codes, Some}
 use Rattle.std.specs.List.{filter, range_with_len}
 use Rattle.gm_board.specs.declared.cell.Cell.TheVariants.{Empty, Mine, Theirs}
 use Rattle.gm_draw.specs.Points.{square_points}
-use Rattle.gm_game.specs.declared.position.End.TheVariants.{Lose}
 use Rattle.gm_patterns.specs.Patterns.{mine_on, theirs_on}
 use Rattle.gm_patterns.specs.Steps.{slide, capture}
-use Rattle.gm_patterns.specs.PatternGames.{PatternGame}
+use Rattle.gm_patterns.specs.PatternGames.{PatternGame, usual}
 use Rattle.gm_patterns.specs.declared.rules.Tiers.TheVariants.{Sides}
 use Rattle.gm_patterns.specs.declared.step.Step.{Step}
 
@@ -21,23 +20,17 @@ captures = map (λ k. capture k (k - 4)) (4 ∷ 5 ∷ 7 ∷ 8 ∷ []) ++ map (λ
 -- the game: a side whose man reaches the last row has won, and so has a side whose opponent can't move. The board is turned by half for the other player, and
 -- left and right may be exchanged
 abbrev pub hexapawn : PatternGame
-hexapawn = record {
+hexapawn = record (usual 9) {
   name = codes "hexapawn" ++ replicate 8 0;
   start = Theirs ∷ Theirs ∷ Theirs ∷ Empty ∷ Empty ∷ Empty ∷ Mine ∷ Mine ∷ Mine ∷ [];
   names = square_points 3;
   numbers = λ mine theirs. nat_le mine 3 && nat_le theirs 3;
-  over = λ mine theirs. None;
   tiers = Sides;
   adds = false;
-  phase = λ pieces. 0;
   phases = (advances ++ captures) ∷ [];
-  swapped = true;
   turn = Some (reverse (range_with_len 0 9));
   forbidden = map (λ k. mine_on (k ∷ [])) (range_with_len 0 3);
   lost = map (λ k. theirs_on (k ∷ [])) (range_with_len 6 3);
-  won = [];
-  tied = [];
-  stuck = Lose;
   symmetries = range_with_len 0 9 ∷ (2 ∷ 1 ∷ 0 ∷ 5 ∷ 4 ∷ 3 ∷ 8 ∷ 7 ∷ 6 ∷ []) ∷ [];
 }
 

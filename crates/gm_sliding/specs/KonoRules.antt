@@ -1,5 +1,5 @@
 -- The rules of Four Field Kono: sixteen cells, four rows from the top, each from left to right.
-use Rattle.std.specs.Prelude.{ℕ, ◌+◌, ◌/◌, ◌%◌, ◌==◌, ◌&&◌, ◌||◌, nat_le, nat_lt, Bool, true, false, List, [], ◌∷◌, ◌++◌, map, replicate, codes, if◌then◌else◌, None, Some}
+use Rattle.std.specs.Prelude.{ℕ, ◌+◌, ◌/◌, ◌%◌, ◌==◌, ◌&&◌, ◌||◌, nat_le, nat_lt, Bool, false, List, [], ◌∷◌, ◌++◌, map, replicate, codes, if◌then◌else◌, None, Some}
 use Rattle.std.specs.List.{filter, flat_map, range_with_len}
 use Rattle.gm_board.specs.Squares.{square_symmetries}
 use Rattle.gm_board.specs.declared.cell.Cell.TheVariants.{Mine, Theirs}
@@ -7,7 +7,7 @@ use Rattle.gm_draw.specs.Points.{square_points}
 use Rattle.gm_game.specs.declared.position.End.TheVariants.{Lose}
 use Rattle.gm_morris.specs.Morris.{distance}
 use Rattle.gm_patterns.specs.Steps.{slides, vault}
-use Rattle.gm_patterns.specs.PatternGames.{PatternGame}
+use Rattle.gm_patterns.specs.PatternGames.{PatternGame, usual}
 use Rattle.gm_patterns.specs.declared.rules.Tiers.TheVariants.{Sides}
 use Rattle.gm_patterns.specs.declared.step.Step.{Step}
 
@@ -31,7 +31,7 @@ vaults = flat_map (λ a. map (λ c. vault a ((a + c) / 2) c) (filter (are_apart_
 -- the game: eight men a side fill two rows each; a side with fewer than two men has lost, and so has one that can't move. The opponent has two men at least, as when
 -- he moved, and the mover has one at least
 abbrev pub kono : PatternGame
-kono = record {
+kono = record (usual 16) {
   name = codes "kono" ++ replicate 12 0;
   start = replicate 8 Theirs ++ replicate 8 Mine;
   names = square_points 4;
@@ -39,14 +39,6 @@ kono = record {
   over = λ mine theirs. if nat_lt mine 2 then Some Lose else None;
   tiers = Sides;
   adds = false;
-  phase = λ pieces. 0;
   phases = (men_go ++ vaults) ∷ [];
-  swapped = true;
-  turn = None;
-  forbidden = [];
-  lost = [];
-  won = [];
-  tied = [];
-  stuck = Lose;
   symmetries = square_symmetries 4;
 }

@@ -3,18 +3,12 @@ ghost use Rattle.std.specs.Prelude.{◌≡◌};
 ghost use Rattle.gm_patterns.specs.PatternGames.{pattern_rules};
 ghost use Rattle.gm_patterns.specs.PatternTexts.{pattern_text, pattern_move_text};
 ghost use Rattle.gm_sliding.specs.KonoRules.{kono as kono_game};
-ghost use Rattle.gm_sliding.specs.laws.SlidingTables.{kono_tables};
+ghost use Rattle.gm_sliding.specs.SlidingPictures.{kono_picture};
+ghost use Rattle.gm_sliding.specs.laws.SlidingTables.{kono_right};
 
-use gm_draw::cells::square_cells;
-use gm_game::game::Game;
-use gm_game::position::End;
-use gm_game::shown::Shown;
-use gm_patterns::on_patterns::OnPatterns;
-use gm_patterns::pattern::Pattern;
-use gm_patterns::rules::{Basics, Meaning, PatternRules, Tiers};
-use gm_patterns::step::Step;
-use gm_patterns::table;
-use gm_pieces::board::Board;
+use crate::clobber::SLIDES;
+use gm_patterns::prelude::*;
+use gm_patterns::{on_square, table};
 
 /// The steps: a man goes to a free cell beside its own, or over one of its own side onto one of the opponent's, which it takes.
 const STEPS: [Step; 80] = table![
@@ -50,16 +44,15 @@ impl PatternRules<16> for KonoRules {
             tiers: Tiers::Sides,
             adds: false,
             swapped: true,
-            stuck: End::Lose,
+            ends: Ends {
+                over: Some((2, End::Lose)),
+                ..USUAL_ENDS
+            },
         }
     }
 
     fn can_have(mine: u32, theirs: u32) -> bool {
         (0 < mine && mine <= 8) && (1 < theirs && theirs <= 8)
-    }
-
-    fn over(mine: u32, _theirs: u32) -> Option<End> {
-        (mine < 2).then_some(End::Lose)
     }
 
     fn steps(_pieces: u32) -> &'static [Step] {
@@ -70,20 +63,24 @@ impl PatternRules<16> for KonoRules {
         mask
     }
 
-    fn patterns(_meaning: Meaning) -> &'static [Pattern] {
-        &[]
-    }
-
     fn least_index(board: &Board<16>) -> u64 {
         board.least_index(4)
     }
 
-    ghost tables = { kono_tables };
+    ghost picture = { kono_picture };
+
+    ghost right = { kono_right };
+
+    #[tactic(auto, unfolding(crate::specs::SlidingPictures::kono_picture))]
+    fn picture() -> Picture {
+        on_square!(4, Style::Stones, b"Four Field Kono", b"x", SLIDES)
+    }
 }
 
-/// The rules and texts of Four Field Kono are those that `specs/` states.
+/// The rules, texts and look of Four Field Kono are those that `specs/` states.
 pub fn kono_is()
     ensures rules { ⟦<Kono as Game>⟧.rules ≡ pattern_rules 16 kono_game }
     ensures shown { ⟦<Kono as Shown>⟧.shown ≡ pattern_text 16 kono_game }
     ensures move_shown { ⟦<Kono as Shown>⟧.move_shown ≡ pattern_move_text 16 kono_game }
+    ensures picture { ⟦<Kono as Pictured>⟧.picture ≡ kono_picture }
 {}

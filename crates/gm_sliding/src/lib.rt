@@ -6,5 +6,4 @@ pub mod clobber;
 pub mod hexapawn;
 pub mod kono;
 pub mod nine;
-pub mod picture;
 pub mod toads;

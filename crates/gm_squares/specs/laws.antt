@@ -23,6 +23,8 @@ pub mod ChaseLaws
 pub mod ChaseMarks
 pub mod ChaseBack
 pub mod ChaseNumbering
+pub mod HoundFacts
+pub mod HoundNumbers
 pub mod ChaseApart
 pub mod ChaseTexts
 pub mod PawnFacts

@@ -9,10 +9,10 @@ ghost use Rattle.gm_squares.specs.laws.ChaseTexts.{readable};
 
 use crate::chase::{Chase, can_go, gone, has_square, lowest, toggled};
 use crate::dark_squares::{dark, dark_in, leads, to_square};
+use crate::hounds::{four_at, fox_at, free_below, squares_rank};
 use crate::text::{byte_at, push_square};
 use crate::ways::{by_ways, comers, goers};
 use arrayvec::ArrayVec;
-use gm_board::arrangement::Arrangement;
 use gm_game::game::Game;
 use gm_game::limits::{CHILD_TIERS, MOVES, NAME, PARENTS};
 use gm_game::position::{End, Position};
@@ -29,13 +29,6 @@ use gm_pieces::rules::MoveRules;
 
 /// The number of positions in the one tier.
 const POSITIONS: u64 = 2_013_760;
-
-/// Arrangements of four hounds and a fox on 32 squares.
-const MEN: Arrangement = Arrangement {
-    cells: 32,
-    mine: 4,
-    theirs: 1,
-};
 
 /// The rules of Fox and Hounds. A fox past the hounds wins at once, and a side that can't move loses (docs/GAMES.md, Fox and Hounds).
 #[derive(Drop)]
@@ -84,13 +77,13 @@ impl MoveRules for FoxRules {
         128
     }
 
-    #[tactic(auto, using(crate::specs::laws::ChaseNumbering::half_below), unfolding(crate::specs::FoxHounds::board))]
+    #[tactic(auto, using(crate::specs::laws::HoundNumbers::below, crate::specs::laws::HoundNumbers::four_squares))]
     fn board(_tier: u64, index: u64) -> Chase {
-        let (hounds, fox) = MEN.masks(index / 2);
+        let hounds = four_at(index / 56);
         Chase {
             hounds_move: index % 2 == 1,
             hounds,
-            fox: fox.trailing_zeros(),
+            fox: fox_at(hounds, (index / 2 % 28) as u32),
         }
     }
 
@@ -103,13 +96,20 @@ impl MoveRules for FoxRules {
         0
     }
 
-    #[tactic(auto, using(crate::specs::laws::ChaseFacts::fox_below, crate::specs::laws::ChaseNumbering::size_is, crate::specs::laws::ChaseNumbering::men), unfolding(crate::specs::FoxHounds::index))]
+    #[tactic(auto, using(crate::specs::laws::ChaseFacts::fox_below))]
     fn index(board: Chase) -> u64 {
-        2 * MEN.index(board.hounds, toggled(0, board.fox)) + u64::from(board.hounds_move)
+        let number = 28 * squares_rank(board.hounds)
+            + u64::from(free_below(board.hounds, board.fox));
+        2 * number + u64::from(board.hounds_move)
     }
 
     fn least_index(board: Chase) -> u64 {
         Self::index(board)
+    }
+
+    // Each index is that of a board of its own.
+    fn is_canonical(_p: Position, _board: Chase) -> bool {
+        true
     }
 
     #[tactic(auto, unfolding(crate::specs::FoxHounds::end_by_last_move))]

@@ -10,6 +10,7 @@ pub mod dark_squares;
 pub mod foxhounds;
 pub mod goals;
 pub mod homes;
+pub mod hounds;
 pub mod kpk;
 pub mod lines;
 pub mod men;

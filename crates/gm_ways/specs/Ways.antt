@@ -1,13 +1,12 @@
 -- The rules of Shisima, Tapatan and Mu Torere: a piece goes along a way to a free point. The ring has eight points and then the center.
-use Rattle.std.specs.Prelude.{ℕ, ◌+◌, ◌-◌, ◌/◌, ◌%◌, Bool, ◌&&◌, ◌||◌, ◌==◌, nat_lt, true, false, List, [], ◌∷◌, ◌++◌, map, replicate, codes, if◌then◌else◌, None}
+use Rattle.std.specs.Prelude.{ℕ, ◌+◌, ◌-◌, ◌/◌, ◌%◌, Bool, ◌&&◌, ◌||◌, ◌==◌, nat_lt, false, List, [], ◌∷◌, ◌++◌, map, length, replicate, codes, if◌then◌else◌}
 use Rattle.std.specs.List.{filter, flat_map, range_with_len}
 use Rattle.gm_board.specs.Squares.{square_symmetries}
 use Rattle.gm_board.specs.declared.cell.Cell.{Cell}
 use Rattle.gm_board.specs.declared.cell.Cell.TheVariants.{Empty, Mine, Theirs}
-use Rattle.gm_game.specs.declared.position.End.TheVariants.{Lose}
 use Rattle.gm_patterns.specs.Patterns.{mine_on, theirs_on, not_theirs_on, both}
 use Rattle.gm_patterns.specs.Steps.{slide, slides, step_if}
-use Rattle.gm_patterns.specs.PatternGames.{PatternGame}
+use Rattle.gm_patterns.specs.PatternGames.{PatternGame, usual}
 use Rattle.gm_patterns.specs.declared.rules.Tiers.TheVariants.{Single}
 use Rattle.gm_patterns.specs.declared.step.Step.{Step}
 use Rattle.gm_ways.specs.declared.ways.Variant.{Variant}
@@ -19,23 +18,16 @@ variant_of n = if n == 1 then Tapatan else (if n == 2 then MuTorere else Shisima
 
 -- a game in which each side has so many pieces, a player who fills a line wins, and a player who can't move has lost
 abbrev pub way_game : List ℕ → List Cell → List (List ℕ) → ℕ → List Step → List (List ℕ) → List (List ℕ) → PatternGame
-way_game name start names pieces steps lines symmetries = record {
+way_game name start names pieces steps lines symmetries = record (usual (length start)) {
   name = name;
   start = start;
   names = names;
   numbers = λ mine theirs. mine == pieces && theirs == pieces;
-  over = λ mine theirs. None;
   tiers = Single pieces;
   adds = false;
-  phase = λ pieces. 0;
   phases = steps ∷ [];
-  swapped = true;
-  turn = None;
   forbidden = map mine_on lines;
   lost = map theirs_on lines;
-  won = [];
-  tied = [];
-  stuck = Lose;
   symmetries = symmetries;
 }
 

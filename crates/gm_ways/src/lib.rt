@@ -2,7 +2,6 @@
 #![tactic(auto)]
 
 pub mod mutorere;
-pub mod picture;
 pub mod shisima;
 pub mod tapatan;
 pub mod ways;

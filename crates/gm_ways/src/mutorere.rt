@@ -5,8 +5,7 @@ ghost use Rattle.gm_patterns.specs.PatternTexts.{pattern_text, pattern_move_text
 ghost use Rattle.gm_ways.specs.Ways.{mutorere};
 
 use crate::ways::Ways;
-use gm_game::game::Game;
-use gm_game::shown::Shown;
+use gm_patterns::prelude::*;
 
 /// Mu Torere: a move goes to the one empty point, and a player who can't move loses (docs/GAMES.md, Mu Torere).
 pub type MuTorere = Ways<2>;

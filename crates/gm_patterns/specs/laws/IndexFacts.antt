@@ -1,22 +1,18 @@
 -- The indexes of boards: one to one on the legal boards of a tier.
 use Rattle.std.specs.Prelude.{◌≡◌, ◌+◌, ◌-◌, ◌*◌, ◌^◌, ◌<◌, ◌≤◌, ◌⊎◌, ◌∷◌, if◌then◌else◌}
-use Rattle.gm_pieces.specs.Common.{ℕ, zero, suc, min, fold, true, leb, eq-eqb, ne_eqb, le-leb, lt-ltb, List, [], map, refl, sym, ap, ap₂, ◌∙◌, subst, arith, inl, inr, cases_Bool, cases_lt, cond-true, cond-false, zero-add, pow_pos, pow_mono, binomial_zero, pascal, Cell, Empty, is_mine, is_theirs, number_of, permute, board_index, board_numbered, least_index_under, index_below, board_back, index_back, board_game, least_index}
+use Rattle.gm_pieces.specs.Common.{ℕ, zero, suc, min, fold, true, leb, List, [], map, refl, sym, ap, ◌∙◌, subst, arith, inl, inr, cond-true, pow_pos, pow_mono, binomial_zero, pascal, Cell, Empty, is_mine, is_theirs, number_of, permute, board_index, board_numbered, least_index_under, index_below, board_back, index_back, board_game, least_index}
 use Rattle.gm_pieces.specs.laws.NumberFacts.{board_numbers}
 use Rattle.gm_pieces.specs.laws.MaskFacts.{same_map}
 use Rattle.gm_board.specs.Arrangements.{arrangements}
 use Rattle.gm_board.specs.Binomials.{binomial}
 use Rattle.gm_board.specs.laws.Binomials.{binomial_none}
 use Rattle.std.proofs.Common.{pow-suc}
-use Rattle.std.proofs.lemmas.Bool.{cond_both, le-ltb, lt-leb}
 use Rattle.std.proofs.lemmas.Nat.{mul-lt}
 use Rattle.std.proofs.lemmas.Simd.{map-map}
 use Rattle.gm_patterns.specs.PatternGames.{PatternGame, tier_by, more, fewer, tier_on, can_have, legal, boards_with, boards_before, size_of, index_on, board_at, pattern_game}
 use Rattle.gm_patterns.specs.PatternTables.{IsPatternGame}
-use Rattle.gm_patterns.specs.laws.NoFaults.{tables_right}
-use Rattle.gm_patterns.specs.laws.TableFacts.{have_few}
-use Rattle.gm_patterns.specs.laws.PatternBoards.{legal_in, has_tier, image_before}
+use Rattle.gm_patterns.specs.laws.TableFacts.{tables_right, have_few, legal_in, has_tier, image_before}
 use Rattle.gm_patterns.specs.declared.rules.Tiers.{Tiers}
-use Rattle.gm_patterns.specs.declared.rules.Tiers.TheVariants.{Sides, Placed, Common, Single}
 
 -- ---- bounds
 binomial_most : (n k : ℕ) → binomial n k ≤ 2 ^ n
@@ -37,10 +33,7 @@ arrangements_small n m t few =
     omega (arith, s)
 
 tier_small : (x : Tiers) (m t : ℕ) → tier_by x m t ≤ 101 * (m + t)
-tier_small Sides m t = omega arith
-tier_small Placed m t = omega arith
-tier_small Common m t = omega arith
-tier_small (Single k) m t = omega arith
+tier_small x m t = grind arith
 
 module _ (n : ℕ) (g : PatternGame) where
   -- ---- how many boards there are
@@ -50,15 +43,12 @@ module _ (n : ℕ) (g : PatternGame) where
 
   pub boards_fit : (m t : ℕ) → n ≤ 25 → boards_with n g m t < 2 ^ 63
   unfolding boards_with
-  boards_fit m t few = cond_both (can_have n g m t) (arrangements n m t) 0 (λ (k : ℕ). k < 2 ^ 63) (λ e. arrangements_small n m t few) (λ e. omega arith)
+  boards_fit m t few = grind (arith, arrangements_small n m t few)
 
   -- an index below their number is that of an arrangement
   pub index_fits : (m t i : ℕ) → i < boards_with n g m t → (can_have n g m t ≡ true) × (i < arrangements n m t)
   unfolding boards_with
-  index_fits m t i l = elim (cases_Bool (can_have n g m t)) [
-    | inl e ↦ (e, subst (λ (k : ℕ). i < k) (cond-true _ _ _ e) l)
-    | inr e ↦ absurd (let z : boards_with n g m t ≡ 0 = cond-false _ _ _ e in omega (arith, l, z))
-  ]
+  index_fits m t i l = grind arith
 
   -- the boards of a tier: those on which the mover has no fewer pieces, and the others
   abbrev pub first : ℕ → ℕ
@@ -67,108 +57,48 @@ module _ (n : ℕ) (g : PatternGame) where
   abbrev pub rest : ℕ → ℕ
   rest t = boards_with n g (fewer g t) (more g t)
 
-  pub size_same : (t : ℕ) → more g t ≡ fewer g t → size_of n g t ≡ first t
-  unfolding size_of
-  size_same t e =
-      cond-true _ _ _ (le-leb (fewer g t) (more g t) (omega (arith, e))) ∙ ap (λ (k : ℕ). first t + k) (cond-true _ _ _ (eq-eqb _ _ e)) ∙ (let z : first t + 0 ≡ first t = omega arith in z)
-
-  pub size_other : (t : ℕ) → fewer g t < more g t → size_of n g t ≡ first t + rest t
-  unfolding size_of
-  size_other t l =
-      cond-true _ _ _ (le-leb (fewer g t) (more g t) (omega (arith, l))) ∙ ap (λ (k : ℕ). first t + k) (cond-false _ _ _ (ne_eqb (more g t) (fewer g t) (λ e. omega (arith, l, e))))
-
-  size_none : (t : ℕ) → more g t < fewer g t → size_of n g t ≡ 0
-  unfolding size_of
-  size_none t l = cond-false _ _ _ (lt-leb _ _ l)
-
   pub size_fits : (t : ℕ) → n ≤ 25 → size_of n g t < 2 ^ 64
-  size_fits t few =
-      let a = boards_fit (more g t) (fewer g t) few in
-      let b = boards_fit (fewer g t) (more g t) few in
-      elim (cases_lt (more g t) (fewer g t)) [
-        | inl l ↦ (let s = size_none t l in omega (arith, s))
-        | inr l ↦ elim (cases_lt (fewer g t) (more g t)) [
-          | inl k ↦ (let s = size_other t k in omega (arith, s, a, b))
-          | inr k ↦ (let s = size_same t (omega (arith, l, k)) in omega (arith, s, a))
-        ]
-      ]
+  unfolding size_of
+  size_fits t few = grind (arith, boards_fit (more g t) (fewer g t) few, boards_fit (fewer g t) (more g t) few)
 
   -- an index of a tier is one of the first boards, or one of the others
   pub index_cases : (t i : ℕ) → i < size_of n g t → (fewer g t ≤ more g t) × ((i < first t) ⊎ ((first t ≤ i) × (i - first t < rest t) × (fewer g t < more g t)))
-  index_cases t i l = elim (cases_lt (more g t) (fewer g t)) [
-    | inl k ↦ absurd (let s = size_none t k in omega (arith, s, l))
-    | inr k ↦ (
-      k,
-      elim (cases_lt i (first t)) [
-        | inl f ↦ inl f
-        | inr f ↦ elim (cases_lt (fewer g t) (more g t)) [
-          | inl less ↦ inr (f, (let s = size_other t less in omega (arith, s, l, f)), less)
-          | inr same ↦ absurd (let s = size_same t (omega (arith, k, same)) in omega (arith, s, l, f))
-        ]
-      ],
-    )
-  ]
+  unfolding size_of
+  index_cases t i l = grind arith
 
   -- there are no more pieces in a tier that has indexes than cells
   pub size_few : (t i : ℕ) → i < size_of n g t → more g t + fewer g t ≤ n
-  size_few t i l = let cases = index_cases t i l in elim cases.1 [
-    | inl f ↦ have_few n g (more g t) (fewer g t) (index_fits (more g t) (fewer g t) i f).0
-    | inr f ↦ (let few = have_few n g (fewer g t) (more g t) (index_fits (fewer g t) (more g t) (i - first t) f.1).0 in omega (arith, few))
-  ]
+  unfolding size_of boards_with
+  size_few t i l = grind (arith, have_few n g (more g t) (fewer g t), have_few n g (fewer g t) (more g t))
 
   pub first_fits : (t i : ℕ) → i < boards_with n g (more g t) (fewer g t) → i < arrangements n (more g t) (fewer g t)
   first_fits t i l = (index_fits (more g t) (fewer g t) i l).1
 
   pub rest_fits : (t i : ℕ) → i < size_of n g t → boards_with n g (more g t) (fewer g t) ≤ i → i - boards_with n g (more g t) (fewer g t) < arrangements n (fewer g t)
       (more g t)
-  rest_fits t i l k = let cases = index_cases t i l in elim cases.1 [
-    | inl f ↦ absurd (omega (arith, f, k))
-    | inr f ↦ (index_fits (fewer g t) (more g t) (i - first t) f.1).1
-  ]
+  unfolding size_of
+  rest_fits t i l k = grind (arith, index_fits (fewer g t) (more g t) (i - first t))
 
   -- ---- the board of an index
-  pub at_first : (t i : ℕ) → i < first t → board_at n g t i ≡ board_numbered n (more g t) (fewer g t) i
-  unfolding board_at
-  at_first t i l = cond-true _ _ _ (lt-ltb _ _ l)
-
-  pub at_rest : (t i : ℕ) → first t ≤ i → board_at n g t i ≡ board_numbered n (fewer g t) (more g t) (i - first t)
-  unfolding board_at
-  at_rest t i l = cond-false _ _ _ (le-ltb _ _ l)
-
   -- the index of the board that has these numbers of pieces and this index among them
   index_of : (m o j : ℕ) → j < arrangements n m o → index_on n g (board_numbered n m o j) ≡ (if leb o m then 0 else boards_with n g o m) + j
   unfolding index_on boards_before
-  index_of m o j l =
-      let has = board_numbers n m o j l in
-      ap₂ (λ (p q : ℕ). (if leb q p then 0 else boards_with n g q p) + board_index (board_numbered n m o j)) has.own has.other
-      ∙ ap (λ (v : ℕ). (if leb o m then 0 else boards_with n g o m) + v) (index_back n m o j l)
+  index_of m o j l = let has = board_numbers n m o j l in grind (arith, has.own, has.other, index_back n m o j l)
 
   -- the index of the board of an index
   pub index_again : (t i : ℕ) → i < size_of n g t → index_on n g (board_at n g t i) ≡ i
+  unfolding board_at
   index_again t i l =
       let cases = index_cases t i l in
       elim cases.1 [
-        | inl f ↦ ap (index_on n g) (at_first t i f) ∙ index_of (more g t) (fewer g t) i (first_fits t i f)
-            ∙ ap (λ (v : ℕ). v + i) (cond-true _ _ _ (le-leb _ _ cases.0)) ∙ zero-add i
-        | inr f ↦ ap (index_on n g) (at_rest t i f.0) ∙ index_of (fewer g t) (more g t) (i - first t) (rest_fits t i l f.0)
-            ∙ ap (λ (v : ℕ). v + (i - first t)) (cond-false _ _ _ (lt-leb _ _ f.2)) ∙ (let k = f.0 in let z : first t + (i - first t) ≡ i = omega (arith, k) in z)
+        | inl f ↦ grind (arith, cases.0, f, index_of (more g t) (fewer g t) i (first_fits t i f))
+        | inr f ↦ grind (arith, f, index_of (fewer g t) (more g t) (i - first t) (rest_fits t i l f.0))
       ]
 
   -- ---- the index of a board
-  pub before_none : (b : List Cell) → number_of is_theirs b ≤ number_of is_mine b → boards_before n g b ≡ 0
-  unfolding boards_before
-  before_none b l = cond-true _ _ _ (le-leb _ _ l)
-
-  pub before_some : (b : List Cell) → number_of is_mine b < number_of is_theirs b → boards_before n g b ≡ boards_with n g (number_of is_theirs b)
-      (number_of is_mine b)
-  unfolding boards_before
-  before_some b l = cond-false _ _ _ (lt-leb _ _ l)
-
   pub before_fits : (b : List Cell) → n ≤ 25 → boards_before n g b < 2 ^ 63
-  before_fits b few = elim (cases_lt (number_of is_mine b) (number_of is_theirs b)) [
-    | inl l ↦ (let e = before_some b l in let a = boards_fit (number_of is_theirs b) (number_of is_mine b) few in omega (arith, e, a))
-    | inr l ↦ (let e = before_none b l in omega (arith, e))
-  ]
+  unfolding boards_before
+  before_fits b few = grind (arith, boards_fit (number_of is_theirs b) (number_of is_mine b) few)
 
 -- ---- least indexes
 least_more : (k x : ℕ) (xs : List ℕ) → fold min (k + x) (map (λ (y : ℕ). k + y) xs) ≡ k + fold min x xs
@@ -200,52 +130,15 @@ module _ (n : ℕ) (g : PatternGame) (h : IsPatternGame n g) where
     pub back : board_at n g (tier_on g b) (index_on n g b) ≡ b
 
   pub is_placed : (b : List Cell) → legal n g b ≡ true → IsPlaced b
-  unfolding index_on
+  unfolding index_on board_at size_of boards_before
   is_placed b l =
-      let m = number_of is_mine b in
-      let o = number_of is_theirs b in
-      let t = tier_on g b in
-      let i = boards_before n g b + board_index b in
       let w = legal_in n g b l in
       let tier = has_tier n g h b w.numbers in
       let most = tier.most in
       let least = tier.least in
       let own = own_index b l in
-      let back = board_back n m o b (record { cells = w.cells; own = refl; other = refl }) in
-      elim (cases_lt m o) [
-        | inl less ↦ (
-            let a : more g t ≡ o = omega (arith, most, less) in
-            let c : fewer g t ≡ m = omega (arith, least, less) in
-            let before = before_some n g b less in
-            let first : boards_with n g (more g t) (fewer g t) ≡ boards_with n g o m = ap₂ (boards_with n g) a c in
-            let rest : boards_with n g (fewer g t) (more g t) ≡ boards_with n g m o = ap₂ (boards_with n g) c a in
-            let s = size_other n g t (omega (arith, a, c, less)) in
-            record {
-              below = omega (arith, before, own, s, first, rest);
-              back =
-                  at_rest n g t i (omega (arith, before, first))
-                  ∙ ap₂ (λ (x y : ℕ). board_numbered n x y (i - boards_with n g (more g t) (fewer g t))) c a
-                  ∙ ap (board_numbered n m o) (let z : i - boards_with n g (more g t) (fewer g t) ≡ board_index b = omega (arith, before, first) in z)
-                  ∙ back;
-            })
-        | inr no_less ↦ (
-            let a : more g t ≡ m = omega (arith, most, no_less) in
-            let c : fewer g t ≡ o = omega (arith, least, no_less) in
-            let before = before_none n g b no_less in
-            let first : boards_with n g (more g t) (fewer g t) ≡ boards_with n g m o = ap₂ (boards_with n g) a c in
-            let below : i < boards_with n g (more g t) (fewer g t) = omega (arith, before, own, first) in
-            record {
-              below = elim (cases_lt o m) [
-                | inl some ↦ (let s = size_other n g t (omega (arith, a, c, some)) in omega (arith, s, below))
-                | inr none ↦ (let s = size_same n g t (omega (arith, a, c, no_less, none)) in omega (arith, s, below))
-              ];
-              back =
-                  at_first n g t i below
-                  ∙ ap₂ (λ (x y : ℕ). board_numbered n x y i) a c
-                  ∙ ap (board_numbered n m o) (let z : i ≡ board_index b = omega (arith, before) in z)
-                  ∙ back;
-            })
-      ]
+      let back = board_back n (number_of is_mine b) (number_of is_theirs b) b (record { cells = w.cells; own = refl; other = refl }) in
+      record { below = grind (arith, most, least, own); back = grind (arith, most, least, own, back) }
 
   pub tier_fits : (b : List Cell) → legal n g b ≡ true → tier_on g b < 2 ^ 64
   unfolding tier_on

@@ -1,6 +1,6 @@
 -- What the masks of the code say.
-use Rattle.std.specs.Prelude.{◌≡◌, ◌+◌, ◌-◌, ◌*◌, ◌%◌, ◌^◌, ◌<◌, ◌≤◌, ◌&&◌, ◌||◌, Option, None, Some, if◌then◌else◌}
-use Rattle.gm_pieces.specs.Common.{ℕ, w32, Bool, true, false, not, [], Contains-get_or, eqb, eqb-true, eq-eqb, leb-true, List, map, length, get_or, replicate, refl, sym, ap, ap₂, ◌∙◌, subst, arith, inl, inr, cases_Bool, cases_lt, cond-true, cond-false, true≢false, not-true, ext_get_or, length-replicate, pow_mono, bit_and, bit_or, bit_not, bit_at_above, bit_at_ones, one_shl, or_lt, and_le_l, and_left, and_right, has_cell, has_and, has_or, has_not, has_none, same_tests, Cell, Empty, Mine, Theirs, cell_at, is_mine, is_theirs, number_of, turned}
+use Rattle.std.specs.Prelude.{◌≡◌, ◌+◌, ◌-◌, ◌*◌, ◌%◌, ◌^◌, ◌<◌, ◌≤◌, ◌&&◌, ◌||◌, Option, None, Some}
+use Rattle.gm_pieces.specs.Common.{ℕ, w32, Bool, true, false, not, [], Contains-get_or, eqb, eqb-true, eq-eqb, leb-true, List, map, length, get_or, replicate, refl, sym, ap, ap₂, ◌∙◌, subst, arith, inl, inr, cases_lt, not-true, ext_get_or, length-replicate, pow_mono, bit_and, bit_or, bit_not, bit_at_above, bit_at_ones, one_shl, or_lt, and_le_l, and_left, and_right, has_cell, has_and, has_or, has_not, has_none, same_tests, Cell, Empty, cell_at, is_mine, is_theirs, number_of, turned}
 use Rattle.gm_board.specs.laws.Pieces.{apart_below}
 use Rattle.gm_board.specs.Pieces.{cell_by}
 use Rattle.gm_board.specs.laws.Images.{board_get, board_length, image_apart, image_board, image_within}
@@ -9,16 +9,12 @@ use Rattle.std.proofs.lemmas.List.{get_or_default, get_or-replicate}
 use Rattle.std.proofs.lemmas.Nat.{xor_lt}
 use Rattle.std.proofs.lemmas.Nat.Bits.{bit_at-zero, bit_at_ones_above}
 use Rattle.gm_patterns.specs.Patterns.{lets, fits, without}
-use Rattle.gm_patterns.specs.Steps.{cells_in, only, laid}
+use Rattle.gm_patterns.specs.Steps.{cells_in, laid}
 use Rattle.gm_patterns.specs.PatternGames.{PatternGame, legal, turn_by, swap_by, passed, steps_of, step_at, no_step}
 use Rattle.gm_patterns.specs.PatternTables.{IsPatternGame, is_cell_name, is_turn, turn_mask}
-use Rattle.gm_patterns.specs.laws.ListFacts.{passes}
-use Rattle.gm_patterns.specs.laws.NoFaults.{tables_right}
-use Rattle.gm_patterns.specs.laws.PatternFacts.{fits_at, fits_from, has_without}
-use Rattle.gm_patterns.specs.laws.LaidFacts.{laid_length, laid_on, laid_off}
-use Rattle.gm_patterns.specs.laws.PassFacts.{turn_permutation, turn_swap}
-use Rattle.gm_patterns.specs.laws.PatternBoards.{legal_in}
-use Rattle.gm_patterns.specs.laws.TableFacts.{have_few, step_right}
+use Rattle.gm_patterns.specs.laws.PatternFacts.{passes, fits_at, fits_from, has_without, laid_length, laid_cell}
+use Rattle.gm_patterns.specs.laws.TableFacts.{tables_right, legal_in, have_few, step_right}
+use Rattle.gm_patterns.specs.laws.StepFacts.{turn_permutation, turn_swap}
 use Rattle.gm_patterns.specs.declared.pattern.Pattern.{Pattern}
 use Rattle.gm_patterns.specs.declared.step.Step.{Step}
 
@@ -26,90 +22,39 @@ use Rattle.gm_patterns.specs.declared.step.Step.{Step}
 past_cell : (n m k : ℕ) → m < 2 ^ n → n ≤ k → has_cell m k ≡ false
 past_cell n m k l h = ap (λ (v : ℕ). eqb v 1) (bit_at_above m n k l h)
 
-and_none : (x : Bool) → (x && false) ≡ false
-and_none x = grind arith
-
-and_all : (x : Bool) → (x && true) ≡ x
-and_all x = grind arith
-
-apart_at : (x y : Bool) → (x ≡ true → y ≡ false) → (x && y) ≡ false
-apart_at x y h = grind arith
-
 fits_32 : (n m : ℕ) → n ≤ 25 → m < 2 ^ n → m < 2 ^ 32
 fits_32 n m few l = let most : n ≤ 32 = omega (arith, few) in let small : 2 ^ n ≤ 2 ^ 32 = pow_mono most in omega (arith, small, l)
 
 -- ---- patterns
--- what is wrong on a cell, by the tests of the masks
-wrong_by : (x y e m t : Bool) → (x && y) ≡ false → not ((x && m || y && t) || not (x || y) && e) ≡ (if x then not m else (if y then not t else not e))
-wrong_by x y e m t q = grind arith
-
-lets_by : (p : Pattern) (k : ℕ) (x y : Bool) → lets p k (cell_by x y) ≡ (if x then not (has_cell p.not_mine k) else (if y then not (has_cell p.not_theirs k) else not
-    (has_cell p.not_empty k)))
-lets_by p k x y = grind arith
-
 module _ (n a b : ℕ) (p : Pattern) (few : n ≤ 25) (la : a < 2 ^ n) (lb : b < 2 ^ n) (q : bit_and a b ≡ 0) where
-  all : ℕ
-  all = 1 * 2 ^ n % 2 ^ 32 - 1
-
-  empty : ℕ
-  unfolding all
-  empty = bit_and (bit_not w32 (bit_or a b)) all
-
+  -- the cells on which something lies that may not
   wrong : ℕ
-  unfolding empty
-  wrong = bit_or (bit_or (bit_and a p.not_mine) (bit_and b p.not_theirs)) (bit_and empty p.not_empty)
+  wrong = bit_or (bit_or (bit_and a p.not_mine) (bit_and b p.not_theirs)) (bit_and (bit_and (bit_not w32 (bit_or a b)) (1 * 2 ^ n % 2 ^ 32 - 1)) p.not_empty)
 
-  all_is : all ≡ 2 ^ n - 1
-  unfolding all
-  all_is = ap (λ (v : ℕ). v - 1) (one_shl n 32 (omega (arith, few)))
-
-  all_in : (k : ℕ) → k < n → has_cell all k ≡ true
-  all_in k l = ap (λ (m : ℕ). has_cell m k) all_is ∙ ap (λ (v : ℕ). eqb v 1) (bit_at_ones n k l)
-
-  all_past : (k : ℕ) → n ≤ k → has_cell all k ≡ false
-  all_past k l = ap (λ (m : ℕ). has_cell m k) all_is ∙ ap (λ (v : ℕ). eqb v 1) (bit_at_ones_above n k l)
-
-  empty_in : (k : ℕ) → k < n → has_cell empty k ≡ not (has_cell a k || has_cell b k)
-  unfolding empty
-  empty_in k l =
-      has_and (bit_not w32 (bit_or a b)) all k
-      ∙ ap₂ (λ (x y : Bool). x && y)
-      (has_not (bit_or a b) k (fits_32 n (bit_or a b) few (or_lt n a b la lb)) (omega (arith, few, l)) ∙ ap not (has_or a b k))
-      (all_in k l)
-      ∙ and_all _
-
-  empty_past : (k : ℕ) → n ≤ k → has_cell empty k ≡ false
-  unfolding empty
-  empty_past k l = has_and (bit_not w32 (bit_or a b)) all k ∙ ap (λ (y : Bool). has_cell (bit_not w32 (bit_or a b)) k && y) (all_past k l) ∙ and_none _
-
-  wrong_is : (k : ℕ) → has_cell wrong k ≡ ((has_cell a k && has_cell p.not_mine k || has_cell b k && has_cell p.not_theirs k) || has_cell empty k && has_cell
-      p.not_empty k)
-  unfolding wrong
-  wrong_is k =
-      has_or (bit_or (bit_and a p.not_mine) (bit_and b p.not_theirs)) (bit_and empty p.not_empty) k
-      ∙ ap₂ (λ (x y : Bool). x || y)
-      (has_or (bit_and a p.not_mine) (bit_and b p.not_theirs) k ∙ ap₂ (λ (x y : Bool). x || y) (has_and a p.not_mine k) (has_and b p.not_theirs k))
-      (has_and empty p.not_empty k)
+  all_is : (k : ℕ) → has_cell (1 * 2 ^ n % 2 ^ 32 - 1) k ≡ has_cell (2 ^ n - 1) k
+  all_is k = ap (λ (v : ℕ). has_cell (v - 1) k) (one_shl n 32 (omega (arith, few)))
 
   wrong_in : (k : ℕ) → k < n → not (has_cell wrong k) ≡ lets p k (cell_at (board_of n a b) k)
-  wrong_in k l =
-      ap not (wrong_is k ∙ ap (λ (z : Bool). (has_cell a k && has_cell p.not_mine k || has_cell b k && has_cell p.not_theirs k) || z && has_cell p.not_empty k)
-      (empty_in k l))
-      ∙ wrong_by (has_cell a k) (has_cell b k) (has_cell p.not_empty k) (has_cell p.not_mine k) (has_cell p.not_theirs k)
-      (apart_at (has_cell a k) (has_cell b k) (apart_below n a b q k l))
-      ∙ sym (lets_by p k (has_cell a k) (has_cell b k))
-      ∙ ap (lets p k) (sym (board_get n a b k l))
+  unfolding wrong
+  wrong_in k l = grind (
+    arith,
+    has_or,
+    has_and,
+    has_not (bit_or a b) k (fits_32 n (bit_or a b) few (or_lt n a b la lb)) (omega (arith, few, l)),
+    all_is k,
+    bit_at_ones n k l,
+    apart_below n a b q k l,
+    board_get n a b k l,
+  )
 
   wrong_past : (k : ℕ) → n ≤ k → has_cell wrong k ≡ false
-  wrong_past k l =
-      wrong_is k
-      ∙ ap (λ (z : Bool). (has_cell a k && has_cell p.not_mine k || has_cell b k && has_cell p.not_theirs k) || z && has_cell p.not_empty k) (empty_past k l)
-      ∙ ap₂ (λ (x y : Bool). (x && has_cell p.not_mine k || y && has_cell p.not_theirs k) || false) (past_cell n a k la l) (past_cell n b k lb l)
+  unfolding wrong
+  wrong_past k l = grind (arith, has_or, has_and, all_is k, bit_at_ones_above n k l, past_cell n a k la l, past_cell n b k lb l)
 
   -- a board has a pattern exactly if no cell is wrong
   pub fits_masks : fits p (board_of n a b) ≡ eqb (bit_or (bit_or (bit_and a p.not_mine) (bit_and b p.not_theirs)) (bit_and (bit_and (bit_not w32 (bit_or a b))
       (1 * 2 ^ n % 2 ^ 32 - 1)) p.not_empty)) 0
-  unfolding wrong empty all
+  unfolding wrong
   fits_masks =
       let long = board_length n a b in
       same_tests _ _
@@ -121,17 +66,6 @@ module _ (n a b : ℕ) (p : Pattern) (few : n ≤ 25) (la : a < 2 ^ n) (lb : b <
       sym (wrong_in k (subst (λ (m : ℕ). k < m) long l)) ∙ ap (λ (m : ℕ). not (has_cell m k)) (eqb-true wrong 0 z) ∙ ap (λ (v : ℕ). not (eqb v 1)) (bit_at-zero k)))
 
 -- ---- a pattern laid on cells
--- what lies on a cell, by the tests of the masks
-only_by : (m t : Bool) → cell_by (not m) (m && not t) ≡ (if not m then Mine else (if not t then Theirs else Empty))
-only_by m t = grind arith
-
-laid_by : (x y c m t : Bool) → cell_by (x && not c || c && not m) (y && not c || c && m && not t)
-    ≡ (if c then (if not m then Mine else (if not t then Theirs else Empty)) else cell_by x y)
-laid_by x y c m t = grind arith
-
-apart_by : (x y c m t : Bool) → (x && y) ≡ false → ((x && not c || c && not m) && (y && not c || c && m && not t)) ≡ false
-apart_by x y c m t e = grind arith
-
 -- a mask without some cells has no more cells
 pub without_within : (n m c : ℕ) → m < 2 ^ n → without m c < 2 ^ n
 without_within n m c l = let k = and_le_l m c in xor_lt n m (bit_and m c) l (omega (arith, l, k))
@@ -144,14 +78,11 @@ abbrev pub theirs_laid : ℕ → ℕ → Pattern → ℕ
 theirs_laid b c p = bit_or (without b c) (without (bit_and c p.not_mine) p.not_theirs)
 
 mine_is : (a c : ℕ) (p : Pattern) (k : ℕ) → has_cell (mine_laid a c p) k ≡ (has_cell a k && not (has_cell c k) || has_cell c k && not (has_cell p.not_mine k))
-mine_is a c p k = has_or (without a c) (without c p.not_mine) k ∙ ap₂ (λ (x y : Bool). x || y) (has_without a c k) (has_without c p.not_mine k)
+mine_is a c p k = grind (arith, has_or, has_without)
 
 theirs_is : (b c : ℕ) (p : Pattern) (k : ℕ)
     → has_cell (theirs_laid b c p) k ≡ (has_cell b k && not (has_cell c k) || has_cell c k && has_cell p.not_mine k && not (has_cell p.not_theirs k))
-theirs_is b c p k =
-    has_or (without b c) (without (bit_and c p.not_mine) p.not_theirs) k
-    ∙ ap₂ (λ (x y : Bool). x || y) (has_without b c k)
-    (has_without (bit_and c p.not_mine) p.not_theirs k ∙ ap (λ (x : Bool). x && not (has_cell p.not_theirs k)) (has_and c p.not_mine k))
+theirs_is b c p k = grind (arith, has_or, has_without, has_and)
 
 module _ (n a b c : ℕ) (p : Pattern) (la : a < 2 ^ n) (lb : b < 2 ^ n) (lc : c < 2 ^ n) where
   pub mine_within : mine_laid a c p < 2 ^ n
@@ -166,11 +97,9 @@ module _ (n a b c : ℕ) (p : Pattern) (la : a < 2 ^ n) (lb : b < 2 ^ n) (lc : c
   module _ (q : bit_and a b ≡ 0) where
     -- no cell has pieces of both sides
     pub laid_apart : bit_and (mine_laid a c p) (theirs_laid b c p) ≡ 0
-    laid_apart = has_none (bit_and (mine_laid a c p) (theirs_laid b c p)) (λ k. has_and (mine_laid a c p) (theirs_laid b c p) k ∙ elim (cases_lt k n) [
-      | inl l ↦ ap₂ (λ (x y : Bool). x && y) (mine_is a c p k) (theirs_is b c p k)
-          ∙ apart_by (has_cell a k) (has_cell b k) (has_cell c k) (has_cell p.not_mine k) (has_cell p.not_theirs k)
-          (apart_at (has_cell a k) (has_cell b k) (apart_below n a b q k l))
-      | inr l ↦ ap (λ (x : Bool). x && has_cell (theirs_laid b c p) k) (past_cell n (mine_laid a c p) k mine_within l)
+    laid_apart = has_none (bit_and (mine_laid a c p) (theirs_laid b c p)) (λ k. elim (cases_lt k n) [
+      | inl l ↦ grind (arith, has_and (mine_laid a c p) (theirs_laid b c p) k, mine_is a c p k, theirs_is b c p k, apart_below n a b q k l)
+      | inr l ↦ grind (arith, has_and (mine_laid a c p) (theirs_laid b c p) k, past_cell n (mine_laid a c p) k mine_within l)
     ])
 
 -- the board of the masks
@@ -178,19 +107,19 @@ pub laid_masks : (n a b c : ℕ) (p : Pattern) → laid c p (board_of n a b) ≡
 laid_masks n a b c p =
     let board = board_of n a b in
     let long = board_length n a b in
+    let same = laid_length c p board in
     ext_get_or Empty (laid c p board) (board_of n (mine_laid a c p) (theirs_laid b c p))
-    (laid_length c p board ∙ long ∙ sym (board_length n (mine_laid a c p) (theirs_laid b c p)))
+    (same ∙ long ∙ sym (board_length n (mine_laid a c p) (theirs_laid b c p)))
     (λ k l.
-    let lb : k < length board = subst (λ (m : ℕ). k < m) (laid_length c p board) l in
-    let ln : k < n = subst (λ (m : ℕ). k < m) long lb in
-    let is : cell_at (board_of n (mine_laid a c p) (theirs_laid b c p)) k ≡ (if has_cell c k then only p k else cell_by (has_cell a k) (has_cell b k)) =
-    board_get n (mine_laid a c p) (theirs_laid b c p) k ln
-    ∙ ap₂ cell_by (mine_is a c p k) (theirs_is b c p k)
-    ∙ laid_by (has_cell a k) (has_cell b k) (has_cell c k) (has_cell p.not_mine k) (has_cell p.not_theirs k) in
-    elim (cases_Bool (has_cell c k)) [
-      | inl e ↦ laid_on c p board k lb e ∙ sym (is ∙ cond-true _ _ _ e)
-      | inr e ↦ laid_off c p board k lb e ∙ board_get n a b k ln ∙ sym (is ∙ cond-false _ _ _ e)
-    ])
+    let ln : k < n = omega (arith, l, same, long) in
+    grind (
+      arith,
+      laid_cell c p board k (omega (arith, l, same)),
+      board_get n (mine_laid a c p) (theirs_laid b c p) k ln,
+      board_get n a b k ln,
+      mine_is a c p k,
+      theirs_is b c p k,
+    ))
 
 -- the board without pieces
 pub empty_board : (n : ℕ) → board_of n 0 0 ≡ replicate n Empty

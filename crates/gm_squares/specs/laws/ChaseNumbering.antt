@@ -1,16 +1,18 @@
 -- The indexes of boards are one to one.
-use Rattle.std.specs.Prelude.{◌≡◌, ◌/◌, ◌%◌, ◌^◌, ◌<◌, ◌≤◌, if◌then◌else◌}
-use Rattle.gm_pieces.specs.Common.{ℕ, Bool, true, false, eqb, refl, sym, ap, ◌∙◌, subst, arith, nat_tests, inl, inr, cases_Bool, cases_eq, pow-lt, w32, count_ones, bit_and, trailing_zeros, HasPieces, arrangement_pieces, index_of_masks, mine_again, theirs_again, mine_mask, their_mask, IsNumbered, board_game, bit_at-pow_other, bit_at-zero}
+use Rattle.std.specs.Prelude.{◌≡◌, ◌/◌, ◌%◌, ◌^◌, ◌<◌, ◌≤◌, ◌∷◌, if◌then◌else◌}
+use Rattle.gm_pieces.specs.Common.{ℕ, Bool, true, false, eqb, eqb-true, true≢false, [], min, fold, lt-ltb, and_both, cases_Bool, has_cell, at, IsCanonical, bit_at-pow_same, refl, sym, ap, ◌∙◌, subst, arith, nat_tests, inl, inr, cases_eq, pow-lt, w32, count_ones, bit_and, trailing_zeros, HasPieces, arrangement_pieces, index_of_masks, mine_again, theirs_again, mine_mask, their_mask, IsNumbered, board_game, bit_at-pow_other, bit_at-zero}
 unfoldable use Rattle.gm_pieces.specs.Common.{arrangement_index, arrangements, binomial}
 use Rattle.std.specs.Int.Count.{ones}
 use Rattle.std.proofs.lemmas.Nat.{and_comm, one_shl, zero_from_ones}
 use Rattle.gm_board.specs.Pieces.{cells_of}
 use Rattle.gm_board.specs.laws.MaskChanges.{with_apart}
-use Rattle.gm_board.specs.laws.Pieces.{pieces_index_below}
+use Rattle.gm_board.specs.laws.NextCells.{cell_one}
+use Rattle.gm_board.specs.laws.Pieces.{apart_below, pieces_index_below}
+use Rattle.gm_pieces.specs.MoveGames.{move_rules}
 use Rattle.gm_squares.specs.declared.chase.Chase.{Chase}
 use Rattle.gm_squares.specs.FoxHounds.{fox_and_hounds, start, legal, index, board, toggled}
 use Rattle.gm_squares.specs.laws.MaskFacts.{added, toggled_twice, lowest}
-use Rattle.gm_squares.specs.laws.ChaseFacts.{legal_in, same_chase}
+use Rattle.gm_squares.specs.laws.ChaseFacts.{legal_in, legal_from, same_chase}
 
 -- ---- the mask of the fox's square
 one_counted : (f : ℕ) → f < 32 → count_ones (2 ^ f) ≡ 1
@@ -37,15 +39,9 @@ one_square f l =
     ]
 
 -- ---- the arrangement of the men
-pub size_is : arrangements 32 4 1 ≡ 1006880
+size_is : arrangements 32 4 1 ≡ 1006880
 unfolding arrangements binomial
 size_is = refl
-
-pub half_below : (t i : ℕ) → i < (if eqb t 0 then 2013760 else 0) → i / 2 < arrangements 32 4 1
-half_below t i l = elim (cases_Bool (eqb t 0)) [
-  | inl e ↦ (let k : i < 2013760 = rw e at l in omega (arith, k, size_is))
-  | inr e ↦ absurd (let k : i < 0 = rw e at l in omega (arith, k))
-]
 
 pub men : (b : Chase) → legal b ≡ true → HasPieces 32 4 1 b.hounds (2 ^ b.fox)
 men b l =
@@ -105,6 +101,42 @@ module _ (i : ℕ) (l : i < 2013760) where
       ap (λ (x : ℕ). arrangement_index (cells_of 32 hounds x)) fox_square.1 ∙ index_of_masks 32 4 1 (i / 2) (omega (arith, l, size_is)) in
       let b = turn_back (i % 2) (omega arith) in
       omega (arith, e, b)
+
+  fox_apart : has_cell hounds (trailing_zeros w32 fox) ≡ false
+  fox_apart =
+      let k = trailing_zeros w32 fox in
+      let on : has_cell fox k ≡ true = ap (λ (v : ℕ). has_cell v k) (sym fox_square.1) ∙ cell_one (2 ^ k) k (bit_at-pow_same k) in
+      elim (cases_Bool (has_cell hounds k)) [
+        | inl e ↦ absurd (true≢false (sym on ∙ apart_below 32 hounds fox pieces.apart k fox_square.0 e))
+        | inr e ↦ e
+      ]
+
+  board_legal : legal (board i) ≡ true
+  unfolding board
+  board_legal = legal_from (board i) (record { within = pieces.mine_within; four = pieces.mine_number; fox = fox_square.0; apart = fox_apart })
+
+-- each index of the tier is that of a canonical position
+same_least : (v : ℕ) → fold min v (v ∷ []) ≡ v
+same_least v = (let z : min v v ≡ v = omega arith in z)
+
+own_tier : (t i : ℕ) → i < (if eqb t 0 then 2013760 else 0) → eqb t 0 ≡ true
+own_tier t i l = elim (cases_Bool (eqb t 0)) [
+  | inl e ↦ e
+  | inr e ↦ absurd (let k : i < 0 = rw e at l in omega (arith, k))
+]
+
+in_tier : (i : ℕ) → i < 2013760 → IsCanonical (move_rules fox_and_hounds) (at 0 i)
+in_tier i l =
+    let e = index_back i l in (
+      and_both _ _ (lt-ltb i 2013760 l) (and_both (legal (board i)) true (board_legal i l) refl),
+      ap (λ (v : ℕ). at 0 (fold min v (v ∷ []))) e ∙ ap (at 0) (same_least i),
+    )
+
+pub each_canonical : (t i : ℕ) → i < (if eqb t 0 then 2013760 else 0) → IsCanonical (move_rules fox_and_hounds) (at t i)
+each_canonical t i l =
+    let own : t ≡ 0 = eqb-true t 0 (own_tier t i l) in
+    let below : i < 2013760 = subst (λ (u : ℕ). i < (if eqb u 0 then 2013760 else 0)) own l in
+    subst (λ (u : ℕ). IsCanonical (move_rules fox_and_hounds) (at u i)) (sym own) (in_tier i below)
 
 pub numbered : IsNumbered (board_game fox_and_hounds)
 numbered = record {

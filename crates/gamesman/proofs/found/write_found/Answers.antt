@@ -1,7 +1,5 @@
-use Rattle.gamesman.proofs.Lower.{ℕ, ◌∷◌, [], Option, List, inr, refl, sym, subst, Contains, err_from_is_err_and, IsOrderFrom, OutOfMemory, game_spec, first_of}
-use Rattle.gamesman.specs.Finds.{AreTiersFor}
-use Rattle.gamesman.proofs.Reached.{order_held, reached_held}
-use Rattle.gamesman.proofs.Finds.{held_one}
+use Rattle.gamesman.proofs.Lower.{ℕ, List, inr, subst, ◌∙◌, err_from_is_err_and, OutOfMemory, game_spec}
+use Rattle.gamesman.proofs.Finds.{AreTiersOf, tiers_asked, tiers_held}
 use Rattle.gamesman.proofs.Telling.{find_unsearched}
 use Rattle.gamesman.proofs.found.write_found.Goals as goal
 
@@ -12,22 +10,17 @@ returns-in_err-reached g c =
     let q = err_from_is_err_and c.from_residual.result c.from_residual.ensures.1 in
     rw (q.1, q.2) (find_unsearched _ spec asked _ (OutOfMemory c.in_err-reached.field-0.0) (inr tt))
 
-pub write_in-done-requires-clause-tiers : goal.write_in-done-requires-clause-tiers
-write_in-done-requires-clause-tiers g c = subst (λ (o : Option ℕ). AreTiersFor g.G.Game.rules o (c.in-Some.tier ∷ [])) (sym c.in-Some.is) refl
-
 pub invariant_of-known : goal.invariant_of-known
 invariant_of-known g c =
-    let r = g.G.Game.rules in
     let built = c.args.built.now in
-    let tier = c.in-Some.tier in
-    let order = subst (λ (o : Option ℕ). IsOrderFrom r (first_of r o) built.order) c.in-Some.is c.requires.order in
-    record { held = held_one r built.tables tier (reached_held r built.tables built.order tier order c.requires.held) }
+    let are = subst (λ (order : List ℕ). AreTiersOf c.args.asked.tier order c.tiers_of.result.now) c.tiers.ensures.value c.tiers_of.ensures in
+    record { held = tiers_held g.G.Game.rules built.order _ built.tables c.args.asked.tier c.requires.order c.requires.held are }
 
-pub invariant_of-known-in-None : goal.invariant_of-known-in-None
-invariant_of-known-in-None g c =
-    let r = g.G.Game.rules in
+pub invariant_of-search : goal.invariant_of-search
+invariant_of-search g c = record { is_limited = c.as_ref.ensures.variant ∙ c.in_ok-reached.ensures }
+
+pub write-done-requires : goal.write-done-requires
+write-done-requires g c =
     let built = c.args.built.now in
-    record {
-      held = λ tier has. order_held r built.tables built.order (first_of r c.args.asked.tier) c.requires.order c.requires.held tier
-          (subst (λ (ts : List ℕ). Contains ts tier) c.tiers.ensures.value has);
-    }
+    let are = subst (λ (order : List ℕ). AreTiersOf c.args.asked.tier order c.tiers_of.result.now) c.tiers.ensures.value c.tiers_of.ensures in
+    tiers_asked g.G.Game.rules built.order _ c.args.asked.tier c.requires.order are

@@ -6,5 +6,5 @@ use Rattle.gamesman.proofs.games.fill_for.Goals as goal
 pub returns-in-MuTorere : goal.returns-in-MuTorere
 returns-in-MuTorere g c =
     rw c.in-MuTorere.is
-    (ring_is (λ (s : GameSpec). IsFilledBy s c.args.caption c.args.k c.args.lines.now c.args.parts.now c.fill-in-MuTorere.new.parts c.fill-in-MuTorere.result)
+    (ring_is (λ (s : GameSpec). IsFilledBy s c.args.look c.args.k c.args.lines.now c.args.parts.now c.fill-in-MuTorere.new.parts c.fill-in-MuTorere.result)
     c.fill-in-MuTorere.ensures)

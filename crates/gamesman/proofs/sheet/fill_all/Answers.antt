@@ -18,4 +18,4 @@ pub returns-clause-ok : goal.returns-clause-ok
 returns-clause-ok g c =
     let list = c.args.list.now in
     let all : c.loop-k.k ≡ length list.games.items = omega (arith, c.loop-k-test.false, c.loop-k.auto.k-end, c.len-k-end.ensures, list.games.ok.0) in
-    subst (λ (n : ℕ). AreAllFilled c.args.caption list n c.loop-k.parts) all c.loop-k.invariant
+    subst (λ (n : ℕ). AreAllFilled c.args.look list n c.loop-k.parts) all c.loop-k.invariant

@@ -7,7 +7,7 @@ use Rattle.gamesman.proofs.sheet.fill_lines.Goals as goal
 pub loop-j-init : goal.loop-j-init
 loop-j-init g c = record {
   many = c.requires.many;
-  filled = fill_begins (game_spec g.G.Game.rules g.G.Shown.shown g.G.Shown.move_shown g.G.Pictured.picture) c.args.caption c.args.k c.args.lines.now c.args.puzzles.now.items;
+  filled = fill_begins (game_spec g.G.Game.rules g.G.Shown.shown g.G.Shown.move_shown g.G.Pictured.picture) c.args.look c.args.k c.args.lines.now c.args.puzzles.now.items;
 }
 
 pub loop-j-preserved : goal.loop-j-preserved
@@ -25,5 +25,5 @@ pub returns-clause-ok : goal.returns-clause-ok
 returns-clause-ok g c =
     let lines = c.args.lines.now in
     let all : c.loop-j.j ≡ length lines = omega (arith, c.loop-j-test.false, c.loop-j.auto.j-end) in
-    subst (λ (n : ℕ). AreFilled (game_spec g.G.Game.rules g.G.Shown.shown g.G.Shown.move_shown g.G.Pictured.picture) c.args.caption c.args.k lines n
+    subst (λ (n : ℕ). AreFilled (game_spec g.G.Game.rules g.G.Shown.shown g.G.Shown.move_shown g.G.Pictured.picture) c.args.look c.args.k lines n
     c.args.puzzles.now.items c.loop-j.puzzles.items) all c.loop-j.invariant.filled

@@ -1,9 +1,8 @@
 use Rattle.gamesman.proofs.Lower.{List, ℕ, subst, IfOk-weaker}
 use Rattle.std.proofs.lemmas.Result.{IfErr-weaker}
 use Rattle.gm_json.specs.Asking.{lines_of}
-use Rattle.gm_caption.specs.declared.caption.Caption.{Caption}
 use Rattle.gamesman.specs.Lists.{IsListOf}
-use Rattle.gamesman.specs.Listed.{IsListedSheet, IsNoSheet, title_of}
+use Rattle.gamesman.specs.Listed.{IsNoSheet}
 use Rattle.gamesman.proofs.Sheeted.{input_fault}
 use Rattle.gamesman.proofs.sheet.sheet_of_input.Goals as goal
 
@@ -24,13 +23,7 @@ returns-clause-ok g c =
     let bytes = c.in-Ok.bytes.items in
     let list = c.in-Ok-list_of.list in
     let are = subst (λ (t : List ℕ). IsListOf all (lines_of t) list) c.as_slice.ensures.value c.in-Ok-list_of.ensures.ok in
-    IfOk-weaker c.sheet_of-sheet.result _ _ (λ v is. (
-      bytes,
-      c.in-Ok.ensures.ok,
-      subst (λ (caption : Caption). IsListedSheet all caption (title_of c.args.request.title) (lines_of bytes) v.items) c.of-caption.ensures
-          (subst (λ (title : List ℕ). IsListedSheet all c.of-caption.result title (lines_of bytes) v.items) c.title_of-title.ensures
-          (is all (lines_of bytes) are)),
-    )) c.sheet_of-sheet.ensures.ok
+    IfOk-weaker c.sheet_of-sheet.result _ _ (λ v is. (bytes, c.in-Ok.ensures.ok, is all (lines_of bytes) are)) c.sheet_of-sheet.ensures.ok
 
 pub returns-clause-err : goal.returns-clause-err
 returns-clause-err g c =

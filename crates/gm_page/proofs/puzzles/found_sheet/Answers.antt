@@ -2,10 +2,12 @@ use Rattle.gm_page.proofs.Lower.{ℕ, List, ◌++◌, ◌∙◌, sym, subst, ap,
 use Rattle.std.proofs.lemmas.Result.{IfOk-weaker}
 use Rattle.std.proofs.lemmas.List.Elements.{All-contains_itself}
 use Rattle.std.specs.Option.{is_some}
+use Rattle.std.specs.List.{AllZip}
+use Rattle.gm_caption.specs.declared.caption.Caption.TheVariants.{BothSides}
 use Rattle.gm_find.proofs.Telling.{chosen_in}
 use Rattle.gm_draw.specs.GameSpecs.{game_spec}
 use Rattle.gm_page.specs.declared.puzzles.Puzzle.{Puzzle}
-use Rattle.gm_page.specs.Puzzles.{IsKnownFound, ArePuzzlesOf, legend_of, listed_sheet}
+use Rattle.gm_page.specs.Puzzles.{IsKnownFound, IsPuzzleFor, legend_of, listed_sheet}
 use Rattle.gm_page.proofs.puzzles.found_sheet.Goals as goal
 
 pub puzzles_of-requires : goal.puzzles_of-requires
@@ -32,10 +34,10 @@ returns g c =
       are_found = c.in_ok-found.ensures.chosen;
       sheet = record {
         puzzles = ps;
-        are_puzzles = subst (λ (l : List Found). ArePuzzlesOf spec 0 l ps) c.as_slice.ensures.value c.in_ok-puzzles.ensures;
-        out_is = h ∙ ap (λ (t : List ℕ). listed_sheet t legends puzzles) c.picture.ensures.title
-            ∙ ap (λ (l : List ℕ). listed_sheet picture.title l puzzles)
+        are_puzzles = subst (λ (l : List Found). AllZip (IsPuzzleFor spec) l ps) c.as_slice.ensures.value c.in_ok-puzzles.ensures;
+        out_is = h ∙ ap (λ (t : List ℕ). listed_sheet t legends BothSides puzzles) c.picture.ensures.title
+            ∙ ap (λ (l : List ℕ). listed_sheet picture.title l BothSides puzzles)
             (c.as_slice-2.ensures.value ∙ c.in_ok-push_legend.ensures ∙ ap (λ (t : List ℕ). t ++ legend_of spec) c.new-legends.ensures.items)
-            ∙ ap (λ (l : List Puzzle). listed_sheet picture.title (legend_of spec) l) c.as_slice-3.ensures.value;
+            ∙ ap (λ (l : List Puzzle). listed_sheet picture.title (legend_of spec) BothSides l) c.as_slice-3.ensures.value;
       };
     }) c.listed_sheet.ensures

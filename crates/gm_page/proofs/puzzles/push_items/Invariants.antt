@@ -1,6 +1,6 @@
-use Rattle.gm_page.proofs.Lower.{◌≡◌, ◌++◌, take, flat_map}
-use Rattle.gm_page.specs.Puzzles.{item_of}
+use Rattle.gm_page.proofs.Lower.{◌≡◌, ◌++◌, take}
+use Rattle.gm_page.specs.Puzzles.{items_of}
 use Rattle.gm_page.proofs.puzzles.push_items.Given as goal
 
-abbrev pub invariant-loop-p : goal.invariant-loop-p
-invariant-loop-p l = l.sheet.items ≡ l.fn.sheet.items ++ flat_map item_of (take l.p-index l.puzzles)
+abbrev pub invariant-loop-k : goal.invariant-loop-k
+invariant-loop-k l = l.sheet.items ≡ l.fn.sheet.items ++ items_of l.caption 0 (take l.k l.puzzles)

@@ -1,8 +1,9 @@
 use Rattle.gm_page.proofs.Lower.{take}
+use Rattle.std.specs.List.{AllZip}
 use Rattle.gm_draw.specs.GameSpecs.{game_spec}
-use Rattle.gm_page.specs.Puzzles.{ArePuzzlesOf}
+use Rattle.gm_page.specs.Puzzles.{IsPuzzleFor}
 use Rattle.gm_page.proofs.puzzles.puzzles_of.Given as goal
 
 abbrev pub invariant-loop-x : goal.invariant-loop-x
 invariant-loop-x g l =
-    ArePuzzlesOf (game_spec g.G.Game.rules g.G.Shown.shown g.G.Shown.move_shown g.G.Pictured.picture) 0 (take l.x-index l.found) l.puzzles.items
+    AllZip (IsPuzzleFor (game_spec g.G.Game.rules g.G.Shown.shown g.G.Shown.move_shown g.G.Pictured.picture)) (take l.x-index l.found) l.puzzles.items

@@ -5,7 +5,7 @@ pub invariant_of-result : goal.invariant_of-result
 invariant_of-result g c =
     let n = g.row.CELLS in
     let game = g.T.PatternRules.game in
-    let tables = g.met.T.PatternRules.tables in
+    let tables = g.met.T.PatternRules.right.tables in
     let b = c.args.board in
     record {
       few = b.few;

@@ -11,4 +11,4 @@ numbered-requires g c =
     let game = g.T.PatternRules.game in
     let below : c.args.index < boards_with n game c.numbers_in-more.result.0 c.numbers_in-more.result.1 =
     omega (arith, c.boards_with-first.ensures.number, c.if-index-first.true) in
-    (omega arith, (cells_few n game g.met.T.PatternRules.tables, (index_fits n game _ _ c.args.index below).1))
+    (omega arith, (cells_few n game g.met.T.PatternRules.right.tables, (index_fits n game _ _ c.args.index below).1))

@@ -9,7 +9,7 @@ put_children-requires-clause-room g c =
     let t = c.args.tier in
     let e = c.numbers_in-more.ensures in
     let order : fewer g.T.PatternRules.game t ≤ more g.T.PatternRules.game t = omega (arith, e.more, e.fewer, c.if-fewer-more.false) in
-    let room = first_room g.row.CELLS g.T.PatternRules.game g.met.T.PatternRules.tables t order in
+    let room = first_room g.row.CELLS g.T.PatternRules.game g.met.T.PatternRules.right.tables t order in
     rw (c.new-list.ensures, e.more, e.fewer) (omega (arith, room))
 
 pub put_children-requires-2-clause-room : goal.put_children-requires-2-clause-room
@@ -17,7 +17,7 @@ put_children-requires-2-clause-room g c =
     let t = c.args.tier in
     let e = c.numbers_in-more.ensures in
     let order : fewer g.T.PatternRules.game t ≤ more g.T.PatternRules.game t = omega (arith, e.more, e.fewer, c.if-fewer-more.false) in
-    let room = rest_room g.row.CELLS g.T.PatternRules.game g.met.T.PatternRules.tables t order in
+    let room = rest_room g.row.CELLS g.T.PatternRules.game g.met.T.PatternRules.right.tables t order in
     rw (c.put_children.ensures, c.new-list.ensures, e.more, e.fewer) (omega (arith, room))
 
 pub as_children-requires : goal.as_children-requires
@@ -25,7 +25,7 @@ as_children-requires g c =
     let t = c.args.tier in
     let e = c.numbers_in-more.ensures in
     let order : fewer g.T.PatternRules.game t ≤ more g.T.PatternRules.game t = omega (arith, e.more, e.fewer, c.if-fewer-more.false) in
-    let room = rest_room g.row.CELLS g.T.PatternRules.game g.met.T.PatternRules.tables t order in
+    let room = rest_room g.row.CELLS g.T.PatternRules.game g.met.T.PatternRules.right.tables t order in
     rw (c.as_slice.ensures.value, c.put_children-2.ensures, c.put_children.ensures, c.new-list.ensures, e.more, e.fewer) (omega (arith, room))
 
 pub returns : goal.returns
@@ -33,7 +33,7 @@ returns g c =
     let t = c.args.tier in
     let e = c.numbers_in-more.ensures in
     let order : fewer g.T.PatternRules.game t ≤ more g.T.PatternRules.game t = omega (arith, e.more, e.fewer, c.if-fewer-more.false) in
-    let are = children_are g.row.CELLS g.T.PatternRules.game g.met.T.PatternRules.tables t order in
+    let are = children_are g.row.CELLS g.T.PatternRules.game g.met.T.PatternRules.right.tables t order in
     rw (c.as_children.ensures, c.as_slice.ensures.value, c.put_children-2.ensures, c.put_children.ensures, c.new-list.ensures, e.more, e.fewer) (sym are)
 
 pub returns-then-more-fewer : goal.returns-then-more-fewer

@@ -8,4 +8,4 @@ pub returns : goal.returns
 returns g c =
     let b = board_of g.row.CELLS c.args.board.mine c.args.board.theirs in
     ap₂ (λ (x y : ℕ). x + y) c.boards_before.ensures.number c.least_index.ensures
-    ∙ sym (least_is g.row.CELLS g.T.PatternRules.game g.met.T.PatternRules.tables b c.requires)
+    ∙ sym (least_is g.row.CELLS g.T.PatternRules.game g.met.T.PatternRules.right.tables b c.requires)
